@@ -1,0 +1,5 @@
+-- The laws of bit sets, which other crates cite, and what this crate's own proofs share.
+pub mod Word
+pub mod Sets
+pub mod Fours
+pub mod Readings

@@ -1,0 +1,14 @@
+pub mod Permits
+pub mod Table
+pub mod State
+pub mod Ledger
+pub mod Valid
+pub mod Dispatcher
+pub mod Groups
+pub mod Outcome
+pub mod Commands
+pub mod Push
+pub mod Calls
+pub mod Book
+pub mod Demand
+pub mod Readings
