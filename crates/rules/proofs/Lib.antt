@@ -1,1 +1,4 @@
+pub mod Computes
 pub mod Readings
+pub mod Says
+pub mod Valid

@@ -1,32 +1,16 @@
--- Every row of the readings holds, by computation.
+-- Every row of the readings K1 to K12 and of the worked histories comes out as it must, by computation.
 use mathlib.Core.Path.{_≡_, refl}
 use mathlib.Core.List.{map}
-use lib.Count.{onesIn}
-use Rattle.bits.specs.Bits.{count-ones, and-low, fresh-unacked-bits, and-into, bits-empty, bits-cardinality, word-count}
-use Rattle.rules.specs.Permits.{reading, above-zero, less, total-in-range}
-use Rattle.rules.specs.Table.{find, put, keep, all, any, distinct, member, is-empty, is-some, or-else}
-use Rattle.rules.specs.State.{same-id, same-pair, by-kind, new-dispatcher, topic-of, consumer-of, dispatcher-of, ledger-of, dispatcher, insert, with-topics, with-consumers, with-dispatchers, put-consumer, put-dispatcher}
-use Rattle.rules.specs.Ledger.{position-of, holds-id, message-at, batch-size-of, at-or-after, first-at-or-after, seek-position, appended}
-use Rattle.rules.specs.Dispatcher.{with-attached, with-next, with-cursor, with-mark-delete, with-total, with-places, with-marks, held-by, without-holder, is-hold, mark-at, complete-at, is-outside, bits-left, ack-entry, ack-mark, ack-id, drop-complete, leading-complete, advance-mark-delete, dispatch-gate-open, cost}
-use Rattle.rules.specs.Groups.{at-most-groups, groups}
-use Rattle.rules.specs.Outcome.{guard, found-or-4, with-live}
-use Rattle.rules.specs.Commands.{with-new-entry, append, new-consumer, joined, subscribe, with-permits, flow, ack-groups, ack-shared, with-groups, ack, target-position, with-reading, seek, raised, redeliver-id, redeliver-groups, found-positions, redeliver-plain, redeliver, total-after-close, next-in-ring, left-by, without-consumer, close-consumer, close-found, close}
-use Rattle.rules.specs.Push.{choose-ready, first-ready, choose, slot-after, dispatch-of, hand-out, hand-out-next, serve-choice, shared-turn, send-plain, send-plain-next, plain-turn-of, plain-turn, after-turn, turns, serve-dispatcher, plain-backlog, serve-plain, serve-each, push-pending-shared, push-pending, push}
-use Rattle.rules.specs.Calls.{opened, rule, state-after, run, bit-of}
-use Rattle.rules.specs.Readings.{record-numbers, all-record-numbers, value-numbers, outcome-numbers, then, entry-1, ring-1, word-numbers, Row, readings}
+use Rattle.rules.specs.Readings.{Row, readings}
+use Rattle.rules.specs.Histories.{histories}
+use Rattle.rules.proofs.Computes.{computes}
 
 -- K1 to K12
 pub readings-hold : map (λ (r : Row). r .comes-out) readings ≡ map (λ (r : Row). r .must) readings
-unfolding onesIn count-ones and-low fresh-unacked-bits and-into bits-empty bits-cardinality word-count
-    reading above-zero less total-in-range
-    find put keep all any distinct member is-empty is-some or-else
-    same-id same-pair by-kind new-dispatcher topic-of consumer-of dispatcher-of ledger-of dispatcher insert with-topics with-consumers with-dispatchers put-consumer put-dispatcher
-    position-of holds-id message-at batch-size-of at-or-after first-at-or-after seek-position appended
-    with-attached with-next with-cursor with-mark-delete with-total with-places with-marks held-by without-holder is-hold mark-at complete-at is-outside bits-left ack-entry ack-mark ack-id drop-complete leading-complete advance-mark-delete dispatch-gate-open cost
-    at-most-groups groups
-    guard found-or-4 with-live
-    with-new-entry append new-consumer joined subscribe with-permits flow ack-groups ack-shared with-groups ack target-position with-reading seek raised redeliver-id redeliver-groups found-positions redeliver-plain redeliver total-after-close next-in-ring left-by without-consumer close-consumer close-found close
-    choose-ready first-ready choose slot-after dispatch-of hand-out hand-out-next serve-choice shared-turn send-plain send-plain-next plain-turn-of plain-turn after-turn turns serve-dispatcher plain-backlog serve-plain serve-each push-pending-shared push-pending push
-    opened rule state-after run bit-of
-    record-numbers all-record-numbers value-numbers outcome-numbers then entry-1 ring-1 word-numbers readings
+unfolding computes
 readings-hold = refl
+
+-- the worked histories
+pub histories-hold : map (λ (r : Row). r .comes-out) histories ≡ map (λ (r : Row). r .must) histories
+unfolding computes
+histories-hold = refl

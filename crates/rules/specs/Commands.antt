@@ -167,7 +167,8 @@ redeliver-groups ledger i d (g ∷ gs) = redeliver-groups ledger i (redeliver-id
 unfoldable pub found-positions : List StoredMessage → List Group → List ℕ
 found-positions ledger [] = []
 found-positions ledger (g ∷ gs) =
-    cond (holds-id (g .id) ledger) (position-of (g .id) ledger ∷ found-positions ledger gs) (found-positions ledger gs)
+    let rest = found-positions ledger gs in
+    cond (holds-id (g .id) ledger) (position-of (g .id) ledger ∷ rest) rest
 
 -- a plain redeliver: found entries join nacked. 11 if nacked would pass 64.
 unfoldable pub redeliver-plain : State → Consumer → List Group → Outcome

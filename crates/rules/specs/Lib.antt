@@ -12,3 +12,4 @@ pub mod Calls
 pub mod Book
 pub mod Demand
 pub mod Readings
+pub mod Histories

@@ -24,7 +24,7 @@ put k a (b ∷ l) = cond (k .same (k .key a) (k .key b)) (a ∷ l) (b ∷ put k 
 -- the elements that pass a test, in order
 unfoldable pub keep : {A : Type 0} → (A → Bool) → List A → List A
 keep p [] = []
-keep p (a ∷ l) = cond (p a) (a ∷ keep p l) (keep p l)
+keep p (a ∷ l) = let rest = keep p l in cond (p a) (a ∷ rest) rest
 
 -- whether every element passes a test
 unfoldable pub all : {A : Type 0} → (A → Bool) → List A → Bool
@@ -57,7 +57,7 @@ member n l = any (eqb n) l
 -- how often a number stands in a list
 unfoldable pub count : ℕ → List ℕ → ℕ
 count n [] = 0
-count n (m ∷ l) = cond (eqb n m) (suc (count n l)) (count n l)
+count n (m ∷ l) = let rest = count n l in cond (eqb n m) (suc rest) rest
 
 -- whether there is no element
 unfoldable pub is-empty : {A : Type 0} → List A → Bool

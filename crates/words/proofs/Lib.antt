@@ -1,0 +1,10 @@
+pub mod Act
+pub mod Canon
+pub mod Check
+pub mod Each
+pub mod Entries
+pub mod Field
+pub mod Lists
+pub mod Slots
+pub mod Store
+pub mod Width

@@ -1,0 +1,5 @@
+pub mod Act
+pub mod Codec
+pub mod Field
+pub mod Store
+pub mod Words

@@ -1,0 +1,1 @@
+// The laws of spelling values in fixed-width words stand in specs/ and proofs/.
