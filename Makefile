@@ -1,5 +1,5 @@
 # The two commands: `make run` (the main job) and `make test` (the gate).
-.PHONY: run test reference
+.PHONY: run test
 
 # Prove and build what there is, and run the case runner.
 run:
@@ -10,4 +10,5 @@ run:
 # must-fail edits. rt ci comes last, so that its verdict is the last line.
 test:
 	rt fmt --check
+	reference/check
 	rt ci
