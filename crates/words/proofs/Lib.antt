@@ -8,3 +8,4 @@ pub mod Lists
 pub mod Slots
 pub mod Store
 pub mod Width
+pub mod Zero

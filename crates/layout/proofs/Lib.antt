@@ -1,0 +1,9 @@
+pub mod Widths
+pub mod Shaped
+pub mod Pigeons
+pub mod Valid
+pub mod Store
+pub mod Check
+pub mod Spells
+pub mod Narrow
+pub mod Tables

@@ -1,0 +1,160 @@
+-- `Shaped` and the codecs' own `Ok` are the same, so whatever words decode to is shaped.
+use mathlib.Core.Path.{_≡_, refl, sym, ap, _∙_, subst}
+use mathlib.Core.List.{List, [], _∷_}
+use Prim.Native.Nat.{ℕ, _+_, _*_, _≤_, min, max}
+use native.Mathlib.Omega.{arith}
+use lib.ListN.{length, drop}
+use Rattle.words.specs.Codec.{Codec, word, zeros, flag, tag, pair, via, upto, asFlag, asTag, All, Fits}
+use Rattle.rules.specs.State.{Id, StoredMessage, Topic, Consumer, Mark, Held, Dispatcher, State}
+use Rattle.layout.specs.Records.{id-codec, message-codec, bits-codec, mark-codec, held-codec, pair-codec, kind-codec, consumer-codec, topic-codec, dispatcher-codec}
+use Rattle.layout.specs.Layout.{header-codec, Body, body-codec, header-of, body-of, clamp, entries-in, decode}
+use Rattle.layout.specs.Whole.{state-codec, Shaped-topic, Shaped-consumer, Shaped-dispatcher, Shaped}
+
+-- what holds of each element holds in another form
+pub all-as : {A : Type 0} {P Q : A → Type 0} → ((a : A) → P a → Q a) → (l : List A) → All P l → All Q l
+all-as f [] h = tt
+all-as f (a ∷ l) h = (f a (h .0), all-as f l (h .1))
+
+-- what holds of everything holds of each element
+pub all-of : {A : Type 0} {P : A → Type 0} → ((a : A) → P a) → (l : List A) → All P l
+all-of f [] = tt
+all-of f (a ∷ l) = (f a, all-of f l)
+
+-- a list fits where it is short enough, if each value is Ok
+fits-any : {A : Type 0} (c : Codec A) → ((a : A) → c .Ok a) → (cap : ℕ) (l : List A) → length l ≤ cap → Fits (c .Ok) cap l
+fits-any c f cap l h = record { short = h; each = all-of {P = c .Ok} f l }
+
+-- ---- records without a list are always Ok
+
+ok-word : (n : ℕ) → word .Ok n
+unfolding word
+ok-word n = tt
+
+ok-id : (i : Id) → id-codec .Ok i
+unfolding id-codec via pair word
+ok-id i = (tt, tt)
+
+ok-message : (m : StoredMessage) → message-codec .Ok m
+unfolding message-codec via pair word
+ok-message m = (ok-id (m .id), (tt, tt))
+
+ok-held : (h : Held) → held-codec .Ok h
+unfolding held-codec via pair word
+ok-held h = (tt, tt)
+
+ok-mark : (m : Mark) → mark-codec .Ok m
+unfolding mark-codec bits-codec via pair word flag asFlag
+ok-mark m = (tt, (tt, ((tt, tt), (tt, tt))))
+
+-- ---- records with lists
+
+pub ok-consumer : (c : Consumer) → Shaped-consumer c → consumer-codec .Ok c
+unfolding consumer-codec pair-codec kind-codec via pair word zeros flag asFlag upto
+ok-consumer c h = (tt, ((tt, tt), (tt, (tt, (tt, (fits-any word ok-word 64 (c .nacked) h, tt))))))
+
+pub consumer-ok : (c : Consumer) → consumer-codec .Ok c → Shaped-consumer c
+unfolding consumer-codec pair-codec kind-codec via pair word zeros flag asFlag upto
+consumer-ok c ok = ok .1 .1 .1 .1 .1 .0 .short
+
+pub ok-topic : (e : ℕ) (t : Topic) → Shaped-topic e t → topic-codec e .Ok t
+unfolding topic-codec via pair word zeros upto
+ok-topic e t h = (tt, (tt, fits-any message-codec ok-message e (t .messages) h))
+
+pub topic-ok : (e : ℕ) (t : Topic) → topic-codec e .Ok t → Shaped-topic e t
+unfolding topic-codec via pair word zeros upto
+topic-ok e t ok = ok .1 .1 .short
+
+pub ok-dispatcher : (e : ℕ) (d : Dispatcher) → Shaped-dispatcher e d → dispatcher-codec e .Ok d
+unfolding dispatcher-codec pair-codec via pair word zeros upto
+ok-dispatcher e d h = (
+  (tt, tt),
+  (
+    ((tt, tt), (tt, tt)),
+    (
+      tt,
+      (
+        fits-any word ok-word 32 (d .attached) (h .ring-fits),
+        (
+          fits-any id-codec ok-id 64 (d .outside) (h .outside-fits),
+          (
+            fits-any word ok-word e (d .redelivery) (h .queue-fits),
+            (fits-any held-codec ok-held e (d .in-flight) (h .flight-fits), fits-any mark-codec ok-mark e (d .marks) (h .marks-fit)),
+          ),
+        ),
+      ),
+    ),
+  ),
+)
+
+pub dispatcher-ok : (e : ℕ) (d : Dispatcher) → dispatcher-codec e .Ok d → Shaped-dispatcher e d
+unfolding dispatcher-codec pair-codec via pair word zeros upto
+dispatcher-ok e d ok =
+    record {
+      ring-fits = ok .1 .1 .1 .0 .short;
+      outside-fits = ok .1 .1 .1 .1 .0 .short;
+      queue-fits = ok .1 .1 .1 .1 .1 .0 .short;
+      flight-fits = ok .1 .1 .1 .1 .1 .1 .0 .short;
+      marks-fit = ok .1 .1 .1 .1 .1 .1 .1 .short;
+    }
+
+-- ---- the whole
+
+-- the header of any state is Ok
+pub ok-header : (s : State) → header-codec .Ok (header-of s)
+unfolding header-codec via pair tag asTag word flag asFlag zeros
+ok-header s = (tt, (tt, (tt, (tt, tt))))
+
+-- the body of a shaped state is Ok
+pub ok-body : (s : State) → Shaped s → body-codec (s .entries) .Ok (body-of s)
+unfolding body-codec via pair upto zeros
+ok-body s h = (
+  record { short = h .consumers-fit; each = all-as ok-consumer (s .consumers) (h .each-consumer) },
+  (
+    record { short = h .topics-fit; each = all-as (ok-topic (s .entries)) (s .topics) (h .each-topic) },
+    (
+      record { short = h .dispatchers-fit; each = all-as (ok-dispatcher (s .entries)) (s .dispatchers) (h .each-dispatcher) },
+      tt,
+    ),
+  ),
+)
+
+-- and the other way round
+pub body-ok : (s : State) → 1 ≤ s .entries → s .entries ≤ 4096 → body-codec (s .entries) .Ok (body-of s) → Shaped s
+unfolding body-codec via pair upto zeros
+body-ok s l m ok =
+    record {
+      E-least = l;
+      E-most = m;
+      consumers-fit = ok .0 .short;
+      topics-fit = ok .1 .0 .short;
+      dispatchers-fit = ok .1 .1 .0 .short;
+      each-consumer = all-as consumer-ok (s .consumers) (ok .0 .each);
+      each-topic = all-as (topic-ok (s .entries)) (s .topics) (ok .1 .0 .each);
+      each-dispatcher = all-as (dispatcher-ok (s .entries)) (s .dispatchers) (ok .1 .1 .0 .each);
+    }
+
+-- a shaped state is Ok for the codec of its E
+pub ok-state : (s : State) → Shaped s → state-codec (s .entries) .Ok s
+unfolding state-codec via pair
+ok-state s h = (ok-header s, ok-body s h)
+
+-- E as words say it is in its range
+pub clamp-from : (n : ℕ) → 1 ≤ clamp n
+unfolding clamp
+clamp-from n = omega arith
+
+pub clamp-to : (n : ℕ) → clamp n ≤ 4096
+unfolding clamp
+clamp-to n = omega arith
+
+-- a number in range is E as it stands
+pub clamp-in : (n : ℕ) → 1 ≤ n → n ≤ 4096 → clamp n ≡ n
+unfolding clamp
+clamp-in n h k = omega arith
+
+-- whatever words decode to is shaped
+pub shaped-decode : (ws : List ℕ) → Shaped (decode ws)
+unfolding decode entries-in
+shaped-decode ws =
+    let n : ℕ = header-codec .dec ws .entries in
+    body-ok (decode ws) (clamp-from n) (clamp-to n) (body-codec (clamp n) .sound (drop 16 ws))

@@ -1,0 +1,124 @@
+-- How many words each part of the layout takes.
+use mathlib.Core.Path.{_≡_, refl, sym, ap, _∙_}
+use mathlib.Core.List.{List}
+use Prim.Native.Nat.{ℕ, _+_, _*_}
+use native.Mathlib.Omega.{arith}
+use lib.ListN.{length, length-append}
+use Rattle.words.specs.Codec.{Codec, word, flag, zeros, pair, upto, asFlag}
+use Rattle.words.proofs.Width.{width-word, width-flag, width-tag, width-zeros, width-pair, width-via, width-upto}
+use Rattle.rules.specs.State.{State}
+use Rattle.rules.specs.Calls.{needed}
+use Rattle.layout.specs.Records.{as-id, id-codec, as-message, message-codec, as-bits, bits-codec, as-mark, mark-codec, as-held, held-codec, as-pair, pair-codec, as-kind, kind-codec, as-consumer, consumer-codec, as-topic, topic-codec, as-dispatcher, dispatcher-codec}
+use Rattle.layout.specs.Layout.{as-header, header-codec, as-body, body-codec, header-of, body-of, encode, layout-tag}
+use Rattle.layout.specs.Whole.{as-state, state-codec}
+
+-- ---- small records
+
+pub width-id : id-codec .width ≡ 2
+unfolding id-codec
+width-id = width-via as-id (width-pair word word width-word width-word)
+
+pub width-message : message-codec .width ≡ 4
+unfolding message-codec
+width-message = width-via as-message (width-pair _ _ width-id (width-pair _ _ width-word width-word))
+
+pub width-bits : bits-codec .width ≡ 4
+unfolding bits-codec
+width-bits =
+    width-via as-bits (width-pair _ _ (width-pair _ _ width-word width-word) (width-pair _ _ width-word width-word))
+
+pub width-mark : mark-codec .width ≡ 6
+unfolding mark-codec
+width-mark = width-via as-mark (width-pair _ _ width-flag (width-pair _ _ width-word width-bits))
+
+pub width-held : held-codec .width ≡ 2
+unfolding held-codec
+width-held = width-via as-held (width-pair _ _ width-word width-word)
+
+pub width-of-pair : pair-codec .width ≡ 2
+unfolding pair-codec
+width-of-pair = width-via as-pair (width-pair _ _ width-word width-word)
+
+pub width-kind : kind-codec .width ≡ 1
+unfolding kind-codec
+width-kind = width-via as-kind width-flag
+
+-- ---- lists
+
+-- a list of plain numbers
+pub width-numbers : (cap : ℕ) → upto word cap .width ≡ 1 + cap
+width-numbers cap = width-upto word cap width-word ∙ omega arith
+
+-- ---- records of a state
+
+pub width-consumer : consumer-codec .width ≡ 72
+unfolding consumer-codec
+width-consumer =
+    width-via as-consumer
+    (width-pair _ _ width-word
+    (width-pair _ _ width-of-pair
+    (width-pair _ _ width-kind
+    (width-pair _ _ width-word
+    (width-pair _ _ width-word (width-pair _ _ (width-numbers 64) (width-zeros 1)))))))
+
+pub width-topic : (e : ℕ) → topic-codec e .width ≡ 4 + 4 * e
+unfolding topic-codec
+width-topic e =
+    width-via (as-topic e)
+    (width-pair _ _ width-word (width-pair _ _ (width-zeros 2) (width-upto message-codec e width-message)))
+    ∙ omega arith
+
+pub width-dispatcher : (e : ℕ) → dispatcher-codec e .width ≡ 176 + 9 * e
+unfolding dispatcher-codec
+width-dispatcher e =
+    width-via (as-dispatcher e)
+    (width-pair _ _ width-of-pair
+    (width-pair _ _ (width-pair _ _ (width-pair _ _ width-word width-word) (width-pair _ _ width-word width-word))
+    (width-pair _ _ (width-zeros 5)
+    (width-pair _ _ (width-numbers 32)
+    (width-pair _ _ (width-upto id-codec 64 width-id)
+    (width-pair _ _ (width-numbers e)
+    (width-pair _ _ (width-upto held-codec e width-held) (width-upto mark-codec e width-mark))))))))
+    ∙ omega arith
+
+-- ---- the store
+
+pub width-header : header-codec .width ≡ 16
+unfolding header-codec
+width-header =
+    width-via as-header
+    (width-pair _ _ (width-tag layout-tag)
+    (width-pair _ _ width-word (width-pair _ _ width-flag (width-pair _ _ width-flag (width-zeros 12)))))
+
+-- the table of consumers
+pub width-consumers : upto consumer-codec 32 .width ≡ 2305
+width-consumers = width-upto consumer-codec 32 width-consumer
+
+-- the table of topics
+pub width-topics : (e : ℕ) → upto (topic-codec e) 8 .width ≡ 33 + 32 * e
+width-topics e = width-upto (topic-codec e) 8 (width-topic e) ∙ omega arith
+
+-- the table of dispatchers
+pub width-dispatchers : (e : ℕ) → upto (dispatcher-codec e) 8 .width ≡ 1409 + 72 * e
+width-dispatchers e = width-upto (dispatcher-codec e) 8 (width-dispatcher e) ∙ omega arith
+
+pub width-body : (e : ℕ) → body-codec e .width ≡ 4080 + 128 * e
+unfolding body-codec
+width-body e =
+    width-via (as-body e)
+    (width-pair _ _ width-consumers
+    (width-pair _ _ (width-topics e) (width-pair _ _ (width-dispatchers e) (width-zeros (333 + 24 * e)))))
+    ∙ omega arith
+
+-- the whole state: as many words as are needed
+pub width-state : (e : ℕ) → state-codec e .width ≡ needed e
+unfolding state-codec needed
+width-state e = width-via (as-state e) (width-pair _ _ width-header (width-body e)) ∙ omega arith
+
+-- a state's spelling is that of the codec of its E
+pub encode-is : (s : State) → encode s ≡ state-codec (s .entries) .enc s
+unfolding encode state-codec Rattle.words.specs.Codec.via Rattle.words.specs.Codec.pair
+encode-is s = refl
+
+pub length-encode : (s : State) → length (encode s) ≡ needed (s .entries)
+length-encode s = ap length (encode-is s) ∙ state-codec (s .entries) .len s ∙ width-state (s .entries)
