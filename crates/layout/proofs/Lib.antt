@@ -7,3 +7,9 @@ pub mod Check
 pub mod Spells
 pub mod Narrow
 pub mod Tables
+pub mod Part
+pub mod Parts
+pub mod Spot
+pub mod Gets
+pub mod GetsDispatcher
+pub mod Blank

@@ -5,3 +5,4 @@ pub mod Offsets
 pub mod Whole
 pub mod Canon
 pub mod Check
+pub mod Fields

@@ -1,0 +1,117 @@
+-- A state's records by their place in its tables, as code reaches them: the record at a place, and the state with another
+-- record there. Past the end of a table stands a record of zeros, which is what a blank slot of a store reads as.
+use Prim.Native.Nat.{ℕ}
+use mathlib.Core.Bool.{Bool}
+use mathlib.Core.List.{List, []}
+use lib.ListN.{getD, set}
+use Rattle.bits.specs.declared.UnackedBits.{UnackedBits}
+use Rattle.rules.specs.State.{Id, StoredMessage, Topic, Pair, Kind, Consumer, Acked, Mark, Held, Dispatcher, State, with-topics, with-consumers, with-dispatchers}
+use Rattle.rules.specs.State.Kind.{plain}
+
+-- ---- records of zeros
+
+abbrev pub zero-id : Id
+zero-id = record { ledger = 0; entry = 0 }
+
+abbrev pub zero-pair : Pair
+zero-pair = record { topic = 0; subscription = 0 }
+
+abbrev pub zero-held : Held
+zero-held = record { holder = 0; position = 0 }
+
+abbrev pub zero-consumer : Consumer
+zero-consumer = record { id = 0; pair = zero-pair; kind = plain; permits = 0; cursor = 0; nacked = [] }
+
+abbrev pub zero-topic : Topic
+zero-topic = record { number = 0; messages = [] }
+
+abbrev pub zero-dispatcher : Dispatcher
+zero-dispatcher =
+    record {
+      pair = zero-pair;
+      attached = [];
+      next = 0;
+      cursor = 0;
+      mark-delete = 0;
+      total-available-permits = 0;
+      redelivery = [];
+      in-flight = [];
+      marks = [];
+      outside = [];
+    }
+
+-- ---- by place
+
+-- consumer i
+abbrev pub consumer-nth : State → ℕ → Consumer
+consumer-nth s i = getD (s .consumers) i zero-consumer
+
+-- topic t
+abbrev pub topic-nth : State → ℕ → Topic
+topic-nth s t = getD (s .topics) t zero-topic
+
+-- dispatcher d
+abbrev pub dispatcher-nth : State → ℕ → Dispatcher
+dispatcher-nth s d = getD (s .dispatchers) d zero-dispatcher
+
+-- a state with another consumer i
+unfoldable pub set-consumer : State → ℕ → Consumer → State
+set-consumer s i c = with-consumers s (set (s .consumers) i c)
+
+-- a state with another topic t
+unfoldable pub set-topic : State → ℕ → Topic → State
+set-topic s t x = with-topics s (set (s .topics) t x)
+
+-- a state with another dispatcher d
+unfoldable pub set-dispatcher : State → ℕ → Dispatcher → State
+set-dispatcher s d x = with-dispatchers s (set (s .dispatchers) d x)
+
+-- ---- a record with one field changed, where the rules have no name for it
+
+unfoldable pub with-id : Consumer → ℕ → Consumer
+with-id c v =
+    record { id = v; pair = c .pair; kind = c .kind; permits = c .permits; cursor = c .cursor; nacked = c .nacked }
+
+unfoldable pub with-pair : Consumer → Pair → Consumer
+with-pair c v =
+    record { id = c .id; pair = v; kind = c .kind; permits = c .permits; cursor = c .cursor; nacked = c .nacked }
+
+unfoldable pub with-kind : Consumer → Kind → Consumer
+with-kind c v =
+    record { id = c .id; pair = c .pair; kind = v; permits = c .permits; cursor = c .cursor; nacked = c .nacked }
+
+unfoldable pub of-topic : Pair → ℕ → Pair
+of-topic p v = record { topic = v; subscription = p .subscription }
+
+unfoldable pub of-subscription : Pair → ℕ → Pair
+of-subscription p v = record { topic = p .topic; subscription = v }
+
+unfoldable pub with-number : Topic → ℕ → Topic
+with-number t v = record { number = v; messages = t .messages }
+
+unfoldable pub with-messages : Topic → List StoredMessage → Topic
+with-messages t l = record { number = t .number; messages = l }
+
+unfoldable pub for-pair : Dispatcher → Pair → Dispatcher
+for-pair d v =
+    record {
+      pair = v;
+      attached = d .attached;
+      next = d .next;
+      cursor = d .cursor;
+      mark-delete = d .mark-delete;
+      total-available-permits = d .total-available-permits;
+      redelivery = d .redelivery;
+      in-flight = d .in-flight;
+      marks = d .marks;
+      outside = d .outside;
+    }
+
+unfoldable pub with-complete : Mark → Bool → Mark
+with-complete m v = record { acked = record { complete = v; unacked = m .acked .unacked }; redelivery-count = m .redelivery-count }
+
+unfoldable pub with-count : Mark → ℕ → Mark
+with-count m v = record { acked = m .acked; redelivery-count = v }
+
+unfoldable pub with-bits : Mark → UnackedBits → Mark
+with-bits m v = record { acked = record { complete = m .acked .complete; unacked = v }; redelivery-count = m .redelivery-count }

@@ -1,0 +1,60 @@
+-- `store::canonical::topic_canonical` meets its contract: the tests are those of a topic's parts, in order.
+use mathlib.Core.Path.{sym, _∙_}
+use borrow.Author.Needs.{needs}
+use Prim.Native.Nat.{_+_}
+use native.Mathlib.Omega.{arith}
+use Rattle.store.proofs.Spelt.{fails, passes, blank-is, answered-no, answered-yes}
+use Rattle.store.proofs.Parts.{topic-parts}
+use Rattle.store.proofs.canonical.topic_canonical.Statement.{statement}
+use Rattle.store.proofs.canonical.topic_canonical.Tie as tie
+use Rattle.store.proofs.canonical.topic_canonical.Reads as reads
+use Rattle.store.proofs.canonical.topic_canonical.Lts as lts
+use Rattle.store.proofs.canonical.list_canonical.Reads as list-canonical-reads
+use Rattle.store.proofs.stretch.is_blank.Reads as is-blank-reads
+
+-- src/canonical.rt:67:25
+add-is-blank : tie.Need-add-is-blank
+add-is-blank c = search needs
+
+-- src/canonical.rt:67:33
+add-is-blank-2 : tie.Need-add-is-blank-2
+add-is-blank-2 c = search needs
+
+-- src/canonical.rt:67:9
+is-blank-requires : tie.Need-is-blank-requires
+is-blank-requires c κs = search needs
+
+-- src/canonical.rt:68:9
+returns : tie.Need-returns
+returns c =
+    let a = c .before .before .before .args in
+    fails _ (answered-no (blank-is _ (a .at + 1) (a .at + 3) 2 (omega arith) (c .before .is-blank .ensures)) (c .if1 .taken))
+    ∙ sym (topic-parts (a .store .now) (a .e) (a .at) (c .before .before .before .pre))
+
+-- src/canonical.rt:70:27
+add-list-canonical : tie.Need-add-list-canonical
+add-list-canonical c = search needs
+
+-- src/canonical.rt:70:5
+list-canonical-requires : tie.Need-list-canonical-requires
+list-canonical-requires c κs = search needs
+
+-- src/canonical.rt:63:1
+returns-2 : tie.Need-returns-2
+returns-2 c =
+    let a = c .before .before .before .before .args in
+    passes (answered-yes (blank-is _ (a .at + 1) (a .at + 3) 2 (omega arith) (c .before .before .is-blank .ensures)) (c .before .if1 .left))
+    (c .list-canonical .ensures)
+    ∙ sym (topic-parts (a .store .now) (a .e) (a .at) (c .before .before .before .before .pre))
+
+pub topic-canonical-spec : {M : Type 1} → statement M
+topic-canonical-spec =
+    tie.close
+    (tie.spec
+    add-is-blank
+    add-is-blank-2
+    is-blank-requires
+    returns
+    add-list-canonical
+    list-canonical-requires
+    returns-2)

@@ -1,0 +1,42 @@
+// Words of a store: read one, test a stretch for zeros, clear a stretch. Nothing here knows what the
+// words mean.
+ghost use mathlib.Core.Path.{_≡_};
+ghost use Prim.Native.Nat.{_-_, _≤_, _<_};
+ghost use lib.ListN.{length, getD, drop};
+ghost use Rattle.words.specs.Words.{blank};
+ghost use Rattle.words.specs.Act.{clear};
+
+// The word at `at`, as a count or an offset.
+pub fn word(store: &[u64], at: usize) -> usize
+    requires { ⌜ at < length (now store) ⌝ }
+    ensures { λ r. ⌜ r ≡ getD (now (store .entry)) at 0 ⌝ }
+{
+    store[at] as usize
+}
+
+// Whether the words from `from` up to `to` are all 0. They are or-ed and tested once, which the
+// compiler turns into wide operations.
+pub fn is_blank(store: &[u64], from: usize, to: usize) -> bool
+    requires { ⌜ (from ≤ to) × (to ≤ length (now store)) ⌝ }
+    ensures { λ r. ⌜ r ≡ blank (to - from) (drop from (now (store .entry))) ⌝ }
+{
+    let mut any = 0;
+    let mut i = from;
+    while i < to {
+        any |= store[i];
+        i += 1;
+    }
+    any == 0
+}
+
+// The words from `from` up to `to` become 0.
+pub fn clear_words(store: &mut [u64], from: usize, to: usize)
+    requires { ⌜ (from ≤ to) × (to ≤ length (now store)) ⌝ }
+    ensures { λ _. ⌜ now (store .exit) ≡ clear (to - from) .run from (now (store .entry)) ⌝ }
+{
+    let mut i = from;
+    while i < to {
+        store[i] = 0;
+        i += 1;
+    }
+}
