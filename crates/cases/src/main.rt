@@ -4,30 +4,53 @@ use bits::UnackedBits;
 use libc::STDOUT_FILENO;
 
 fn main() {
-    show(b"K1 batch 65", UnackedBits::fresh_unacked_bits(65));
-    show(b"K2 batch 0", UnackedBits::fresh_unacked_bits(0));
-    show(b"K2 batch 1", UnackedBits::fresh_unacked_bits(1));
+    bit_readings();
+    open_readings();
+}
+
+// K1 to K4 as far as they concern bits, and the largest batch.
+fn bit_readings() {
+    show_bits(b"K1 batch 65", UnackedBits::fresh_unacked_bits(65));
+    show_bits(b"K2 batch 0", UnackedBits::fresh_unacked_bits(0));
+    show_bits(b"K2 batch 1", UnackedBits::fresh_unacked_bits(1));
     let five = [5];
     let two = [2];
     let ones = [0xffff_ffff_ffff_ffff];
     let left = UnackedBits::fresh_unacked_bits(3).and_into(&five);
-    show(b"K3 batch 3, words 5", left);
-    show(b"K3 then words 2", left.and_into(&two));
-    show(
+    show_bits(b"K3 batch 3, words 5", left);
+    show_bits(b"K3 then words 2", left.and_into(&two));
+    show_bits(
         b"K4 batch 65, one word of ones",
         UnackedBits::fresh_unacked_bits(65).and_into(&ones),
     );
-    show(b"batch 256", UnackedBits::fresh_unacked_bits(256));
+    show_bits(b"batch 256", UnackedBits::fresh_unacked_bits(256));
+}
+
+// Opening the runner's store: E at and past its limit, and the length at and below what E = 32
+// needs.
+fn open_readings() {
+    let mut store = [0u64; 8192];
+    open_reading(b"open, E 4096, 8192 words", &mut store, 4096);
+    open_reading(b"open, E 4097, 8192 words", &mut store, 4097);
+    open_reading(b"open, E 0, 8192 words", &mut store, 0);
+    open_reading(b"open, E 32, 8192 words", &mut store, 32);
+    let mut short = [0u64; 8191];
+    open_reading(b"open, E 32, 8191 words", &mut short, 32);
+}
+
+// One opening, with both switches off.
+fn open_reading(label: &[u8], store: &mut [u64], entries: u64) {
+    show_answer(label, broker::broker_open(store, entries, 0, 0));
 }
 
 // A line: the label, the four words, how many bits are set, and whether none is.
-fn show(label: &[u8], bits: UnackedBits) {
+fn show_bits(label: &[u8], bits: UnackedBits) {
     io::write_all(STDOUT_FILENO, label);
     io::write_all(STDOUT_FILENO, b": ");
-    word(bits.w0);
-    word(bits.w1);
-    word(bits.w2);
-    word(bits.w3);
+    show_word(bits.w0);
+    show_word(bits.w1);
+    show_word(bits.w2);
+    show_word(bits.w3);
     io::write_all(STDOUT_FILENO, b"set ");
     io::print_decimal(STDOUT_FILENO, bits.bits_cardinality());
     if bits.bits_empty() {
@@ -37,7 +60,19 @@ fn show(label: &[u8], bits: UnackedBits) {
 }
 
 // A word in hexadecimal, and a blank.
-fn word(w: u64) {
+fn show_word(w: u64) {
     io::print_hex(STDOUT_FILENO, w, 16);
     io::write_all(STDOUT_FILENO, b" ");
+}
+
+// A line: the label, and done or the refusal's number.
+fn show_answer(label: &[u8], answer: u64) {
+    io::write_all(STDOUT_FILENO, label);
+    if answer % 256 == 0 {
+        io::write_all(STDOUT_FILENO, b": done\n");
+        return;
+    }
+    io::write_all(STDOUT_FILENO, b": refused ");
+    io::print_decimal(STDOUT_FILENO, answer % 256);
+    io::write_all(STDOUT_FILENO, b"\n");
 }
