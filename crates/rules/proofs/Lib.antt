@@ -2,3 +2,8 @@ pub mod Computes
 pub mod Readings
 pub mod Says
 pub mod Valid
+pub mod Permits
+pub mod Table
+pub mod State
+pub mod Ledger
+pub mod Demand
