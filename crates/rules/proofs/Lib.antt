@@ -7,3 +7,4 @@ pub mod Table
 pub mod State
 pub mod Ledger
 pub mod Demand
+pub mod Kept

@@ -1,0 +1,71 @@
+-- The consumer that a dispatcher's turn chooses is live, in the ring, and has permits above 0.
+use Prim.Native.Nat.{ℕ, suc, _+_, _-_, _≤_, _<_}
+use mathlib.Core.Path.{_≡_, refl, subst}
+use mathlib.Core.List.{List, [], _∷_, List·Memᴰ, List·Memᴰ·head}
+use mathlib.Core.Option.{Option, none, some}
+use native.Mathlib.Omega.{arith}
+use lib.Dec.{eqb, ltb}
+use lib.ListN.{length, take, drop, length-take, length-drop}
+use borrow.Author.Tests.{ltb-true, eqb-false}
+use Rattle.rules.specs.Permits.{zero-permits, above-zero}
+use Rattle.rules.specs.Table.{Every}
+use Rattle.rules.specs.State.{Consumer, Dispatcher, State, consumer-of}
+use Rattle.rules.specs.Push.{Choice, choose-ready, first-ready, choose, slot-after}
+use Rattle.rules.proofs.Says.{every-tail}
+use Rattle.rules.proofs.Table.{by-test}
+use Rattle.rules.proofs.State.{consumer-id}
+use Rattle.rules.proofs.Kept.Every.{every-take, every-drop}
+
+-- a chosen consumer: live, in the ring, with permits above 0
+pub record Chosen (s : State) (ring : List ℕ) (x : Choice) : Type 0 where
+  pub slot-below : x .slot < length ring
+  pub live : consumer-of s (x .consumer .id) ≡ some (x .consumer)
+  pub in-ring : List·Memᴰ (x .consumer .id) ring
+  pub ready : zero-permits < x .consumer .permits
+
+-- a choice, if there is one
+abbrev pub If-chosen : State → List ℕ → Option Choice → Type 0
+If-chosen s ring none = Unit {0}
+If-chosen s ring (some x) = Chosen s ring x
+
+-- the first ready one of a part of the ring, or what follows
+first-ready-chosen : (s : State) (ring : List ℕ) (slot : ℕ) (part : List ℕ) (more : Option Choice) → Every (λ (i : ℕ). List·Memᴰ i ring) part
+    → slot + length part ≤ length ring → If-chosen s ring more → If-chosen s ring (first-ready s slot part more)
+unfolding first-ready choose-ready above-zero
+first-ready-chosen s ring slot [] more f h g = g
+first-ready-chosen s ring slot (i ∷ part) more f h g =
+    go (consumer-of s i) refl (first-ready-chosen s ring (suc slot) part more (every-tail {P = λ (j : ℕ). List·Memᴰ j ring} f) (omega arith) g)
+  where
+    go : (o : Option Consumer) → consumer-of s i ≡ o → If-chosen s ring (first-ready s (suc slot) part more)
+        → If-chosen s ring (choose-ready slot o (first-ready s (suc slot) part more))
+    go none e r = r
+    go (some c) e r =
+        by-test (ltb zero-permits (c .permits))
+        (λ t. rw t
+        (record {
+          slot-below = omega arith;
+          live = subst (λ (j : ℕ). consumer-of s j ≡ some c) (consumer-id s i c e) e;
+          in-ring = subst (λ (j : ℕ). List·Memᴰ j ring) (consumer-id s i c e) (f i (List·Memᴰ·head refl));
+          ready = ltb-true zero-permits (c .permits) t;
+        }))
+        (λ t. rw t r)
+
+-- the first ready one from next, going round
+pub choose-chosen : (s : State) (d : Dispatcher) → d .next ≤ length (d .attached) → If-chosen s (d .attached) (choose s d)
+unfolding choose
+choose-chosen s d h =
+    let ring : List ℕ = d .attached in
+    let a : length (drop (d .next) ring) ≡ length ring - d .next = length-drop (d .next) ring in
+    let b = length-take (d .next) ring in
+    first-ready-chosen s ring (d .next) (drop (d .next) ring) (first-ready s 0 (take (d .next) ring) none)
+    (every-drop {P = λ (i : ℕ). List·Memᴰ i ring} (d .next) ring (λ i m. m)) (omega arith)
+    (first-ready-chosen s ring 0 (take (d .next) ring) none
+    (every-take {P = λ (i : ℕ). List·Memᴰ i ring} (d .next) ring (λ i m. m)) (omega arith) tt)
+
+-- the slot after one is in the ring
+pub slot-after-below : (slot : ℕ) (ring : List ℕ) → slot < length ring → slot-after slot ring < length ring
+unfolding slot-after
+slot-after-below slot ring h =
+    by-test (eqb (suc slot) (length ring))
+    (λ t. rw t (omega arith))
+    (λ t. rw t (let n = eqb-false (suc slot) (length ring) t in omega arith))
