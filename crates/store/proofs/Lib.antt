@@ -5,3 +5,5 @@ pub mod Rooms
 pub mod Spelt
 pub mod Parts
 pub mod Tables
+pub mod Finding
+pub mod Ledgers

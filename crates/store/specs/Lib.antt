@@ -1,2 +1,3 @@
 pub mod Canonical
+pub mod Find
 pub mod Open
