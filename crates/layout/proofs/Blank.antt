@@ -2,29 +2,29 @@
 -- and a list is replaced by laying another over it and clearing what is left of the old one.
 use mathlib.Core.Path.{_≡_, refl, sym, ap, ap₂, _∙_}
 use mathlib.Core.Bool.{false}
-use mathlib.Core.List.{List, [], _∷_, _++_, append-assoc, append-nil}
-use Prim.Native.Nat.{ℕ, zero, suc, _+_, _-_, _*_, _≤_, _<_, min}
-use native.Mathlib.Nat.{add-mul, zero-mul, suc-mul, zero-add, mul-one}
+use mathlib.Core.List.{List, [], _∷_, _++_, append-assoc}
+use Prim.Native.Nat.{ℕ, zero, suc, _+_, _-_, _*_, _≤_}
+use native.Mathlib.Nat.{add-mul, zero-mul, mul-one}
 use native.Mathlib.Omega.{arith}
-use lib.ListN.{length, set, take, drop, replicate, length-append, length-replicate, replicate-append-replicate}
-use Rattle.words.specs.Act.{Act, store, lay, clear, both, past}
+use lib.Seq.{take-length, drop-length}
+use lib.ListN.{length, drop, replicate, length-append, length-replicate, replicate-append-replicate}
+use Rattle.words.specs.Act.{store, lay, clear, both, past, close}
 use Rattle.words.specs.Codec.{Codec, Change, word, zeros, pair, via, flag, asFlag, upto, exactly, spell, length-spell, spell-fit}
-use Rattle.words.specs.Words.{fit, fit-fill}
 use Rattle.words.specs.Field.{Writes}
+use Rattle.words.proofs.Zero.{Zero, zero-zeros, zero-pair, zero-via, zero-upto}
 use Rattle.words.proofs.Act.{lay-none}
 use Rattle.words.proofs.Field.{writes-as}
 use Rattle.words.proofs.Slots.{spell-append, writes-from}
-use Rattle.words.proofs.Lists.{writes-list}
+use Rattle.words.proofs.Lists.{writes-list, writes-drop, writes-empty}
 use Rattle.words.proofs.Act.{lay-over}
 use Rattle.rules.specs.State.{new-mark}
 use Rattle.rules.specs.State.Kind.{plain}
-use Rattle.layout.specs.Records.{as-id, id-codec, message-codec, as-bits, bits-codec, as-mark, mark-codec, held-codec, as-pair, pair-codec, as-kind, kind-codec, as-consumer, consumer-codec, as-topic, topic-codec, as-dispatcher, dispatcher-codec}
-use Rattle.layout.specs.Fields.{zero-id, zero-pair, zero-consumer, zero-topic, zero-dispatcher}
-use Rattle.layout.proofs.Widths.{width-id, width-message, width-mark, width-held, width-consumer, width-topic, width-dispatcher}
+use Rattle.layout.specs.Records.{id-codec, message-codec, as-bits, bits-codec, as-mark, mark-codec, held-codec, as-pair, pair-codec, kind-codec, as-consumer, consumer-codec, as-topic, topic-codec, as-dispatcher, dispatcher-codec}
+use Rattle.layout.specs.Fields.{zero-pair as no-pair, zero-consumer, zero-topic, zero-dispatcher}
 
 -- a value that is spelt as zeros
 pub record Blank {A : Type 0} (c : Codec A) (z : A) : Type 0 where
-  pub spelt : c .enc z ≡ replicate (c .width) 0
+  pub spelt : Zero c z
 
 -- ---- what is spelt as zeros
 
@@ -37,33 +37,23 @@ unfolding flag asFlag via word
 blank-flag = record { spelt = refl }
 
 blank-zeros : (k : ℕ) → Blank (zeros k) tt
-unfolding zeros
-blank-zeros k = record { spelt = refl }
+blank-zeros k = record { spelt = zero-zeros k }
 
 blank-pair : {A B : Type 0} {c : Codec A} {d : Codec B} {a : A} {b : B} → Blank c a → Blank d b → Blank (pair c d) (a, b)
-unfolding pair
-blank-pair {c = c} {d = d} x y =
-    record { spelt = ap₂ {C = List ℕ} _++_ (x .spelt) (y .spelt) ∙ replicate-append-replicate {A = ℕ} (c .width) (d .width) 0 }
+blank-pair {c = c} {d = d} {a = a} {b = b} x y = record { spelt = zero-pair c d a b (x .spelt) (y .spelt) }
 
 blank-via : {A B : Type 0} {c : Codec A} (v : Change c B) {b : B} → Blank c (v .from b) → Blank (via v) b
-unfolding via
-blank-via v x = record { spelt = x .spelt }
+blank-via v {b = b} x = record { spelt = zero-via v b (x .spelt) }
 
 -- an empty list
 blank-upto : {A : Type 0} (c : Codec A) (cap : ℕ) → Blank (upto c cap) []
-unfolding upto spell
-blank-upto c cap =
-    record {
-      spelt =
-          let e : 1 + cap * c .width ≡ suc (cap * c .width) = omega arith in
-          let z : min cap 0 ≡ 0 = omega arith in
-          rw e (ap₂ {C = List ℕ} _∷_ z (fit-fill [] (cap * c .width) (cap * c .width) (zero-add (cap * c .width))));
-    }
+blank-upto c cap = record { spelt = zero-upto c cap }
 
-blank-two : Blank pair-codec zero-pair
+blank-two : Blank pair-codec no-pair
 unfolding pair-codec
 blank-two = blank-via as-pair (blank-pair blank-word blank-word)
 
+-- a mark of an entry not acknowledged
 pub blank-mark : Blank mark-codec new-mark
 unfolding mark-codec bits-codec
 blank-mark =
@@ -76,6 +66,7 @@ blank-kind : Blank kind-codec plain
 unfolding kind-codec flag asFlag via word
 blank-kind = record { spelt = refl }
 
+-- a consumer of zeros
 pub blank-consumer : Blank consumer-codec zero-consumer
 unfolding consumer-codec
 blank-consumer =
@@ -85,10 +76,12 @@ blank-consumer =
     (blank-pair blank-kind
     (blank-pair blank-word (blank-pair blank-word (blank-pair (blank-upto word 64) (blank-zeros 1)))))))
 
+-- a topic of zeros
 pub blank-topic : (e : ℕ) → Blank (topic-codec e) zero-topic
 unfolding topic-codec
 blank-topic e = blank-via (as-topic e) (blank-pair blank-word (blank-pair (blank-zeros 2) (blank-upto message-codec e)))
 
+-- a dispatcher of zeros
 pub blank-dispatcher : (e : ℕ) → Blank (dispatcher-codec e) zero-dispatcher
 unfolding dispatcher-codec
 blank-dispatcher e =
@@ -116,7 +109,8 @@ module _ {A : Type 0} {c : Codec A} {z : A} (b : Blank c z) (cap : ℕ) where
   same-slots : (l : List A) (k : ℕ) → length l + k ≤ cap → exactly c cap .enc l ≡ exactly c cap .enc (l ++ replicate k z)
   unfolding exactly
   same-slots l k h =
-      let n : length (l ++ replicate k z) ≡ length l + k = length-append l (replicate k z) ∙ ap (λ (x : ℕ). length l + x) (length-replicate k z) in
+      let n : length (l ++ replicate k z) ≡ length l + k = length-append l (replicate k z)
+      ∙ ap (λ (x : ℕ). length l + x) (length-replicate k z) in
       let some : k + (cap - (length l + k)) ≡ cap - length l = omega arith in
       let left : k * c .width + (cap - (length l + k)) * c .width ≡ (cap - length l) * c .width =
       sym (add-mul k (cap - (length l + k)) (c .width)) ∙ ap (λ (x : ℕ). x * c .width) some in
@@ -132,7 +126,8 @@ module _ {A : Type 0} {c : Codec A} {z : A} (b : Blank c z) (cap : ℕ) where
   pub writes-raise : (l : List A) (k : ℕ) → length l + k ≤ cap → Writes (upto c cap) l 0 (store (length l + k)) (l ++ replicate k z)
   unfolding both past
   writes-raise l k h =
-      let n : length (l ++ replicate k z) ≡ length l + k = length-append l (replicate k z) ∙ ap (λ (x : ℕ). length l + x) (length-replicate k z) in
+      let n : length (l ++ replicate k z) ≡ length l + k = length-append l (replicate k z)
+      ∙ ap (λ (x : ℕ). length l + x) (length-replicate k z) in
       writes-as {x = both (past (1 + 0) (lay [])) (store (length l + k))}
       (λ ws. ap (store (length l + k) .run 0) (sym (lay-none (0 + (1 + 0)) ws)))
       (writes-list c cap {act = lay []} 0 (length l + k) (sym n) (omega arith) (rw n h)
@@ -169,13 +164,47 @@ module _ {A : Type 0} (c : Codec A) {w : ℕ} (sized : c .width ≡ w) (cap : �
       ∙ append-assoc (spell c m) (replicate n 0) (replicate ((cap - length l) * w) 0 ++ r)
       ∙ ap (λ (t : List ℕ). spell c m ++ t) (zero-slots (length l - length m) (cap - length l) (cap - (0 + length m)) w r (omega arith)))))
 
+  -- more elements at the end: they are laid over blank slots, and the count is stored
+  pub writes-extend : (l m : List A) → length l + length m ≤ cap
+      → Writes (upto c cap) l 0 (both (past (1 + length l * w) (lay (spell c m))) (store (length l + length m))) (l ++ m)
+  unfolding spell
+  writes-extend l m h =
+      let vs : List ℕ = spell c m in
+      let lm : length vs ≡ length m * w = length-spell c m ∙ ap (λ (x : ℕ). length m * x) sized in
+      let lz : length (replicate {A = ℕ} (length m * w) 0) ≡ length vs = length-replicate {A = ℕ} (length m * w) 0 ∙ sym lm in
+      writes-list c cap {act = lay vs} (length l * w) (length l + length m) (sym (length-append l m)) (omega arith) (rw length-append h)
+      (rw (take-length l) at
+      (writes-from c sized cap {act = lay vs} l m (length l) (omega arith) (omega arith) h
+      (λ r.
+      rw (drop-length l, ← zero-slots (length m) (cap - (length l + length m)) (cap - length l) w r (omega arith))
+      (lay-over (replicate (length m * w) 0) vs (replicate ((cap - (length l + length m)) * w) 0 ++ r) lz))))
+
 -- numbers are spelt as they are
 pub spell-numbers : (l : List ℕ) → spell word l ≡ l
 unfolding spell word
 spell-numbers [] = refl
 spell-numbers (n ∷ l) = ap {B = List ℕ} (λ r. n ∷ r) (spell-numbers l)
 
+-- a list of numbers replaced
 pub replaces-entries : (cap : ℕ) (l m : List ℕ) → length m ≤ length l → length l ≤ cap
     → Writes (upto word cap) l 0 (both (past 1 (lay (m ++ replicate (length l - length m) 0))) (store (length m))) m
 unfolding word
 replaces-entries cap l m h k = simp (mul-one, spell-numbers) at (writes-replace word refl cap l m h k)
+
+-- the first k numbers are taken out
+pub drops-entries : (cap : ℕ) (l : List ℕ) (k : ℕ) → k ≤ length l → length l ≤ cap
+    → Writes (upto word cap) l 0 (both (past 1 (close k (length l - k))) (store (length l - k))) (drop k l)
+unfolding word
+drops-entries cap l k h s = simp mul-one at (writes-drop word refl cap l k h s)
+
+-- all numbers are taken out
+pub empties-entries : (cap : ℕ) (l : List ℕ) → length l ≤ cap
+    → Writes (upto word cap) l 0 (both (past 1 (clear (length l))) (store 0)) []
+unfolding word
+empties-entries cap l s = simp mul-one at (writes-empty word refl cap l s)
+
+-- more numbers at the end
+pub extends-entries : (cap : ℕ) (l m : List ℕ) → length l + length m ≤ cap
+    → Writes (upto word cap) l 0 (both (past (1 + length l) (lay m)) (store (length l + length m))) (l ++ m)
+unfolding word
+extends-entries cap l m h = simp (mul-one, spell-numbers) at (writes-extend word refl cap l m h)

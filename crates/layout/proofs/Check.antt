@@ -1,7 +1,7 @@
 -- The check of a store's records, as equations between tests, in the order in which one pass over the words makes them:
 -- what `canonical` comes to for each record, at the offset where the record stands. Lists of plain records come to a count
 -- and a blank rest; only kinds and marks have words of their own to test.
-use mathlib.Core.Path.{_≡_, refl, sym, ap, ap₂, _∙_}
+use mathlib.Core.Path.{_≡_, refl, ap, ap₂, _∙_}
 use mathlib.Core.Bool.{Bool, true, false, _&&_}
 use mathlib.Core.List.{List}
 use Prim.Native.Nat.{ℕ, zero, suc, _+_, _-_, _*_, _≤_, _<_}
@@ -11,14 +11,14 @@ use lib.Dec.{leb}
 use lib.ListN.{length, getD, drop}
 use borrow.Author.Tests.{leb-true}
 use Rattle.words.specs.Words.{blank}
-use Rattle.words.specs.Codec.{Codec, word, zeros, pair, via, flag, asFlag, upto}
+use Rattle.words.specs.Codec.{Codec, word, pair, via, flag, asFlag, upto}
 use Rattle.words.specs.Store.{canonical, canonicals}
 use Rattle.words.proofs.Width.{width-word, width-flag, width-zeros, width-pair, width-upto}
 use Rattle.words.proofs.Check.{canonical-word, canonical-flag, canonical-zeros, canonical-pair, canonical-via, canonical-upto, canonicals-none, canonicals-cons}
 use Rattle.layout.specs.Records.{as-id, id-codec, as-message, message-codec, as-bits, bits-codec, as-mark, mark-codec, as-held, held-codec, as-pair, pair-codec, flag-of, kind-of, as-kind, kind-codec, as-consumer, consumer-codec, as-topic, topic-codec, as-dispatcher, dispatcher-codec}
 use Rattle.layout.specs.Layout.{as-body, body-codec}
-use Rattle.layout.specs.Offsets.{nacked-in, ring-in, outside-in, outside-id-in, queue-in, flight-in, held-in, marks-in, topic-count-at, dispatcher-count-at, reserved-at}
-use Rattle.layout.proofs.Widths.{width-id, width-message, width-bits, width-mark, width-held, width-of-pair, width-kind, width-numbers, width-consumer, width-topic, width-dispatcher, width-consumers, width-topics, width-dispatchers}
+use Rattle.layout.specs.Offsets.{flight-in, held-in, marks-in, topic-count-at, dispatcher-count-at, reserved-at}
+use Rattle.layout.proofs.Widths.{width-id, width-message, width-bits, width-held, width-of-pair, width-kind, width-numbers, width-consumers, width-topics, width-dispatchers}
 
 -- ---- plain records: any words spell one
 
@@ -30,6 +30,7 @@ pub record Plain {A : Type 0} (c : Codec A) (w : ℕ) : Type 0 where
 both-true : {x y : Bool} → x ≡ true → y ≡ true → x && y ≡ true
 both-true e f = rw (e, f)
 
+-- a word
 pub plain-word : Plain word 1
 plain-word = record { sized = width-word; any = λ off ws h. canonical-word off ws (omega arith) }
 
@@ -43,6 +44,7 @@ plain-pair {c = c} {d = d} {m = m} p q =
           ∙ both-true (p .any off ws (omega arith)) (q .any (off + m) ws (omega arith));
     }
 
+-- an id
 pub plain-id : Plain id-codec 2
 unfolding id-codec
 plain-id =
@@ -51,6 +53,7 @@ plain-id =
       any = λ off ws h. canonical-via as-id (drop off ws) refl ∙ plain-pair plain-word plain-word .any off ws h;
     }
 
+-- a pair
 pub plain-of-pair : Plain pair-codec 2
 unfolding pair-codec
 plain-of-pair =
@@ -59,6 +62,7 @@ plain-of-pair =
       any = λ off ws h. canonical-via as-pair (drop off ws) refl ∙ plain-pair plain-word plain-word .any off ws h;
     }
 
+-- an entry in flight
 pub plain-held : Plain held-codec 2
 unfolding held-codec
 plain-held =
@@ -67,6 +71,7 @@ plain-held =
       any = λ off ws h. canonical-via as-held (drop off ws) refl ∙ plain-pair plain-word plain-word .any off ws h;
     }
 
+-- a message
 pub plain-message : Plain message-codec 4
 unfolding message-codec
 plain-message =
@@ -78,6 +83,7 @@ plain-message =
           ∙ plain-pair plain-id (plain-pair plain-word plain-word) .any off ws h;
     }
 
+-- the bits of a mark
 pub plain-bits : Plain bits-codec 4
 unfolding bits-codec
 plain-bits =
@@ -98,6 +104,7 @@ module _ {A : Type 0} {c : Codec A} {w : ℕ} (p : Plain c w) where
       canonicals-cons c (p .sized) n off ws
       ∙ both-true (p .any off ws (omega arith)) (plain-slots n (off + w) ws (omega arith))
 
+  -- the count, and the rest of the slots
   pub check-list : (cap off first : ℕ) (ws : List ℕ) → off + 1 ≡ first → first + cap * w ≤ length ws
       → canonical (upto c cap) (drop off ws)
       ≡ leb (getD ws off 0) cap && blank ((cap - getD ws off 0) * w) (drop (first + getD ws off 0 * w) ws)
@@ -201,7 +208,8 @@ unfolding dispatcher-codec
 check-dispatcher e at ws h =
     canonical-via (as-dispatcher e) (drop at ws) refl
     ∙ skip _ at (at + 2) ws refl plain-of-pair (omega arith)
-    ∙ skip _ (at + 2) (at + 6) ws (omega arith) (plain-pair (plain-pair plain-word plain-word) (plain-pair plain-word plain-word)) (omega arith)
+    ∙ skip _ (at + 2) (at + 6) ws (omega arith) (plain-pair (plain-pair plain-word plain-word) (plain-pair plain-word plain-word))
+    (omega arith)
     ∙ part _ _ (at + 6) (at + 11) ws (omega arith) (width-zeros 5)
     ∙ ap₂ _&&_ (canonical-zeros 5 (drop (at + 6) ws))
     (part _ _ (at + 11) (at + 44) ws (omega arith) (width-numbers 32)

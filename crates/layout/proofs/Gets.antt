@@ -1,35 +1,35 @@
 -- What each word of a store says of the state it decodes to, by offset: the switches, the counts of the tables, and every
 -- field of a consumer, of a message and of a dispatcher. The store need only be spelt as it should be; it need not be valid.
-use mathlib.Core.Path.{_≡_, refl, sym, ap, _∙_, subst}
-use mathlib.Core.Bool.{Bool}
+use mathlib.Core.Path.{_≡_, refl, subst}
 use mathlib.Core.List.{List}
-use Prim.Native.Nat.{ℕ, _+_, _*_, _≤_, _<_}
+use Prim.Native.Nat.{ℕ, _+_, _≤_, _<_}
 use native.Mathlib.Nat.{add-zero}
 use native.Mathlib.Omega.{arith}
 use lib.ListN.{length, getD, set}
-use Rattle.words.specs.Codec.{Codec, word, pair, flag, upto, bit, All}
+use Rattle.words.specs.Codec.{word, pair, bit}
 use Rattle.words.specs.Field.{Reads}
 use Rattle.words.proofs.Width.{width-word, width-flag, width-tag}
 use Rattle.words.proofs.Each.{all-getD}
-use Rattle.words.proofs.Field.{reads-word, reads-flag, reads-left, reads-right, reads-via}
+use Rattle.words.proofs.Field.{reads-flag, reads-left, reads-right, reads-via}
 use Rattle.words.proofs.Lists.{reads-count}
 use Rattle.words.proofs.Entries.{reads-entry}
-use Rattle.rules.specs.State.{State, Id, StoredMessage, Topic, Consumer, Mark, Held, Dispatcher, new-mark}
+use Rattle.rules.specs.State.{Consumer}
 use Rattle.rules.specs.Ledger.{no-message}
-use Rattle.layout.specs.Records.{id-codec, message-codec, mark-codec, held-codec, flag-of, consumer-codec, topic-codec, dispatcher-codec}
+use Rattle.layout.specs.Records.{message-codec, flag-of, consumer-codec, topic-codec, dispatcher-codec}
 use Rattle.layout.specs.Layout.{layout-tag, as-header, header-codec, decode}
-use Rattle.layout.specs.Whole.{as-state, state-codec, Shaped-topic, Shaped-consumer, Shaped-dispatcher}
+use Rattle.layout.specs.Whole.{as-state, state-codec, Shaped-topic, Shaped-consumer}
 use Rattle.layout.specs.Canon.{Canon-store}
-use Rattle.layout.specs.Offsets.{consumer-count-at, consumer-at, topic-count-at, topic-at, message-in, dispatcher-count-at, dispatcher-at, outside-id-in, flight-in, held-in, marks-in, mark-in}
-use Rattle.layout.specs.Fields.{zero-id, zero-held, zero-consumer, zero-topic, zero-dispatcher, consumer-nth, topic-nth, dispatcher-nth, set-consumer, set-topic, set-dispatcher, with-messages}
+use Rattle.layout.specs.Offsets.{consumer-count-at, consumer-at, topic-count-at, topic-at, message-in, dispatcher-count-at}
+use Rattle.layout.specs.Fields.{zero-consumer, zero-topic, set-consumer, set-topic, with-messages, consumer-now, topic-now}
 use Rattle.layout.proofs.Store.{canon-entries}
 use Rattle.layout.proofs.Part.{Part, part-in, reads-part, reads-one}
-use Rattle.layout.proofs.Parts.{ledger-part, entry-part, message-id-part, handle-part, batch-part, w0-part, w1-part, w2-part, w3-part, complete-part, count-part, bits-part, holder-part, position-part, topic-part, subscription-part, reads-kind, id-part, consumer-pair-part, kind-part, permits-part, consumer-cursor-part, nacked-part, number-part, messages-part, message-part, dispatcher-pair-part, next-part, cursor-part, mark-delete-part, total-part, ring-part, outside-part, queue-part, flight-part, marks-part, outside-id-part, held-part, mark-part}
-use Rattle.layout.proofs.Spot.{Spot, spot-in, state-reads, looks, reads-field, consumers-spot, topics-spot, dispatchers-spot, consumer-spot, topic-spot, dispatcher-spot}
+use Rattle.layout.proofs.Parts.{ledger-part, entry-part, message-id-part, handle-part, batch-part, topic-part, subscription-part, reads-kind, id-part, consumer-pair-part, kind-part, permits-part, consumer-cursor-part, nacked-part, number-part, messages-part, message-part}
+use Rattle.layout.proofs.Spot.{Spot, spot-in, state-reads, looks, reads-field, consumers-spot, topics-spot, dispatchers-spot, consumer-spot, topic-spot}
 
 module _ {e : ℕ} {ws : List ℕ} (h : Canon-store e ws) where
   -- ---- the header
 
+  -- the leak switch
   pub read-leak : getD ws 2 0 ≡ bit (decode ws .leak-shared-permits-on-churn)
   unfolding state-codec header-codec
   read-leak =
@@ -37,8 +37,10 @@ module _ {e : ℕ} {ws : List ℕ} (h : Canon-store e ws) where
       (reads-via (as-state e)
       (reads-left _ _
       (reads-via as-header
-      (reads-right _ _ (width-tag layout-tag) (reads-right _ _ width-word (reads-left _ _ (reads-flag (decode ws .leak-shared-permits-on-churn))))))))
+      (reads-right _ _ (width-tag layout-tag)
+      (reads-right _ _ width-word (reads-left _ _ (reads-flag (decode ws .leak-shared-permits-on-churn))))))))
 
+  -- the no-op switch
   pub read-noop : getD ws 3 0 ≡ bit (decode ws .live-id-subscribe-is-noop)
   unfolding state-codec header-codec
   read-noop =
@@ -52,14 +54,18 @@ module _ {e : ℕ} {ws : List ℕ} (h : Canon-store e ws) where
 
   -- ---- the counts of the tables
 
+  -- how many consumers
   pub read-consumer-count : getD ws consumer-count-at 0 ≡ length (decode ws .consumers)
   read-consumer-count =
-      looks h (consumers-spot e (decode ws)) consumer-count-at refl (reads-count consumer-codec 32 (decode ws .consumers) (h .shaped .consumers-fit))
+      looks h (consumers-spot e (decode ws)) consumer-count-at refl
+      (reads-count consumer-codec 32 (decode ws .consumers) (h .shaped .consumers-fit))
 
+  -- how many topics
   pub read-topic-count : getD ws topic-count-at 0 ≡ length (decode ws .topics)
   read-topic-count =
       looks h (topics-spot e (decode ws)) topic-count-at refl (reads-count (topic-codec e) 8 (decode ws .topics) (h .shaped .topics-fit))
 
+  -- how many dispatchers
   pub read-dispatcher-count : getD ws (dispatcher-count-at e) 0 ≡ length (decode ws .dispatchers)
   read-dispatcher-count =
       looks h (dispatchers-spot e (decode ws)) (dispatcher-count-at e) (omega arith)
@@ -69,91 +75,104 @@ module _ {e : ℕ} {ws : List ℕ} (h : Canon-store e ws) where
 
   module _ (i : ℕ) (k : i < length (decode ws .consumers)) where
     -- where it stands
-    pub consumer-here : Spot e (decode ws) (consumer-at i) consumer-codec (consumer-nth (decode ws) i) (set-consumer (decode ws) i)
+    pub consumer-here : Spot e (decode ws) (consumer-at i) consumer-codec (consumer-now ws i) (set-consumer (decode ws) i)
     consumer-here = consumer-spot e (decode ws) i k (h .shaped .consumers-fit)
 
     -- its list fits
-    pub nacked-short : length (consumer-nth (decode ws) i .nacked) ≤ 64
+    pub nacked-short : length (consumer-now ws i .nacked) ≤ 64
     nacked-short = all-getD Shaped-consumer (decode ws .consumers) i zero-consumer (h .shaped .each-consumer) k
 
-    read-consumer : {n v : ℕ} {f : ℕ → Consumer} → Part consumer-codec (consumer-nth (decode ws) i) n word v f → getD ws (consumer-at i + n) 0 ≡ v
+    read-consumer : {n v : ℕ} {f : ℕ → Consumer} → Part consumer-codec (consumer-now ws i) n word v f → getD ws (consumer-at i + n) 0 ≡ v
     read-consumer p = reads-field h (spot-in consumer-here p)
 
-    pub read-consumer-id : getD ws (consumer-at i) 0 ≡ consumer-nth (decode ws) i .id
-    read-consumer-id = looks h consumer-here (consumer-at i) (add-zero (consumer-at i)) (reads-one (id-part (consumer-nth (decode ws) i)))
+    -- its id
+    pub read-consumer-id : getD ws (consumer-at i) 0 ≡ consumer-now ws i .id
+    read-consumer-id = looks h consumer-here (consumer-at i) (add-zero (consumer-at i)) (reads-one (id-part (consumer-now ws i)))
 
-    pub read-consumer-topic : getD ws (consumer-at i + 1) 0 ≡ consumer-nth (decode ws) i .pair .topic
+    -- its topic
+    pub read-consumer-topic : getD ws (consumer-at i + 1) 0 ≡ consumer-now ws i .pair .topic
     read-consumer-topic = read-consumer (part-in (consumer-pair-part _) (topic-part _))
 
-    pub read-consumer-subscription : getD ws (consumer-at i + 2) 0 ≡ consumer-nth (decode ws) i .pair .subscription
+    -- its subscription
+    pub read-consumer-subscription : getD ws (consumer-at i + 2) 0 ≡ consumer-now ws i .pair .subscription
     read-consumer-subscription = read-consumer (part-in (consumer-pair-part _) (subscription-part _))
 
     -- 0 for plain, 1 for shared
-    pub read-consumer-kind : getD ws (consumer-at i + 3) 0 ≡ bit (flag-of (consumer-nth (decode ws) i .kind))
+    pub read-consumer-kind : getD ws (consumer-at i + 3) 0 ≡ bit (flag-of (consumer-now ws i .kind))
     read-consumer-kind =
         looks h consumer-here (consumer-at i + 3) refl
-        (reads-part (kind-part (consumer-nth (decode ws) i)) (reads-kind (consumer-nth (decode ws) i .kind)))
+        (reads-part (kind-part (consumer-now ws i)) (reads-kind (consumer-now ws i .kind)))
 
-    pub read-consumer-permits : getD ws (consumer-at i + 4) 0 ≡ consumer-nth (decode ws) i .permits
+    -- its permits
+    pub read-consumer-permits : getD ws (consumer-at i + 4) 0 ≡ consumer-now ws i .permits
     read-consumer-permits = read-consumer (permits-part _)
 
-    pub read-consumer-cursor : getD ws (consumer-at i + 5) 0 ≡ consumer-nth (decode ws) i .cursor
+    -- its cursor
+    pub read-consumer-cursor : getD ws (consumer-at i + 5) 0 ≡ consumer-now ws i .cursor
     read-consumer-cursor = read-consumer (consumer-cursor-part _)
 
-    pub read-nacked-count : getD ws (consumer-at i + 6) 0 ≡ length (consumer-nth (decode ws) i .nacked)
+    -- how many nacked positions
+    pub read-nacked-count : getD ws (consumer-at i + 6) 0 ≡ length (consumer-now ws i .nacked)
     read-nacked-count =
         looks h consumer-here (consumer-at i + 6) refl
-        (reads-part (nacked-part (consumer-nth (decode ws) i)) (reads-count word 64 (consumer-nth (decode ws) i .nacked) nacked-short))
+        (reads-part (nacked-part (consumer-now ws i)) (reads-count word 64 (consumer-now ws i .nacked) nacked-short))
 
-    pub read-nacked : (j : ℕ) → j < length (consumer-nth (decode ws) i .nacked)
-        → getD ws (consumer-at i + 7 + j) 0 ≡ getD (consumer-nth (decode ws) i .nacked) j 0
+    -- nacked position j
+    pub read-nacked : (j : ℕ) → j < length (consumer-now ws i .nacked)
+        → getD ws (consumer-at i + 7 + j) 0 ≡ getD (consumer-now ws i .nacked) j 0
     read-nacked j l =
         looks h consumer-here (consumer-at i + 7 + j) (omega arith)
-        (reads-part (nacked-part (consumer-nth (decode ws) i)) (reads-entry 64 (consumer-nth (decode ws) i .nacked) j l nacked-short))
+        (reads-part (nacked-part (consumer-now ws i)) (reads-entry 64 (consumer-now ws i .nacked) j l nacked-short))
 
   -- ---- a topic
 
   module _ (t : ℕ) (k : t < length (decode ws .topics)) where
     -- where it stands
-    pub topic-here : Spot e (decode ws) (topic-at e t) (topic-codec e) (topic-nth (decode ws) t) (set-topic (decode ws) t)
+    pub topic-here : Spot e (decode ws) (topic-at e t) (topic-codec e) (topic-now ws t) (set-topic (decode ws) t)
     topic-here = topic-spot e (decode ws) t k (h .shaped .topics-fit)
 
     -- its ledger fits
-    pub messages-short : length (topic-nth (decode ws) t .messages) ≤ e
+    pub messages-short : length (topic-now ws t .messages) ≤ e
     messages-short =
-        subst (λ (n : ℕ). length (topic-nth (decode ws) t .messages) ≤ n) (canon-entries h)
+        subst (λ (n : ℕ). length (topic-now ws t .messages) ≤ n) (canon-entries h)
         (all-getD (Shaped-topic (decode ws .entries)) (decode ws .topics) t zero-topic (h .shaped .each-topic) k)
 
-    pub read-topic-number : getD ws (topic-at e t) 0 ≡ topic-nth (decode ws) t .number
+    -- its number
+    pub read-topic-number : getD ws (topic-at e t) 0 ≡ topic-now ws t .number
     read-topic-number =
-        looks h topic-here (topic-at e t) (add-zero (topic-at e t)) (reads-one (number-part e (topic-nth (decode ws) t)))
+        looks h topic-here (topic-at e t) (add-zero (topic-at e t)) (reads-one (number-part e (topic-now ws t)))
 
-    pub read-message-count : getD ws (topic-at e t + 3) 0 ≡ length (topic-nth (decode ws) t .messages)
+    -- how many messages
+    pub read-message-count : getD ws (topic-at e t + 3) 0 ≡ length (topic-now ws t .messages)
     read-message-count =
         looks h topic-here (topic-at e t + 3) refl
-        (reads-part (messages-part e (topic-nth (decode ws) t)) (reads-count message-codec e (topic-nth (decode ws) t .messages) messages-short))
+        (reads-part (messages-part e (topic-now ws t)) (reads-count message-codec e (topic-now ws t .messages) messages-short))
 
-    module _ (m : ℕ) (l : m < length (topic-nth (decode ws) t .messages)) where
+    module _ (m : ℕ) (l : m < length (topic-now ws t .messages)) where
       -- where the message stands
       pub message-here :
-          Part (topic-codec e) (topic-nth (decode ws) t) (message-in m) message-codec (getD (topic-nth (decode ws) t .messages) m no-message)
-          (λ x. with-messages (topic-nth (decode ws) t) (set (topic-nth (decode ws) t .messages) m x))
-      message-here = message-part e (topic-nth (decode ws) t) m l messages-short
+          Part (topic-codec e) (topic-now ws t) (message-in m) message-codec (getD (topic-now ws t .messages) m no-message)
+          (λ x. with-messages (topic-now ws t) (set (topic-now ws t .messages) m x))
+      message-here = message-part e (topic-now ws t) m l messages-short
 
-      read-message : {j v : ℕ} → Reads message-codec (getD (topic-nth (decode ws) t .messages) m no-message) j v
+      read-message : {j v : ℕ} → Reads message-codec (getD (topic-now ws t .messages) m no-message) j v
           → getD ws (topic-at e t + message-in m + j) 0 ≡ v
       read-message {j} r = looks h topic-here (topic-at e t + message-in m + j) (omega arith) (reads-part message-here r)
 
-      pub read-message-ledger : getD ws (topic-at e t + message-in m) 0 ≡ getD (topic-nth (decode ws) t .messages) m no-message .id .ledger
+      -- the ledger of the message's id
+      pub read-message-ledger : getD ws (topic-at e t + message-in m) 0 ≡ getD (topic-now ws t .messages) m no-message .id .ledger
       read-message-ledger =
           looks h topic-here (topic-at e t + message-in m) (omega arith)
           (reads-part message-here (reads-one (part-in (message-id-part _) (ledger-part _))))
 
-      pub read-message-entry : getD ws (topic-at e t + message-in m + 1) 0 ≡ getD (topic-nth (decode ws) t .messages) m no-message .id .entry
+      -- the entry of the message's id
+      pub read-message-entry : getD ws (topic-at e t + message-in m + 1) 0 ≡ getD (topic-now ws t .messages) m no-message .id .entry
       read-message-entry = read-message (reads-one (part-in (message-id-part _) (entry-part _)))
 
-      pub read-message-handle : getD ws (topic-at e t + message-in m + 2) 0 ≡ getD (topic-nth (decode ws) t .messages) m no-message .handle
+      -- its handle
+      pub read-message-handle : getD ws (topic-at e t + message-in m + 2) 0 ≡ getD (topic-now ws t .messages) m no-message .handle
       read-message-handle = read-message (reads-one (handle-part _))
 
-      pub read-message-batch : getD ws (topic-at e t + message-in m + 3) 0 ≡ getD (topic-nth (decode ws) t .messages) m no-message .batch-size
+      -- its batch size
+      pub read-message-batch : getD ws (topic-at e t + message-in m + 3) 0 ≡ getD (topic-now ws t .messages) m no-message .batch-size
       read-message-batch = read-message (reads-one (batch-part _))

@@ -13,3 +13,7 @@ pub mod Spot
 pub mod Gets
 pub mod GetsDispatcher
 pub mod Blank
+pub mod Sets
+pub mod SetsDispatcher
+pub mod Calls
+pub mod Placed

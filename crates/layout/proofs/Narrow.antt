@@ -1,28 +1,27 @@
 -- Every word of a valid state's spelling is below 2 ^ 64, so it fits a store of 64-bit words.
-use mathlib.Core.Path.{_≡_, refl, sym, ap, _∙_, subst}
-use mathlib.Core.Bool.{Bool, true, false, _&&_}
+use mathlib.Core.Path.{_≡_, refl}
+use mathlib.Core.Bool.{Bool, true, false}
 use mathlib.Core.List.{List, [], _∷_, _++_, map}
-use Prim.Native.Nat.{ℕ, zero, suc, _+_, _-_, _*_, _^_, _≤_, _<_, zero-le, suc-le-suc, min}
-use native.Mathlib.Nat.{not-suc-le-zero}
+use Prim.Native.Nat.{ℕ, zero, suc, _+_, _*_, _^_, _≤_, _<_, zero-le, suc-le-suc}
 use native.Mathlib.Omega.{arith}
-use lib.Dec.{eqb, leb, ltb}
-use lib.ListN.{length, getD, take, drop, replicate}
+use lib.Dec.{eqb, ltb}
+use lib.ListN.{length, getD, drop, replicate}
 use borrow.Author.Tests.{ltb-true, ltb-false, eqb-true}
 use Rattle.words.specs.Words.{fit}
-use Rattle.words.specs.Codec.{Codec, Change, word, zeros, pair, via, flag, asFlag, tag, asTag, bit, upto, spell, All}
+use Rattle.words.specs.Codec.{Codec, Change, word, zeros, pair, via, flag, asFlag, tag, asTag, upto, spell, All}
 use Rattle.words.proofs.Check.{and-left, and-right}
-use Rattle.words.proofs.Each.{all-append, all-take}
-use Rattle.bits.specs.Bits.{bits-empty, bits-below}
+use Rattle.words.proofs.Each.{all-append, all-take, all-drop}
+use Rattle.bits.specs.Bits.{bits-empty}
 use Rattle.bits.specs.Four.{words}
 use Rattle.bits.proofs.Sets.{below-are-words}
-use Rattle.rules.specs.Table.{Every}
 use Rattle.rules.specs.State.{Id, StoredMessage, Topic, Pair, Kind, Consumer, Mark, Held, Dispatcher, State, new-mark, ledger-of}
 use Rattle.rules.specs.State.Kind.{plain, shared}
 use Rattle.rules.specs.Ledger.{message-at}
 use Rattle.rules.specs.Valid.{valid, Valid, Valid-id, Valid-message, Valid-topic, Valid-consumer, Valid-mark, Valid-dispatcher}
+use Rattle.rules.specs.Calls.{needed}
 use Rattle.rules.proofs.Valid.{says-valid}
-use Rattle.layout.specs.Records.{as-id, id-codec, as-message, message-codec, as-bits, bits-codec, as-mark, mark-codec, as-held, held-codec, as-pair, pair-codec, as-kind, kind-codec, as-consumer, consumer-codec, as-topic, topic-codec, as-dispatcher, dispatcher-codec}
-use Rattle.layout.specs.Layout.{as-header, header-codec, as-body, body-codec, header-of, body-of, layout-tag, encode}
+use Rattle.layout.specs.Records.{as-id, id-codec, as-message, message-codec, as-bits, bits-codec, as-mark, mark-codec, as-held, held-codec, as-pair, pair-codec, kind-codec, as-consumer, consumer-codec, as-topic, topic-codec, as-dispatcher, dispatcher-codec}
+use Rattle.layout.specs.Layout.{as-header, header-codec, as-body, body-codec, header-of, body-of, layout-tag, encode, put}
 use Rattle.layout.specs.Whole.{Shaped}
 use Rattle.layout.proofs.Shaped.{all-as}
 use Rattle.layout.proofs.Valid.{every-all, ledger-fits, valid-shaped}
@@ -204,9 +203,11 @@ fine-dispatcher s h d v =
     let k : d .mark-delete ≤ n = v .mark-delete-in-ledger in
     let t : d .total-available-permits ≤ 2 ^ 62 + 2 ^ 60 = v .total-to in
     let r : length (d .attached) ≤ 32 = v .ring .ring-count in
-    let below : All (λ (i : ℕ). i < d .cursor) (map (λ (x : Held). x .position) (d .in-flight)) × All (λ (i : ℕ). i < d .cursor) (d .redelivery) =
+    let below : All (λ (i : ℕ). i < d .cursor) (map (λ (x : Held). x .position) (d .in-flight)) × All (λ (i : ℕ). i < d .cursor)
+    (d .redelivery) =
     all-split (λ (i : ℕ). i < d .cursor) (map (λ (x : Held). x .position) (d .in-flight)) (d .redelivery)
-    (every-all {P = λ (i : ℕ). i < d .cursor} (map (λ (x : Held). x .position) (d .in-flight) ++ d .redelivery) (v .places .places-below-cursor)) in
+    (every-all {P = λ (i : ℕ). i < d .cursor} (map (λ (x : Held). x .position) (d .in-flight) ++ d .redelivery)
+    (v .places .places-below-cursor)) in
     let holders : All (λ (x : Held). Narrow (x .holder)) (d .in-flight) =
     every-all {P = λ (x : Held). Narrow (x .holder)} (d .in-flight)
     (λ x i. v .ring .ring-words (x .holder) (v .places .holders-in-ring x i)) in
@@ -214,16 +215,21 @@ fine-dispatcher s h d v =
     (fine-pair _ _ _ (fine-two (d .pair) (v .pair-topic-byte) (v .pair-subscription-byte))
     (fine-pair _ _ _
     (fine-pair _ _ _
-    (fine-pair _ _ _ (fine-word (d .next) (next-narrow (d .attached) (d .next) r (v .ring .next-in-range) (v .ring .next-if-empty))) (fine-word (d .cursor) (omega arith)))
+    (fine-pair _ _ _ (fine-word (d .next) (next-narrow (d .attached) (d .next) r (v .ring .next-in-range) (v .ring .next-if-empty)))
+    (fine-word (d .cursor) (omega arith)))
     (fine-pair _ _ _ (fine-word (d .mark-delete) (omega arith)) (fine-word (d .total-available-permits) (omega arith))))
     (fine-pair _ _ _ (fine-zeros 5 tt)
-    (fine-pair _ _ _ (fine-upto word 32 (d .attached) (omega arith) (all-as fine-word (d .attached) (every-all {P = Narrow} (d .attached) (v .ring .ring-words))))
     (fine-pair _ _ _
-    (fine-upto id-codec 64 (d .outside) (omega arith) (all-as fine-id (d .outside) (every-all {P = Valid-id} (d .outside) (v .outside-ids .outside-words))))
+    (fine-upto word 32 (d .attached) (omega arith)
+    (all-as fine-word (d .attached) (every-all {P = Narrow} (d .attached) (v .ring .ring-words))))
+    (fine-pair _ _ _
+    (fine-upto id-codec 64 (d .outside) (omega arith)
+    (all-as fine-id (d .outside) (every-all {P = Valid-id} (d .outside) (v .outside-ids .outside-words))))
     (fine-pair _ _ _ (fine-numbers e (d .cursor) (d .redelivery) m (omega arith) (below .1))
     (fine-pair _ _ _
     (fine-upto held-codec e (d .in-flight) m
-    (all-both {P = λ (x : Held). Narrow (x .holder)} {Q = λ (x : Held). x .position < d .cursor} (λ x a b. fine-held x a (omega arith)) (d .in-flight) holders
+    (all-both {P = λ (x : Held). Narrow (x .holder)} {Q = λ (x : Held). x .position < d .cursor} (λ x a b. fine-held x a (omega arith))
+    (d .in-flight) holders
     (all-map (λ (i : ℕ). i < d .cursor) (λ (x : Held). x .position) (d .in-flight) (below .0))))
     (fine-upto mark-codec e (d .marks) m
     (all-nth (Fine mark-codec) new-mark (d .marks)
@@ -261,3 +267,9 @@ encode-narrow s q =
     (fine-upto (dispatcher-codec (s .entries)) 8 (s .dispatchers) (omega arith)
     (all-as (fine-dispatcher s h) (s .dispatchers) (every-all {P = Valid-dispatcher s} (s .dispatchers) (v .each-dispatcher))))
     (fine-zeros (333 + 24 * s .entries) tt)))))
+
+-- so a store of 64-bit words stays one
+pub put-narrow : (ws : List ℕ) (s : State) → valid s ≡ true → All (λ (w : ℕ). w < 2 ^ 64) ws → All (λ (w : ℕ). w < 2 ^ 64) (put ws s)
+unfolding put
+put-narrow ws s q h =
+    all-append Narrow (encode s) (drop (needed (s .entries)) ws) (encode-narrow s q) (all-drop Narrow (needed (s .entries)) ws h)

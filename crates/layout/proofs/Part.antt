@@ -6,10 +6,10 @@ use Prim.Native.Nat.{ℕ, _+_, _*_, _≤_, _<_}
 use native.Mathlib.Nat.{add-zero}
 use lib.ListN.{length, getD, set}
 use lib.Seq.{set-getD}
-use Rattle.words.specs.Act.{Act, store, lay}
+use Rattle.words.specs.Act.{Act, store}
 use Rattle.words.specs.Codec.{Codec, Change, word, pair, via, upto}
 use Rattle.words.specs.Field.{Reads, Writes, Place, Holds}
-use Rattle.words.proofs.Field.{reads-at, writes-at, reads-in, writes-in, holds-in, writes-whole, place-in, place-left, place-right, place-via, reads-word, writes-word}
+use Rattle.words.proofs.Field.{reads-at, writes-at, reads-in, writes-in, holds-in, place-in, place-left, place-right, place-via, reads-word, writes-word}
 use Rattle.words.proofs.Lists.{place-element}
 
 -- a value a, spelt by c, has at `off` the part b, spelt by d; `whole` is a with another part there
@@ -47,9 +47,11 @@ module _ {A B : Type 0} {c : Codec A} {a : A} {d : Codec B} {b : B} {whole : B �
 -- ---- one word
 
 module _ {A : Type 0} {c : Codec A} {a : A} {off v : ℕ} {whole : ℕ → A} (p : Part c a off word v whole) where
+  -- the word is read
   pub reads-one : Reads c a off v
   reads-one = reads-at (add-zero off) (reads-part p (reads-word v))
 
+  -- and written
   pub writes-one : (x : ℕ) → Writes c a off (store x) (whole x)
   writes-one x = writes-first p (writes-word v x)
 

@@ -1,16 +1,16 @@
 -- Distinct numbers below n are at most n.
-use mathlib.Core.Path.{_≡_, refl, sym, _∙_}
+use mathlib.Core.Path.{_≡_, refl}
 use mathlib.Core.Bool.{Bool, true, false}
 use mathlib.Core.List.{List, [], _∷_, List·Memᴰ, List·Memᴰ·tail, List·Memᴰ·head, List·Memᴰ·not-nil, List·Memᴰ·cases-cons}
-use mathlib.Core.Logic.{⊎-elim, inl, inr}
-use Prim.Native.Nat.{ℕ, zero, suc, _+_, _≤_, _<_, zero-le, suc-le-suc}
+use mathlib.Core.Logic.{⊎-elim}
+use Prim.Native.Nat.{ℕ, zero, suc, _≤_, _<_, zero-le, suc-le-suc}
 use native.Mathlib.Nat.{not-suc-le-zero}
 use native.Mathlib.Omega.{arith}
 use lib.Dec.{eqb}
 use lib.ListN.{length}
-use borrow.Author.Tests.{eqb-true, eqb-false, eq-eqb}
+use borrow.Author.Tests.{eqb-true, eqb-false}
 use Rattle.rules.specs.Table.{Every, Distinct}
-use Rattle.rules.proofs.Says.{every-cons, every-tail, every-head}
+use Rattle.rules.proofs.Says.{every-cons, every-head}
 
 -- distinct numbers without the number n: at most one fewer, still distinct, and all of them among the old ones
 record Without (n : ℕ) (l : List ℕ) : Type 0 where

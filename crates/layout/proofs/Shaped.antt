@@ -1,13 +1,13 @@
 -- `Shaped` and the codecs' own `Ok` are the same, so whatever words decode to is shaped.
-use mathlib.Core.Path.{_≡_, refl, sym, ap, _∙_, subst}
+use mathlib.Core.Path.{_≡_}
 use mathlib.Core.List.{List, [], _∷_}
-use Prim.Native.Nat.{ℕ, _+_, _*_, _≤_, min, max}
+use Prim.Native.Nat.{ℕ, _≤_}
 use native.Mathlib.Omega.{arith}
 use lib.ListN.{length, drop}
 use Rattle.words.specs.Codec.{Codec, word, zeros, flag, tag, pair, via, upto, asFlag, asTag, All, Fits}
 use Rattle.rules.specs.State.{Id, StoredMessage, Topic, Consumer, Mark, Held, Dispatcher, State}
 use Rattle.layout.specs.Records.{id-codec, message-codec, bits-codec, mark-codec, held-codec, pair-codec, kind-codec, consumer-codec, topic-codec, dispatcher-codec}
-use Rattle.layout.specs.Layout.{header-codec, Body, body-codec, header-of, body-of, clamp, entries-in, decode}
+use Rattle.layout.specs.Layout.{header-codec, body-codec, header-of, body-of, clamp, entries-in, decode}
 use Rattle.layout.specs.Whole.{state-codec, Shaped-topic, Shaped-consumer, Shaped-dispatcher, Shaped}
 
 -- what holds of each element holds in another form
@@ -48,22 +48,27 @@ ok-mark m = (tt, (tt, ((tt, tt), (tt, tt))))
 
 -- ---- records with lists
 
+-- a shaped consumer is Ok
 pub ok-consumer : (c : Consumer) → Shaped-consumer c → consumer-codec .Ok c
 unfolding consumer-codec pair-codec kind-codec via pair word zeros flag asFlag upto
 ok-consumer c h = (tt, ((tt, tt), (tt, (tt, (tt, (fits-any word ok-word 64 (c .nacked) h, tt))))))
 
+-- and the other way round
 pub consumer-ok : (c : Consumer) → consumer-codec .Ok c → Shaped-consumer c
 unfolding consumer-codec pair-codec kind-codec via pair word zeros flag asFlag upto
 consumer-ok c ok = ok .1 .1 .1 .1 .1 .0 .short
 
+-- a shaped topic is Ok
 pub ok-topic : (e : ℕ) (t : Topic) → Shaped-topic e t → topic-codec e .Ok t
 unfolding topic-codec via pair word zeros upto
 ok-topic e t h = (tt, (tt, fits-any message-codec ok-message e (t .messages) h))
 
+-- and the other way round
 pub topic-ok : (e : ℕ) (t : Topic) → topic-codec e .Ok t → Shaped-topic e t
 unfolding topic-codec via pair word zeros upto
 topic-ok e t ok = ok .1 .1 .short
 
+-- a shaped dispatcher is Ok
 pub ok-dispatcher : (e : ℕ) (d : Dispatcher) → Shaped-dispatcher e d → dispatcher-codec e .Ok d
 unfolding dispatcher-codec pair-codec via pair word zeros upto
 ok-dispatcher e d h = (
@@ -86,6 +91,7 @@ ok-dispatcher e d h = (
   ),
 )
 
+-- and the other way round
 pub dispatcher-ok : (e : ℕ) (d : Dispatcher) → dispatcher-codec e .Ok d → Shaped-dispatcher e d
 unfolding dispatcher-codec pair-codec via pair word zeros upto
 dispatcher-ok e d ok =
@@ -143,6 +149,7 @@ pub clamp-from : (n : ℕ) → 1 ≤ clamp n
 unfolding clamp
 clamp-from n = omega arith
 
+-- up to 4,096
 pub clamp-to : (n : ℕ) → clamp n ≤ 4096
 unfolding clamp
 clamp-to n = omega arith

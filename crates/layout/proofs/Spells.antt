@@ -1,28 +1,25 @@
 -- `spells` by parts, as a check of a store makes its tests: the header's words, the length that E needs, the body spelt as
 -- it should be, and the state valid.
-use mathlib.Core.Path.{_≡_, refl, sym, ap, ap₂, _∙_, subst}
+use mathlib.Core.Path.{_≡_, refl, sym, ap₂, _∙_, subst}
 use mathlib.Core.Bool.{Bool, true, false, _&&_}
 use mathlib.Core.List.{List}
-use Prim.Native.Nat.{ℕ, _+_, _*_, _≤_}
+use Prim.Native.Nat.{ℕ, _≤_}
 use native.Mathlib.Omega.{arith}
 use lib.Dec.{eqb, leb}
 use lib.ListN.{length, getD, drop}
-use borrow.Author.Tests.{le-leb, leb-true, eqb-true, eq-eqb}
 use Rattle.words.specs.Words.{blank}
-use Rattle.words.specs.Codec.{Codec, word, zeros, pair, via, flag, tag}
 use Rattle.words.specs.Store.{Canon, canonical}
-use Rattle.words.proofs.Width.{width-word, width-flag, width-tag}
-use Rattle.words.proofs.Check.{canonical-true, canon-true, canonical-tag, canonical-flag, canonical-zeros, canonical-via, canonical-pair}
-use Rattle.rules.specs.State.{State}
+use Rattle.words.proofs.Width.{width-flag, width-tag}
+use Rattle.words.proofs.Check.{canonical-true, canon-true, canonical-tag, canonical-flag, canonical-zeros, canonical-via}
 use Rattle.rules.specs.Valid.{valid}
 use Rattle.rules.specs.Calls.{needed}
 use Rattle.rules.proofs.Says.{Says, says-as, says-leb, says-eqb, says-true, says-and}
-use Rattle.layout.specs.Layout.{as-header, header-codec, layout-tag, body-codec, entries-in, decode, spells}
+use Rattle.layout.specs.Layout.{as-header, header-codec, layout-tag, body-codec, decode, spells}
 use Rattle.layout.specs.Canon.{Canon-store}
 use Rattle.layout.specs.Check.{header-right}
 use Rattle.layout.proofs.Widths.{width-header}
 use Rattle.layout.proofs.Shaped.{shaped-decode}
-use Rattle.layout.proofs.Store.{entries-in-range, canon-entries, spells-canon, spells-valid, canon-spells}
+use Rattle.layout.proofs.Store.{entries-in-range, spells-canon, spells-valid, canon-spells}
 use Rattle.layout.proofs.Check.{plain-word, part, skip}
 
 -- two tests that say the same are the same

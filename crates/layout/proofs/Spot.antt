@@ -2,25 +2,24 @@
 -- Each table and each record of a table has its spot; the fields of a record are parts of it (`Parts.antt`).
 use mathlib.Core.Path.{_≡_, refl, sym, ap, _∙_, subst}
 use mathlib.Core.List.{List}
-use Prim.Native.Nat.{ℕ, _+_, _*_, _≤_, _<_}
-use native.Mathlib.Nat.{add-zero}
+use Prim.Native.Nat.{ℕ, _+_, _≤_, _<_}
 use native.Mathlib.Omega.{arith}
 use lib.ListN.{length, getD, set}
 use Rattle.words.specs.Act.{Act, store, lay, both, past}
-use Rattle.words.specs.Codec.{Codec, word, pair, upto}
+use Rattle.words.specs.Codec.{Codec, word, upto}
 use Rattle.words.specs.Field.{Reads, Writes}
 use Rattle.words.proofs.Field.{writes-whole}
 use Rattle.words.proofs.Store.{canon-reads, canon-writes, put-reads, put-writes}
-use Rattle.rules.specs.State.{State, Topic, Consumer, Dispatcher, with-topics, with-consumers, with-dispatchers}
+use Rattle.rules.specs.State.{State, with-topics, with-consumers, with-dispatchers}
 use Rattle.layout.specs.Records.{consumer-codec, topic-codec, dispatcher-codec}
-use Rattle.layout.specs.Layout.{as-body, body-codec, header-codec, decode, put}
+use Rattle.layout.specs.Layout.{as-body, body-codec, decode, put}
 use Rattle.layout.specs.Whole.{as-state, state-codec, Shaped}
 use Rattle.layout.specs.Canon.{Canon-store}
 use Rattle.layout.specs.Offsets.{consumer-at, topic-count-at, topic-at, dispatcher-count-at, dispatcher-at}
 use Rattle.layout.specs.Fields.{zero-consumer, zero-topic, zero-dispatcher, consumer-nth, topic-nth, dispatcher-nth, set-consumer, set-topic, set-dispatcher}
 use Rattle.layout.proofs.Widths.{width-header, width-consumer, width-topic, width-dispatcher, width-consumers, width-topics}
 use Rattle.layout.proofs.Store.{canon-state, decode-canon, canon-entries, put-as, put-put, decode-put}
-use Rattle.layout.proofs.Part.{Part, part-at, part-in, reads-part, writes-part, writes-first, reads-one, writes-one, first, second, beyond, by-change, nth}
+use Rattle.layout.proofs.Part.{Part, part-at, part-in, reads-part, writes-first, reads-one, writes-one, first, beyond, by-change, nth}
 
 -- the state s of a store of E entries has at `off` the part b; `whole` is s with another part there, and the same E
 pub record Spot {B : Type 0} (e : ℕ) (s : State) (off : ℕ) (d : Codec B) (b : B) (whole : B → State) : Type 0 where
@@ -77,7 +76,8 @@ module _ {e : ℕ} {ws : List ℕ} (h : Canon-store e ws) where
 
 -- ---- after a put
 
-module _ {B : Type 0} {e off : ℕ} {s : State} {d : Codec B} {b : B} {whole : B → State} (ws : List ℕ) (q : s .entries ≡ e) (t : Spot e s off d b whole) where
+module _ {B : Type 0} {e off : ℕ} {s : State} {d : Codec B} {b : B} {whole : B → State} (ws : List ℕ) (q : s .entries ≡ e)
+    (t : Spot e s off d b whole) where
   -- a word of what stands there
   pub put-looks : {j v : ℕ} → Reads d b j v → getD (put ws s) (off + j) 0 ≡ v
   put-looks {j} {v} r =
@@ -96,6 +96,7 @@ put-step ws s f h q = ap (λ (t : State). put (put ws s) (f t)) (decode-put ws s
 -- ---- the tables
 
 module _ (e : ℕ) (s : State) where
+  -- the consumers
   pub consumers-spot : Spot e s 16 (upto consumer-codec 32) (s .consumers) (with-consumers s)
   unfolding state-codec body-codec with-consumers
   consumers-spot =
@@ -104,6 +105,7 @@ module _ (e : ℕ) (s : State) where
         same = λ y. refl;
       }
 
+  -- the topics
   pub topics-spot : Spot e s topic-count-at (upto (topic-codec e) 8) (s .topics) (with-topics s)
   unfolding state-codec body-codec with-topics
   topics-spot =
@@ -114,6 +116,7 @@ module _ (e : ℕ) (s : State) where
         same = λ y. refl;
       }
 
+  -- the dispatchers
   pub dispatchers-spot : Spot e s (dispatcher-count-at e) (upto (dispatcher-codec e) 8) (s .dispatchers) (with-dispatchers s)
   unfolding state-codec body-codec with-dispatchers
   dispatchers-spot =
@@ -128,18 +131,21 @@ module _ (e : ℕ) (s : State) where
 
   -- ---- a record of a table
 
+  -- consumer i
   pub consumer-spot : (i : ℕ) → i < length (s .consumers) → length (s .consumers) ≤ 32
       → Spot e s (consumer-at i) consumer-codec (consumer-nth s i) (set-consumer s i)
   unfolding set-consumer
   consumer-spot i h l =
       spot-at (omega arith) (spot-in consumers-spot (nth consumer-codec width-consumer 32 (s .consumers) i zero-consumer h l))
 
+  -- topic t
   pub topic-spot : (t : ℕ) → t < length (s .topics) → length (s .topics) ≤ 8
       → Spot e s (topic-at e t) (topic-codec e) (topic-nth s t) (set-topic s t)
   unfolding set-topic
   topic-spot t h l =
       spot-at (omega arith) (spot-in topics-spot (nth (topic-codec e) (width-topic e) 8 (s .topics) t zero-topic h l))
 
+  -- dispatcher d
   pub dispatcher-spot : (d : ℕ) → d < length (s .dispatchers) → length (s .dispatchers) ≤ 8
       → Spot e s (dispatcher-at e d) (dispatcher-codec e) (dispatcher-nth s d) (set-dispatcher s d)
   unfolding set-dispatcher
@@ -149,7 +155,8 @@ module _ (e : ℕ) (s : State) where
 
 -- ---- a list and its count
 
-module _ {B : Type 0} {e off : ℕ} {ws : List ℕ} {d : Codec B} {b m : B} {whole : B → State} (h : Canon-store e ws) (t : Spot e (decode ws) off d b whole) where
+module _ {B : Type 0} {e off : ℕ} {ws : List ℕ} {d : Codec B} {b m : B} {whole : B → State} (h : Canon-store e ws)
+    (t : Spot e (decode ws) off d b whole) where
   -- a change of the elements from `at` on and a store of the count are a change of the list
   pub lists : (x : Act) (k n : ℕ) → Writes d b 0 (both (past (1 + k) x) (store n)) m → (at : ℕ) → off + (1 + k) ≡ at
       → set (x .run at ws) off n ≡ put ws (whole m)

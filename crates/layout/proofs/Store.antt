@@ -3,28 +3,27 @@
 use mathlib.Core.Path.{_≡_, refl, sym, ap, ap₂, _∙_, subst}
 use mathlib.Core.Bool.{Bool, true, _&&_}
 use mathlib.Core.List.{List, [], _++_, append-assoc, append-nil}
-use Prim.Native.Nat.{ℕ, _+_, _*_, _≤_}
+use Prim.Native.Nat.{ℕ, _+_, _≤_}
 use native.Mathlib.Omega.{arith}
 use lib.Dec.{leb}
 use lib.ListN.{length, getD, take, drop, length-append, length-drop}
 use lib.Seq.{drop-at, take-at, getD-drop}
-use borrow.Author.Tests.{le-leb, leb-true}
+use borrow.Author.Tests.{le-leb}
 use Rattle.words.specs.Words.{starts}
-use Rattle.words.specs.Codec.{Codec, word, pair, via, tag}
+use Rattle.words.specs.Codec.{word, pair, via, tag}
 use Rattle.words.specs.Store as words
 use Rattle.words.specs.Store.{Canon}
-use Rattle.words.proofs.Store.{dec-put, put-dec, canon-enc, canon-take}
+use Rattle.words.proofs.Store.{put-dec, canon-enc}
 use Rattle.words.proofs.Check.{starts-self, starts-true, and-left, and-right}
 use Rattle.words.proofs.Canon.{canon-pair, canon-via}
-use Rattle.words.proofs.Width.{width-tag}
 use Rattle.rules.specs.State.{State}
 use Rattle.rules.specs.Valid.{valid}
 use Rattle.rules.specs.Calls.{needed}
-use Rattle.layout.specs.Layout.{header-codec, as-header, layout-tag, body-codec, header-of, body-of, state-of, Header, Body, clamp, entries-in, encode, decode, spells, put}
+use Rattle.layout.specs.Layout.{header-codec, body-codec, header-of, body-of, state-of, Header, clamp, entries-in, encode, decode, spells, put}
 use Rattle.layout.specs.Whole.{as-state, state-codec, Shaped}
 use Rattle.layout.specs.Canon.{Canon-store}
-use Rattle.layout.proofs.Widths.{width-header, width-body, width-state, encode-is, length-encode}
-use Rattle.layout.proofs.Shaped.{ok-header, ok-body, ok-state, clamp-from, clamp-to, clamp-in, shaped-decode}
+use Rattle.layout.proofs.Widths.{width-header, width-state, encode-is, length-encode}
+use Rattle.layout.proofs.Shaped.{ok-header, ok-body, ok-state, clamp-in, shaped-decode}
 use Rattle.layout.proofs.Valid.{valid-shaped}
 
 -- ---- E
@@ -179,9 +178,11 @@ spelt-spells s r v =
     length-append (encode s) r ∙ ap (λ (k : ℕ). k + length r) (length-encode s) in
     rw (e, le-leb (needed (s .entries)) (length (encode s ++ r)) (omega arith), starts-self (encode s) r) v
 
+-- alone
 pub encode-spells : (s : State) → valid s ≡ true → spells (encode s) ≡ true
 encode-spells s v = rw (append-nil (encode s)) at (spelt-spells s [] v)
 
+-- or put into any words
 pub put-spells : (ws : List ℕ) (s : State) → valid s ≡ true → spells (put ws s) ≡ true
 unfolding put
 put-spells ws s v = spelt-spells s (drop (needed (s .entries)) ws) v

@@ -1,10 +1,10 @@
 -- The check of a store's tables: a count, that many records, and the rest of the slots blank; and the turn of the loop over
 -- the records. `Check.antt` has what each record comes to.
-use mathlib.Core.Path.{_≡_, refl, sym, ap, _∙_}
-use mathlib.Core.Bool.{Bool, _&&_}
+use mathlib.Core.Path.{_≡_, refl}
+use mathlib.Core.Bool.{_&&_}
 use mathlib.Core.List.{List}
-use Prim.Native.Nat.{ℕ, _+_, _-_, _*_, _≤_, _<_}
-use native.Mathlib.Nat.{zero-mul, add-zero, add-assoc}
+use Prim.Native.Nat.{ℕ, _+_, _-_, _*_, _<_}
+use native.Mathlib.Nat.{zero-mul, add-zero}
 use native.Mathlib.Omega.{arith}
 use lib.Dec.{leb}
 use lib.ListN.{length, getD, drop}
@@ -30,6 +30,7 @@ pub check-consumers : (ws : List ℕ) → 16 < length ws
     && blank ((32 - getD ws 16 0) * 72) (drop (consumer-at (getD ws 16 0)) ws)
 check-consumers ws h = check-table consumer-codec 32 16 17 ws width-consumer refl h
 
+-- consumer i and those after it
 pub check-consumers-turn : (n i : ℕ) (ws : List ℕ) → i < n
     → canonicals consumer-codec (n - i) (drop (consumer-at i) ws)
     ≡ canonical consumer-codec (drop (consumer-at i) ws) && canonicals consumer-codec (n - (i + 1)) (drop (consumer-at (i + 1)) ws)
@@ -42,6 +43,7 @@ pub check-topics : (e : ℕ) (ws : List ℕ) → topic-count-at < length ws
     && blank ((8 - getD ws topic-count-at 0) * (4 + 4 * e)) (drop (topic-at e (getD ws topic-count-at 0)) ws)
 check-topics e ws h = check-table (topic-codec e) 8 topic-count-at 2322 ws (width-topic e) refl h
 
+-- topic i and those after it
 pub check-topics-turn : (e n i : ℕ) (ws : List ℕ) → i < n
     → canonicals (topic-codec e) (n - i) (drop (topic-at e i) ws)
     ≡ canonical (topic-codec e) (drop (topic-at e i) ws) && canonicals (topic-codec e) (n - (i + 1)) (drop (topic-at e (i + 1)) ws)
@@ -56,6 +58,7 @@ pub check-dispatchers : (e : ℕ) (ws : List ℕ) → dispatcher-count-at e < le
 check-dispatchers e ws h =
     check-table (dispatcher-codec e) 8 (dispatcher-count-at e) (2355 + 32 * e) ws (width-dispatcher e) (omega arith) h
 
+-- dispatcher i and those after it
 pub check-dispatchers-turn : (e n i : ℕ) (ws : List ℕ) → i < n
     → canonicals (dispatcher-codec e) (n - i) (drop (dispatcher-at e i) ws)
     ≡ canonical (dispatcher-codec e) (drop (dispatcher-at e i) ws)
@@ -72,6 +75,7 @@ check-marks e at ws h =
     let f : (k : ℕ) → at + mark-in e k ≡ first + k * 6 = λ k. omega arith in
     rw (f 0, f (getD ws (at + marks-in e) 0)) (check-table mark-codec e (at + marks-in e) first ws width-mark (omega arith) h)
 
+-- mark i and those after it
 pub check-marks-turn : (e at n i : ℕ) (ws : List ℕ) → i < n
     → canonicals mark-codec (n - i) (drop (at + mark-in e i) ws)
     ≡ canonical mark-codec (drop (at + mark-in e i) ws) && canonicals mark-codec (n - (i + 1)) (drop (at + mark-in e (i + 1)) ws)

@@ -1,16 +1,16 @@
 -- A valid state is shaped: every list fits its slots. The queue and what is in flight fit because their positions are
 -- distinct and below the cursor.
-use mathlib.Core.Path.{_≡_, refl, sym, ap, _∙_}
+use mathlib.Core.Path.{_≡_, ap, _∙_}
 use mathlib.Core.Bool.{Bool, true, false, cond}
 use mathlib.Core.List.{List, [], _∷_, _++_, map}
-use mathlib.Core.Option.{Option, none, some, Option·map}
-use Prim.Native.Nat.{ℕ, _+_, _≤_, _<_, zero-le}
+use mathlib.Core.Option.{some, Option·map}
+use Prim.Native.Nat.{ℕ, _+_, _≤_, zero-le}
 use native.Mathlib.Omega.{arith}
 use lib.Dec.{eqb}
 use lib.ListN.{length, length-append, length-map}
 use Rattle.words.specs.Codec.{All}
 use Rattle.rules.specs.Table.{Every, find, or-else}
-use Rattle.rules.specs.State.{StoredMessage, Topic, by-number, topic-of, ledger-of, Consumer, Held, Dispatcher, State}
+use Rattle.rules.specs.State.{Topic, by-number, topic-of, ledger-of, Held, Dispatcher, State}
 use Rattle.rules.specs.Valid.{valid, Valid, Valid-topic, Valid-consumer, Valid-dispatcher}
 use Rattle.rules.proofs.Says.{every-head, every-tail}
 use Rattle.rules.proofs.Valid.{says-valid}
@@ -23,7 +23,8 @@ every-all [] h = tt
 every-all (a ∷ l) h = (every-head h, every-all l (every-tail h))
 
 -- a ledger that is found is short enough
-found-fits : (e n : ℕ) (l : List Topic) → All (Shaped-topic e) l → length (or-else (Option·map (λ (t : Topic). t .messages) (find by-number n l)) []) ≤ e
+found-fits : (e n : ℕ) (l : List Topic) → All (Shaped-topic e) l
+    → length (or-else (Option·map (λ (t : Topic). t .messages) (find by-number n l)) []) ≤ e
 unfolding find or-else
 found-fits e n [] h = zero-le
 found-fits e n (t ∷ l) h = go (eqb n (t .number)) (found-fits e n l (h .1))
@@ -39,7 +40,8 @@ unfolding ledger-of topic-of
 ledger-fits s n h = found-fits (s .entries) n (s .topics) h
 
 -- a valid dispatcher: queue and flight together fit E
-dispatcher-shaped : (s : State) → All (Shaped-topic (s .entries)) (s .topics) → (d : Dispatcher) → Valid-dispatcher s d → Shaped-dispatcher (s .entries) d
+dispatcher-shaped : (s : State) → All (Shaped-topic (s .entries)) (s .topics) → (d : Dispatcher) → Valid-dispatcher s d
+    → Shaped-dispatcher (s .entries) d
 dispatcher-shaped s t d v =
     let held : List ℕ = map (λ (h : Held). h .position) (d .in-flight) in
     let fits : length (ledger-of s (d .pair .topic)) ≤ s .entries = ledger-fits s (d .pair .topic) t in

@@ -1,44 +1,50 @@
 -- How many words each part of the layout takes.
-use mathlib.Core.Path.{_≡_, refl, sym, ap, _∙_}
-use mathlib.Core.List.{List}
+use mathlib.Core.Path.{_≡_, refl, ap, _∙_}
 use Prim.Native.Nat.{ℕ, _+_, _*_}
 use native.Mathlib.Omega.{arith}
-use lib.ListN.{length, length-append}
-use Rattle.words.specs.Codec.{Codec, word, flag, zeros, pair, upto, asFlag}
+use lib.ListN.{length}
+use Rattle.words.specs.Codec.{word, pair, via, upto}
 use Rattle.words.proofs.Width.{width-word, width-flag, width-tag, width-zeros, width-pair, width-via, width-upto}
 use Rattle.rules.specs.State.{State}
 use Rattle.rules.specs.Calls.{needed}
 use Rattle.layout.specs.Records.{as-id, id-codec, as-message, message-codec, as-bits, bits-codec, as-mark, mark-codec, as-held, held-codec, as-pair, pair-codec, as-kind, kind-codec, as-consumer, consumer-codec, as-topic, topic-codec, as-dispatcher, dispatcher-codec}
-use Rattle.layout.specs.Layout.{as-header, header-codec, as-body, body-codec, header-of, body-of, encode, layout-tag}
+use Rattle.layout.specs.Layout.{as-header, header-codec, as-body, body-codec, encode, layout-tag}
 use Rattle.layout.specs.Whole.{as-state, state-codec}
 
 -- ---- small records
 
+-- an id
 pub width-id : id-codec .width ≡ 2
 unfolding id-codec
 width-id = width-via as-id (width-pair word word width-word width-word)
 
+-- a message
 pub width-message : message-codec .width ≡ 4
 unfolding message-codec
 width-message = width-via as-message (width-pair _ _ width-id (width-pair _ _ width-word width-word))
 
+-- the bits of a mark
 pub width-bits : bits-codec .width ≡ 4
 unfolding bits-codec
 width-bits =
     width-via as-bits (width-pair _ _ (width-pair _ _ width-word width-word) (width-pair _ _ width-word width-word))
 
+-- a mark
 pub width-mark : mark-codec .width ≡ 6
 unfolding mark-codec
 width-mark = width-via as-mark (width-pair _ _ width-flag (width-pair _ _ width-word width-bits))
 
+-- an entry in flight
 pub width-held : held-codec .width ≡ 2
 unfolding held-codec
 width-held = width-via as-held (width-pair _ _ width-word width-word)
 
+-- a pair
 pub width-of-pair : pair-codec .width ≡ 2
 unfolding pair-codec
 width-of-pair = width-via as-pair (width-pair _ _ width-word width-word)
 
+-- a kind
 pub width-kind : kind-codec .width ≡ 1
 unfolding kind-codec
 width-kind = width-via as-kind width-flag
@@ -51,6 +57,7 @@ width-numbers cap = width-upto word cap width-word ∙ omega arith
 
 -- ---- records of a state
 
+-- a consumer
 pub width-consumer : consumer-codec .width ≡ 72
 unfolding consumer-codec
 width-consumer =
@@ -61,6 +68,7 @@ width-consumer =
     (width-pair _ _ width-word
     (width-pair _ _ width-word (width-pair _ _ (width-numbers 64) (width-zeros 1)))))))
 
+-- a topic
 pub width-topic : (e : ℕ) → topic-codec e .width ≡ 4 + 4 * e
 unfolding topic-codec
 width-topic e =
@@ -68,6 +76,7 @@ width-topic e =
     (width-pair _ _ width-word (width-pair _ _ (width-zeros 2) (width-upto message-codec e width-message)))
     ∙ omega arith
 
+-- a dispatcher
 pub width-dispatcher : (e : ℕ) → dispatcher-codec e .width ≡ 176 + 9 * e
 unfolding dispatcher-codec
 width-dispatcher e =
@@ -83,6 +92,7 @@ width-dispatcher e =
 
 -- ---- the store
 
+-- the header
 pub width-header : header-codec .width ≡ 16
 unfolding header-codec
 width-header =
@@ -102,6 +112,7 @@ width-topics e = width-upto (topic-codec e) 8 (width-topic e) ∙ omega arith
 pub width-dispatchers : (e : ℕ) → upto (dispatcher-codec e) 8 .width ≡ 1409 + 72 * e
 width-dispatchers e = width-upto (dispatcher-codec e) 8 (width-dispatcher e) ∙ omega arith
 
+-- the body
 pub width-body : (e : ℕ) → body-codec e .width ≡ 4080 + 128 * e
 unfolding body-codec
 width-body e =
@@ -117,8 +128,9 @@ width-state e = width-via (as-state e) (width-pair _ _ width-header (width-body 
 
 -- a state's spelling is that of the codec of its E
 pub encode-is : (s : State) → encode s ≡ state-codec (s .entries) .enc s
-unfolding encode state-codec Rattle.words.specs.Codec.via Rattle.words.specs.Codec.pair
+unfolding encode state-codec via pair
 encode-is s = refl
 
+-- a spelling has the words that are needed
 pub length-encode : (s : State) → length (encode s) ≡ needed (s .entries)
 length-encode s = ap length (encode-is s) ∙ state-codec (s .entries) .len s ∙ width-state (s .entries)

@@ -5,26 +5,33 @@ use mathlib.Core.Bool.{Bool}
 use mathlib.Core.List.{List, []}
 use lib.ListN.{getD, set}
 use Rattle.bits.specs.declared.UnackedBits.{UnackedBits}
-use Rattle.rules.specs.State.{Id, StoredMessage, Topic, Pair, Kind, Consumer, Acked, Mark, Held, Dispatcher, State, with-topics, with-consumers, with-dispatchers}
+use Rattle.rules.specs.State.{Id, StoredMessage, Topic, Pair, Kind, Consumer, Mark, Held, Dispatcher, State, with-topics, with-consumers, with-dispatchers}
 use Rattle.rules.specs.State.Kind.{plain}
+use Rattle.layout.specs.Layout.{decode, put}
 
 -- ---- records of zeros
 
+-- an id
 abbrev pub zero-id : Id
 zero-id = record { ledger = 0; entry = 0 }
 
+-- a pair
 abbrev pub zero-pair : Pair
 zero-pair = record { topic = 0; subscription = 0 }
 
+-- an entry in flight
 abbrev pub zero-held : Held
 zero-held = record { holder = 0; position = 0 }
 
+-- a consumer
 abbrev pub zero-consumer : Consumer
 zero-consumer = record { id = 0; pair = zero-pair; kind = plain; permits = 0; cursor = 0; nacked = [] }
 
+-- a topic
 abbrev pub zero-topic : Topic
 zero-topic = record { number = 0; messages = [] }
 
+-- a dispatcher
 abbrev pub zero-dispatcher : Dispatcher
 zero-dispatcher =
     record {
@@ -66,32 +73,66 @@ set-topic s t x = with-topics s (set (s .topics) t x)
 unfoldable pub set-dispatcher : State → ℕ → Dispatcher → State
 set-dispatcher s d x = with-dispatchers s (set (s .dispatchers) d x)
 
+-- ---- in words
+
+-- consumer i of the state that words decode to
+abbrev pub consumer-now : List ℕ → ℕ → Consumer
+consumer-now ws i = consumer-nth (decode ws) i
+
+-- topic t
+abbrev pub topic-now : List ℕ → ℕ → Topic
+topic-now ws t = topic-nth (decode ws) t
+
+-- dispatcher d
+abbrev pub dispatcher-now : List ℕ → ℕ → Dispatcher
+dispatcher-now ws d = dispatcher-nth (decode ws) d
+
+-- words with another consumer i in that state
+abbrev pub put-consumer-at : List ℕ → ℕ → Consumer → List ℕ
+put-consumer-at ws i c = put ws (set-consumer (decode ws) i c)
+
+-- another topic t
+abbrev pub put-topic-at : List ℕ → ℕ → Topic → List ℕ
+put-topic-at ws t x = put ws (set-topic (decode ws) t x)
+
+-- another dispatcher d
+abbrev pub put-dispatcher-at : List ℕ → ℕ → Dispatcher → List ℕ
+put-dispatcher-at ws d x = put ws (set-dispatcher (decode ws) d x)
+
 -- ---- a record with one field changed, where the rules have no name for it
 
+-- a consumer with another id
 unfoldable pub with-id : Consumer → ℕ → Consumer
 with-id c v =
     record { id = v; pair = c .pair; kind = c .kind; permits = c .permits; cursor = c .cursor; nacked = c .nacked }
 
+-- a consumer with another pair
 unfoldable pub with-pair : Consumer → Pair → Consumer
 with-pair c v =
     record { id = c .id; pair = v; kind = c .kind; permits = c .permits; cursor = c .cursor; nacked = c .nacked }
 
+-- a consumer of another kind
 unfoldable pub with-kind : Consumer → Kind → Consumer
 with-kind c v =
     record { id = c .id; pair = c .pair; kind = v; permits = c .permits; cursor = c .cursor; nacked = c .nacked }
 
+-- a pair of another topic
 unfoldable pub of-topic : Pair → ℕ → Pair
 of-topic p v = record { topic = v; subscription = p .subscription }
 
+-- a pair of another subscription
 unfoldable pub of-subscription : Pair → ℕ → Pair
 of-subscription p v = record { topic = p .topic; subscription = v }
 
+-- a topic with another number
 unfoldable pub with-number : Topic → ℕ → Topic
 with-number t v = record { number = v; messages = t .messages }
 
+-- a topic with other messages
 unfoldable pub with-messages : Topic → List StoredMessage → Topic
 with-messages t l = record { number = t .number; messages = l }
 
+-- a dispatcher of another pair
 unfoldable pub for-pair : Dispatcher → Pair → Dispatcher
 for-pair d v =
     record {
@@ -107,11 +148,14 @@ for-pair d v =
       outside = d .outside;
     }
 
+-- a mark with another complete flag
 unfoldable pub with-complete : Mark → Bool → Mark
 with-complete m v = record { acked = record { complete = v; unacked = m .acked .unacked }; redelivery-count = m .redelivery-count }
 
+-- a mark with another redelivery count
 unfoldable pub with-count : Mark → ℕ → Mark
 with-count m v = record { acked = m .acked; redelivery-count = v }
 
+-- a mark with other bits
 unfoldable pub with-bits : Mark → UnackedBits → Mark
 with-bits m v = record { acked = record { complete = m .acked .complete; unacked = v }; redelivery-count = m .redelivery-count }

@@ -6,3 +6,4 @@ pub mod Whole
 pub mod Canon
 pub mod Check
 pub mod Fields
+pub mod Placed

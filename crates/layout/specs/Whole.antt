@@ -2,8 +2,7 @@
 -- state: `Shaped`, that E is in its range and every list fits its slots. A valid state is shaped, and so is whatever words
 -- decode to.
 use Prim.Native.Nat.{ℕ, _≤_}
-use mathlib.Core.Path.{_≡_, refl}
-use mathlib.Core.List.{List}
+use mathlib.Core.Path.{refl}
 use lib.ListN.{length}
 use Rattle.words.specs.Codec.{Codec, Change, pair, via, All}
 use Rattle.rules.specs.State.{Topic, Consumer, Dispatcher, State}

@@ -6,4 +6,5 @@ pub mod Spelt
 pub mod Parts
 pub mod Tables
 pub mod Finding
+pub mod Headers
 pub mod Ledgers

@@ -2,5 +2,6 @@
 // records in and out of the words by value. docs/STORE.md has the layout.
 pub mod canonical;
 pub mod find;
+pub mod header;
 pub mod open;
 pub mod stretch;
