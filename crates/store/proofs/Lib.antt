@@ -7,4 +7,5 @@ pub mod Parts
 pub mod Tables
 pub mod Finding
 pub mod Headers
+pub mod Lookups
 pub mod Ledgers

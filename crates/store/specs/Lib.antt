@@ -1,3 +1,4 @@
 pub mod Canonical
 pub mod Find
+pub mod Lookup
 pub mod Open

@@ -3,5 +3,7 @@
 pub mod canonical;
 pub mod find;
 pub mod header;
+pub mod lookup;
+pub mod offsets;
 pub mod open;
 pub mod stretch;

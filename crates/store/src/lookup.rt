@@ -1,0 +1,28 @@
+// The live consumer with an id: what flow, ack, seek and redeliver look for first.
+use super::stretch::word;
+ghost use mathlib.Core.Path.{_≡_};
+ghost use Rattle.layout.specs.Layout.{decode};
+ghost use Rattle.layout.specs.Canon.{Canon-store};
+ghost use Rattle.store.specs.Lookup.{looked-up};
+
+// Where a consumer stands, or that it is not live.
+pub enum Lookup {
+    Live(usize),
+    Missing,
+}
+
+// The slot of the live consumer with an id.
+pub fn find_consumer(store: &[u64], e: usize, id: u64) -> Lookup
+    requires { ⌜ Canon-store e (now store) ⌝ }
+    ensures { λ r. ⌜ r ≡ looked-up id (decode (now (store .entry)) .consumers) ⌝ }
+{
+    let n = word(store, 16);
+    let mut i = 0;
+    while i < n {
+        if store[17 + i * 72] == id {
+            return Lookup::Live(i);
+        }
+        i += 1;
+    }
+    Lookup::Missing
+}
