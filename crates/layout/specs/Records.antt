@@ -105,6 +105,7 @@ abbrev pub flag-of : Kind → Bool
 flag-of plain = false
 flag-of shared = true
 
+-- a kind comes back as it was
 pub kind-back : (k : Kind) → kind-of (flag-of k) ≡ k
 kind-back plain = refl
 kind-back shared = refl

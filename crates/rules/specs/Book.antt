@@ -58,6 +58,7 @@ updated same f k a j = cond (same j k) a (f j)
 
 -- ---- a book with one thing changed
 
+-- another list of a topic
 unfoldable pub with-list : Book → ℕ → List StoredMessage → Book
 with-list b n l =
     record {
@@ -69,6 +70,7 @@ with-list b n l =
       acked = b .acked;
     }
 
+-- an id that is someone else now
 unfoldable pub with-who : Book → ℕ → Who → Book
 with-who b i w =
     record {
@@ -80,6 +82,7 @@ with-who b i w =
       acked = b .acked;
     }
 
+-- other ids attached to a pair
 unfoldable pub with-attached-ids : Book → Pair → List ℕ → Book
 with-attached-ids b p l =
     record {
@@ -91,6 +94,7 @@ with-attached-ids b p l =
       acked = b .acked;
     }
 
+-- a pair that a shared subscribe made, once
 unfoldable pub with-pair : Book → Pair → Book
 with-pair b p =
     record {
@@ -102,6 +106,7 @@ with-pair b p =
       acked = b .acked;
     }
 
+-- an id that was handed out for a pair
 unfoldable pub with-handed-out : Book → Pair → Id → Book
 with-handed-out b p i =
     record {
@@ -113,6 +118,7 @@ with-handed-out b p i =
       acked = b .acked;
     }
 
+-- how far ids are acknowledged for a pair
 unfoldable pub with-acked : Book → Pair → (Id → Acked) → Book
 with-acked b p f =
     record {

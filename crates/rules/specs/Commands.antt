@@ -227,5 +227,6 @@ unfoldable pub close-found : State → Option Consumer → Outcome
 close-found s none = done (closed false) s
 close-found s (some c) = close-consumer s c
 
+-- the close of the consumer with an id
 unfoldable pub close : State → ℕ → Outcome
 close s i = close-found s (consumer-of s i)

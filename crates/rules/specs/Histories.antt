@@ -47,6 +47,7 @@ three-consumers = shared-1 7 ∷ shared-1 8 ∷ shared-1 9 ∷ Flow 7 2 ∷ Flow
 abbrev pub full-ring : List Call
 full-ring = each 32 shared-1
 
+-- the rows
 unfoldable pub histories : List Row
 histories =
     -- three consumers in turn

@@ -21,17 +21,19 @@ above-zero p = ltb zero-permits p
 unfoldable pub less : ℕ → ℕ → ℕ
 less total p = total + zero-permits - p
 
--- the least and the most permits of a consumer: -255 and 2 ^ 40
+-- the least permits of a consumer: -255
 abbrev pub least-permits : ℕ
 least-permits = zero-permits - 255
 
+-- the most permits of a consumer: 2 ^ 40
 abbrev pub most-permits : ℕ
 most-permits = zero-permits + 2 ^ 40
 
--- the least and the most total of a dispatcher: -2 ^ 60 and 2 ^ 60
+-- the least total of a dispatcher: -2 ^ 60
 abbrev pub least-total : ℕ
 least-total = zero-permits - 2 ^ 60
 
+-- the most total of a dispatcher: 2 ^ 60
 abbrev pub most-total : ℕ
 most-total = zero-permits + 2 ^ 60
 

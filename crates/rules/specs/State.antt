@@ -135,12 +135,15 @@ new-dispatcher p n =
 
 -- ---- found by number, id or pair
 
+-- topics are found by number
 abbrev pub by-number : Key Topic ℕ
 by-number = record { key = λ t. t .number; same = eqb }
 
+-- consumers are found by id
 abbrev pub by-id : Key Consumer ℕ
 by-id = record { key = λ c. c .id; same = eqb }
 
+-- dispatchers are found by pair
 abbrev pub by-pair : Key Dispatcher Pair
 by-pair = record { key = λ d. d .pair; same = same-pair }
 
@@ -171,6 +174,7 @@ unfoldable pub insert : Consumer → List Consumer → List Consumer
 insert c [] = c ∷ []
 insert c (d ∷ l) = cond (ltb (c .id) (d .id)) (c ∷ d ∷ l) (cond (eqb (c .id) (d .id)) (c ∷ l) (d ∷ insert c l))
 
+-- a state with other topics
 unfoldable pub with-topics : State → List Topic → State
 with-topics s l =
     record {
@@ -182,6 +186,7 @@ with-topics s l =
       dispatchers = s .dispatchers;
     }
 
+-- a state with other consumers
 unfoldable pub with-consumers : State → List Consumer → State
 with-consumers s l =
     record {
@@ -193,6 +198,7 @@ with-consumers s l =
       dispatchers = s .dispatchers;
     }
 
+-- a state with other dispatchers
 unfoldable pub with-dispatchers : State → List Dispatcher → State
 with-dispatchers s l =
     record {

@@ -27,6 +27,7 @@ is-word n = ltb n (2 ^ 64)
 unfoldable pub valid-id : Id → Bool
 valid-id i = is-word (i .ledger) && is-word (i .entry)
 
+-- the same as a proposition
 pub record Valid-id (i : Id) : Type 0 where
   pub ledger-word : i .ledger < 2 ^ 64
   pub entry-word : i .entry < 2 ^ 64
@@ -35,6 +36,7 @@ pub record Valid-id (i : Id) : Type 0 where
 unfoldable pub valid-message : StoredMessage → Bool
 valid-message m = valid-id (m .id) && is-word (m .handle) && leb (m .batch-size) 256
 
+-- the same as a proposition
 pub record Valid-message (m : StoredMessage) : Type 0 where
   pub id-words : Valid-id (m .id)
   pub handle-word : m .handle < 2 ^ 64
@@ -46,6 +48,7 @@ valid-topic e t =
     is-byte (t .number) && leb 1 (length (t .messages)) && leb (length (t .messages)) e
     && all valid-message (t .messages) && distinct same-id (map (λ (m : StoredMessage). m .id) (t .messages))
 
+-- the same as a proposition
 pub record Valid-topic (e : ℕ) (t : Topic) : Type 0 where
   pub number-byte : t .number < 256
   pub some-entry : 1 ≤ length (t .messages)
@@ -58,6 +61,7 @@ unfoldable pub ascending : List Consumer → Bool
 ascending [] = true
 ascending (c ∷ l) = all (λ (d : Consumer). ltb (c .id) (d .id)) l && ascending l
 
+-- the same as a proposition
 unfoldable pub Ascending : List Consumer → Type 0
 Ascending [] = Unit {0}
 Ascending (c ∷ l) = Every (λ (d : Consumer). c .id < d .id) l × Ascending l
@@ -72,6 +76,7 @@ valid-consumer s c =
     && leb (length (c .nacked)) 64 && all (λ (k : ℕ). ltb k (length (ledger-of s (c .pair .topic)))) (c .nacked)
     && by-kind (c .kind) true (member (c .id) (dispatcher s (c .pair) .attached))
 
+-- the same as a proposition
 pub record Valid-consumer (s : State) (c : Consumer) : Type 0 where
   pub id-word : c .id < 2 ^ 64
   pub topic-byte : c .pair .topic < 256
@@ -90,6 +95,7 @@ valid-mark m k =
     && cond (ltb 1 (m .batch-size)) (bits-below (m .batch-size) (words (k .acked .unacked)))
     (bits-empty (words (k .acked .unacked)))
 
+-- the same as a proposition
 pub record Valid-mark (m : StoredMessage) (k : Mark) : Type 0 where
   pub count-range : k .redelivery-count < 2 ^ 32
   pub no-bits-below-2 : m .batch-size ≤ 1 → bits-empty (words (k .acked .unacked)) ≡ true
@@ -102,6 +108,7 @@ valid-marks [] (k ∷ ks) = false
 valid-marks (m ∷ ms) [] = false
 valid-marks (m ∷ ms) (k ∷ ks) = valid-mark m k && valid-marks ms ks
 
+-- the same as a proposition
 pub record Valid-marks (ledger : List StoredMessage) (marks : List Mark) : Type 0 where
   pub one-each : length marks ≡ length ledger
   pub each-mark : (k : ℕ) → k < length ledger → Valid-mark (message-at ledger k) (getD marks k new-mark)
@@ -112,6 +119,7 @@ valid-ring d =
     leb (length (d .attached)) 32 && distinct eqb (d .attached) && all is-word (d .attached)
     && (ltb (d .next) (length (d .attached)) || (is-empty (d .attached) && eqb (d .next) 0))
 
+-- the same as a proposition
 pub record Valid-ring (d : Dispatcher) : Type 0 where
   pub ring-count : length (d .attached) ≤ 32
   pub ring-distinct : Distinct eqb (d .attached)
@@ -126,6 +134,7 @@ valid-places d =
     && distinct eqb (map (λ (h : Held). h .position) (d .in-flight) ++ d .redelivery)
     && all (λ (k : ℕ). ltb k (d .cursor)) (map (λ (h : Held). h .position) (d .in-flight) ++ d .redelivery)
 
+-- the same as a proposition
 pub record Valid-places (d : Dispatcher) : Type 0 where
   pub holders-in-ring : Every (λ (h : Held). List·Memᴰ (h .holder) (d .attached)) (d .in-flight)
   pub places-distinct : Distinct eqb (map (λ (h : Held). h .position) (d .in-flight) ++ d .redelivery)
@@ -136,6 +145,7 @@ unfoldable pub valid-outside : List StoredMessage → List Id → Bool
 valid-outside ledger ids =
     leb (length ids) 64 && distinct same-id ids && all valid-id ids && all (λ (i : Id). not (holds-id i ledger)) ids
 
+-- the same as a proposition
 pub record Valid-outside (ledger : List StoredMessage) (ids : List Id) : Type 0 where
   pub outside-count : length ids ≤ 64
   pub outside-distinct : Distinct same-id ids
@@ -151,6 +161,7 @@ valid-dispatcher s d =
     && valid-places d && valid-marks (ledger-of s (d .pair .topic)) (d .marks)
     && valid-outside (ledger-of s (d .pair .topic)) (d .outside)
 
+-- the same as a proposition
 pub record Valid-dispatcher (s : State) (d : Dispatcher) : Type 0 where
   pub pair-topic-byte : d .pair .topic < 256
   pub pair-subscription-byte : d .pair .subscription < 256
@@ -174,6 +185,7 @@ valid s =
     && leb (length (s .dispatchers)) 8 && distinct same-pair (map (λ (d : Dispatcher). d .pair) (s .dispatchers))
     && all (valid-dispatcher s) (s .dispatchers)
 
+-- what a state obeys: the same as a proposition
 pub record Valid (s : State) : Type 0 where
   pub E-from : 1 ≤ s .entries
   pub E-to : s .entries ≤ 4096

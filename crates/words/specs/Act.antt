@@ -14,6 +14,7 @@ pub record Act : Type 0 where
   pub local : (off : ℕ) (l r : List ℕ) → run (length l + off) (l ++ r) ≡ l ++ run off r
   pub even : (off : ℕ) (ws : List ℕ) → length (run off ws) ≡ length ws
 
+-- a store after some words leaves them as they are
 pub set-local : (v off : ℕ) (l r : List ℕ) → set (l ++ r) (length l + off) v ≡ l ++ set r off v
 set-local v off [] r = rw zero-add
 set-local v off (x ∷ l) r = rw suc-add (ap {B = List ℕ} (λ t. x ∷ t) (set-local v off l r))
@@ -22,6 +23,7 @@ set-local v off (x ∷ l) r = rw suc-add (ap {B = List ℕ} (λ t. x ∷ t) (set
 unfoldable pub store : ℕ → Act
 store v = record { run = λ off ws. set ws off v; local = set-local v; even = λ off ws. length-set ws off v }
 
+-- and so does a run of stores
 pub sets-local : (vs : List ℕ) (off : ℕ) (l r : List ℕ) → sets (l ++ r) (length l + off) vs ≡ l ++ sets r off vs
 sets-local [] off l r = refl
 sets-local (v ∷ vs) off l r = rw (set-local v off l r, ← add-suc (length l) off) (sets-local vs (suc off) l (set r off v))

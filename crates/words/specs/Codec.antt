@@ -85,6 +85,7 @@ abbrev pub bit : Bool → ℕ
 bit false = 0
 bit true = 1
 
+-- a Bool comes back as it was
 pub isSet-bit : (b : Bool) → isSet (bit b) ≡ b
 isSet-bit false = refl
 isSet-bit true = refl

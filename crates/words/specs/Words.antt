@@ -24,6 +24,7 @@ starts (u ∷ us) (w ∷ ws) = eqb w u && starts us ws
 unfoldable pub blank : ℕ → List ℕ → Bool
 blank k ws = starts (replicate k 0) ws
 
+-- it has k words
 pub length-fit : (k : ℕ) (ws : List ℕ) → length (fit k ws) ≡ k
 unfolding fit
 length-fit k ws = simp (length-take, length-append, length-replicate) (omega arith)
