@@ -58,77 +58,34 @@ updated same f k a j = cond (same j k) a (f j)
 
 -- ---- a book with one thing changed
 
+-- the book of these pages
+abbrev pub of-pages : (ℕ → List StoredMessage) → List Pair → (ℕ → Who) → (Pair → List ℕ) → (Pair → Id → Bool) → (Pair → Id → Acked) → Book
+of-pages topics pairs who attached handed-out acked =
+    record { topics = topics; pairs = pairs; who = who; attached = attached; handed-out = handed-out; acked = acked }
+
 -- another list of a topic
 unfoldable pub with-list : Book → ℕ → List StoredMessage → Book
-with-list b n l =
-    record {
-      topics = updated eqb (b .topics) n l;
-      pairs = b .pairs;
-      who = b .who;
-      attached = b .attached;
-      handed-out = b .handed-out;
-      acked = b .acked;
-    }
+with-list b n l = of-pages (updated eqb (b .topics) n l) (b .pairs) (b .who) (b .attached) (b .handed-out) (b .acked)
 
 -- an id that is someone else now
 unfoldable pub with-who : Book → ℕ → Who → Book
-with-who b i w =
-    record {
-      topics = b .topics;
-      pairs = b .pairs;
-      who = updated eqb (b .who) i w;
-      attached = b .attached;
-      handed-out = b .handed-out;
-      acked = b .acked;
-    }
+with-who b i w = of-pages (b .topics) (b .pairs) (updated eqb (b .who) i w) (b .attached) (b .handed-out) (b .acked)
 
 -- other ids attached to a pair
 unfoldable pub with-attached-ids : Book → Pair → List ℕ → Book
-with-attached-ids b p l =
-    record {
-      topics = b .topics;
-      pairs = b .pairs;
-      who = b .who;
-      attached = updated same-pair (b .attached) p l;
-      handed-out = b .handed-out;
-      acked = b .acked;
-    }
+with-attached-ids b p l = of-pages (b .topics) (b .pairs) (b .who) (updated same-pair (b .attached) p l) (b .handed-out) (b .acked)
 
 -- a pair that a shared subscribe made, once
 unfoldable pub with-pair : Book → Pair → Book
-with-pair b p =
-    record {
-      topics = b .topics;
-      pairs = cond (any (same-pair p) (b .pairs)) (b .pairs) (b .pairs ++ p ∷ []);
-      who = b .who;
-      attached = b .attached;
-      handed-out = b .handed-out;
-      acked = b .acked;
-    }
+with-pair b p = of-pages (b .topics) (cond (any (same-pair p) (b .pairs)) (b .pairs) (b .pairs ++ p ∷ [])) (b .who) (b .attached) (b .handed-out) (b .acked)
 
 -- an id that was handed out for a pair
 unfoldable pub with-handed-out : Book → Pair → Id → Book
-with-handed-out b p i =
-    record {
-      topics = b .topics;
-      pairs = b .pairs;
-      who = b .who;
-      attached = b .attached;
-      handed-out = updated same-pair (b .handed-out) p (updated same-id (b .handed-out p) i true);
-      acked = b .acked;
-    }
+with-handed-out b p i = of-pages (b .topics) (b .pairs) (b .who) (b .attached) (updated same-pair (b .handed-out) p (updated same-id (b .handed-out p) i true)) (b .acked)
 
 -- how far ids are acknowledged for a pair
 unfoldable pub with-acked : Book → Pair → (Id → Acked) → Book
-with-acked b p f =
-    record {
-      topics = b .topics;
-      pairs = b .pairs;
-      who = b .who;
-      attached = b .attached;
-      handed-out = b .handed-out;
-      acked = updated same-pair (b .acked) p f;
-    }
+with-acked b p f = of-pages (b .topics) (b .pairs) (b .who) (b .attached) (b .handed-out) (updated same-pair (b .acked) p f)
 
 -- ---- what each call enters
 

@@ -16,117 +16,49 @@ use Rattle.rules.specs.Ledger.{position-of, batch-size-of}
 
 -- ---- a dispatcher with some of its parts changed
 
--- another ring
-unfoldable pub with-attached : Dispatcher → List ℕ → Dispatcher
-with-attached d l =
+-- the dispatcher of these parts
+abbrev pub of-parts : Pair → List ℕ → ℕ → ℕ → ℕ → ℕ → List ℕ → List Held → List Mark → List Id → Dispatcher
+of-parts pair ring next cursor mark-delete total queue held marks ids =
     record {
-      pair = d .pair;
-      attached = l;
-      next = d .next;
-      cursor = d .cursor;
-      mark-delete = d .mark-delete;
-      total-available-permits = d .total-available-permits;
-      redelivery = d .redelivery;
-      in-flight = d .in-flight;
-      marks = d .marks;
-      outside = d .outside;
-    }
-
--- another next slot
-unfoldable pub with-next : Dispatcher → ℕ → Dispatcher
-with-next d n =
-    record {
-      pair = d .pair;
-      attached = d .attached;
-      next = n;
-      cursor = d .cursor;
-      mark-delete = d .mark-delete;
-      total-available-permits = d .total-available-permits;
-      redelivery = d .redelivery;
-      in-flight = d .in-flight;
-      marks = d .marks;
-      outside = d .outside;
-    }
-
--- another cursor
-unfoldable pub with-cursor : Dispatcher → ℕ → Dispatcher
-with-cursor d n =
-    record {
-      pair = d .pair;
-      attached = d .attached;
-      next = d .next;
-      cursor = n;
-      mark-delete = d .mark-delete;
-      total-available-permits = d .total-available-permits;
-      redelivery = d .redelivery;
-      in-flight = d .in-flight;
-      marks = d .marks;
-      outside = d .outside;
-    }
-
--- another mark-delete
-unfoldable pub with-mark-delete : Dispatcher → ℕ → Dispatcher
-with-mark-delete d n =
-    record {
-      pair = d .pair;
-      attached = d .attached;
-      next = d .next;
-      cursor = d .cursor;
-      mark-delete = n;
-      total-available-permits = d .total-available-permits;
-      redelivery = d .redelivery;
-      in-flight = d .in-flight;
-      marks = d .marks;
-      outside = d .outside;
-    }
-
--- another total of permits
-unfoldable pub with-total : Dispatcher → ℕ → Dispatcher
-with-total d n =
-    record {
-      pair = d .pair;
-      attached = d .attached;
-      next = d .next;
-      cursor = d .cursor;
-      mark-delete = d .mark-delete;
-      total-available-permits = n;
-      redelivery = d .redelivery;
-      in-flight = d .in-flight;
-      marks = d .marks;
-      outside = d .outside;
-    }
-
--- another queue and other held entries
-unfoldable pub with-places : Dispatcher → List ℕ → List Held → Dispatcher
-with-places d queue held =
-    record {
-      pair = d .pair;
-      attached = d .attached;
-      next = d .next;
-      cursor = d .cursor;
-      mark-delete = d .mark-delete;
-      total-available-permits = d .total-available-permits;
+      pair = pair;
+      attached = ring;
+      next = next;
+      cursor = cursor;
+      mark-delete = mark-delete;
+      total-available-permits = total;
       redelivery = queue;
       in-flight = held;
-      marks = d .marks;
-      outside = d .outside;
-    }
-
--- other marks and other complete ids outside the ledger
-unfoldable pub with-marks : Dispatcher → List Mark → List Id → Dispatcher
-with-marks d marks ids =
-    record {
-      pair = d .pair;
-      attached = d .attached;
-      next = d .next;
-      cursor = d .cursor;
-      mark-delete = d .mark-delete;
-      total-available-permits = d .total-available-permits;
-      redelivery = d .redelivery;
-      in-flight = d .in-flight;
       marks = marks;
       outside = ids;
     }
+
+-- another ring
+unfoldable pub with-attached : Dispatcher → List ℕ → Dispatcher
+with-attached d l = of-parts (d .pair) l (d .next) (d .cursor) (d .mark-delete) (d .total-available-permits) (d .redelivery) (d .in-flight) (d .marks) (d .outside)
+
+-- another next slot
+unfoldable pub with-next : Dispatcher → ℕ → Dispatcher
+with-next d n = of-parts (d .pair) (d .attached) n (d .cursor) (d .mark-delete) (d .total-available-permits) (d .redelivery) (d .in-flight) (d .marks) (d .outside)
+
+-- another cursor
+unfoldable pub with-cursor : Dispatcher → ℕ → Dispatcher
+with-cursor d n = of-parts (d .pair) (d .attached) (d .next) n (d .mark-delete) (d .total-available-permits) (d .redelivery) (d .in-flight) (d .marks) (d .outside)
+
+-- another mark-delete
+unfoldable pub with-mark-delete : Dispatcher → ℕ → Dispatcher
+with-mark-delete d n = of-parts (d .pair) (d .attached) (d .next) (d .cursor) n (d .total-available-permits) (d .redelivery) (d .in-flight) (d .marks) (d .outside)
+
+-- another total of permits
+unfoldable pub with-total : Dispatcher → ℕ → Dispatcher
+with-total d n = of-parts (d .pair) (d .attached) (d .next) (d .cursor) (d .mark-delete) n (d .redelivery) (d .in-flight) (d .marks) (d .outside)
+
+-- another queue and other held entries
+unfoldable pub with-places : Dispatcher → List ℕ → List Held → Dispatcher
+with-places d queue held = of-parts (d .pair) (d .attached) (d .next) (d .cursor) (d .mark-delete) (d .total-available-permits) queue held (d .marks) (d .outside)
+
+-- other marks and other complete ids outside the ledger
+unfoldable pub with-marks : Dispatcher → List Mark → List Id → Dispatcher
+with-marks d marks ids = of-parts (d .pair) (d .attached) (d .next) (d .cursor) (d .mark-delete) (d .total-available-permits) (d .redelivery) (d .in-flight) marks ids
 
 -- ---- what consumers hold
 

@@ -96,108 +96,44 @@ pub record Row : Type 0 where
   pub comes-out : List ℤ
   pub must : List ℤ
 
+-- a row of the table
+abbrev pub row : List ℤ → List ℤ → Row
+row comes-out must = record { comes-out = comes-out; must = must }
+
 -- the rows, in document 01's order
 unfoldable pub readings : List Row
 readings =
     -- K1 batch 65: all ones, then 1
-    record { comes-out = word-numbers (fresh-unacked-bits (word-count 65) 65); must = pos (2 ^ 64 - 1) ∷ pos 1 ∷ [] }
+    row (word-numbers (fresh-unacked-bits (word-count 65) 65)) (pos (2 ^ 64 - 1) ∷ pos 1 ∷ [])
     -- K2 batch 0: no words; batch 1: 1
-    ∷ record { comes-out = word-numbers (fresh-unacked-bits (word-count 0) 0); must = [] }
-    ∷ record { comes-out = word-numbers (fresh-unacked-bits (word-count 1) 1); must = pos 1 ∷ [] }
+    ∷ row (word-numbers (fresh-unacked-bits (word-count 0) 0)) ([])
+    ∷ row (word-numbers (fresh-unacked-bits (word-count 1) 1)) (pos 1 ∷ [])
     -- K3 batch 3, words 5: 2 left; then 2: complete
-    ∷ record {
-      comes-out = entry-1 0 (after false false (append-1 1 0 3 ∷ shared-1 7 ∷ Ack 7 (1 ∷ 0 ∷ 1 ∷ 5 ∷ []) ∷ []));
-      must = pos 2 ∷ pos 0 ∷ pos 0 ∷ [];
-    }
-    ∷ record {
-      comes-out =
-          entry-1 0
-          (after false false
-          (append-1 1 0 3 ∷ shared-1 7 ∷ Ack 7 (1 ∷ 0 ∷ 1 ∷ 5 ∷ []) ∷ Ack 7 (1 ∷ 0 ∷ 1 ∷ 2 ∷ []) ∷ []));
-      must = pos 0 ∷ pos 1 ∷ pos 1 ∷ [];
-    }
+    ∷ row (entry-1 0 (after false false (append-1 1 0 3 ∷ shared-1 7 ∷ Ack 7 (1 ∷ 0 ∷ 1 ∷ 5 ∷ []) ∷ []))) (pos 2 ∷ pos 0 ∷ pos 0 ∷ [])
+    ∷ row (entry-1 0 (after false false (append-1 1 0 3 ∷ shared-1 7 ∷ Ack 7 (1 ∷ 0 ∷ 1 ∷ 5 ∷ []) ∷ Ack 7 (1 ∷ 0 ∷ 1 ∷ 2 ∷ []) ∷ []))) (pos 0 ∷ pos 1 ∷ pos 1 ∷ [])
     -- K4 batch 65, one word of ones: 64 left
-    ∷ record {
-      comes-out =
-          entry-1 0
-          (after false false (append-1 1 0 65 ∷ shared-1 7 ∷ Ack 7 (1 ∷ 0 ∷ 1 ∷ (2 ^ 64 - 1) ∷ []) ∷ []));
-      must = pos 64 ∷ pos 0 ∷ pos 0 ∷ [];
-    }
+    ∷ row (entry-1 0 (after false false (append-1 1 0 65 ∷ shared-1 7 ∷ Ack 7 (1 ∷ 0 ∷ 1 ∷ (2 ^ 64 - 1) ∷ []) ∷ []))) (pos 64 ∷ pos 0 ∷ pos 0 ∷ [])
     -- K5 balance 10, bits 5: 8 after
-    ∷ record {
-      comes-out =
-          then (append-1 1 0 3 ∷ shared-1 7 ∷ Ack 7 (1 ∷ 0 ∷ 1 ∷ 5 ∷ []) ∷ Flow 7 10 ∷ []) (Push 1);
-      must = pos 0 ∷ pos 1 ∷ pos 7 ∷ pos 1 ∷ pos 0 ∷ pos 0 ∷ pos 2 ∷ pos 8 ∷ [];
-    }
+    ∷ row (then (append-1 1 0 3 ∷ shared-1 7 ∷ Ack 7 (1 ∷ 0 ∷ 1 ∷ 5 ∷ []) ∷ Flow 7 10 ∷ []) (Push 1)) (pos 0 ∷ pos 1 ∷ pos 7 ∷ pos 1 ∷ pos 0 ∷ pos 0 ∷ pos 2 ∷ pos 8 ∷ [])
     -- K6 balance 1, batch 100: -99; flow 99 sends none
-    ∷ record {
-      comes-out = then (append-1 1 0 100 ∷ shared-1 7 ∷ Flow 7 1 ∷ []) (Push 1);
-      must = pos 0 ∷ pos 1 ∷ pos 7 ∷ pos 1 ∷ pos 0 ∷ pos 0 ∷ pos 100 ∷ negℤ (pos 99) ∷ [];
-    }
-    ∷ record {
-      comes-out =
-          then (append-1 1 0 100 ∷ append-1 1 1 0 ∷ shared-1 7 ∷ Flow 7 1 ∷ Push 1 ∷ Flow 7 99 ∷ []) (Push 1);
-      must = pos 0 ∷ pos 0 ∷ [];
-    }
+    ∷ row (then (append-1 1 0 100 ∷ shared-1 7 ∷ Flow 7 1 ∷ []) (Push 1)) (pos 0 ∷ pos 1 ∷ pos 7 ∷ pos 1 ∷ pos 0 ∷ pos 0 ∷ pos 100 ∷ negℤ (pos 99) ∷ [])
+    ∷ row (then (append-1 1 0 100 ∷ append-1 1 1 0 ∷ shared-1 7 ∷ Flow 7 1 ∷ Push 1 ∷ Flow 7 99 ∷ []) (Push 1)) (pos 0 ∷ pos 0 ∷ [])
     -- K7 ack unknown (3,4), append it first in its topic: mark-delete stays 0; ack an empty list: 0 to 1
-    ∷ record {
-      comes-out = entry-1 0 (after false false (shared-1 7 ∷ Ack 7 (3 ∷ 4 ∷ 0 ∷ []) ∷ append-1 3 4 0 ∷ []));
-      must = pos 0 ∷ pos 1 ∷ pos 0 ∷ [];
-    }
-    ∷ record {
-      comes-out = then (shared-1 7 ∷ Ack 7 (3 ∷ 4 ∷ 0 ∷ []) ∷ append-1 3 4 0 ∷ []) (Ack 7 []);
-      must = pos 0 ∷ pos 1 ∷ pos 1 ∷ [];
-    }
+    ∷ row (entry-1 0 (after false false (shared-1 7 ∷ Ack 7 (3 ∷ 4 ∷ 0 ∷ []) ∷ append-1 3 4 0 ∷ []))) (pos 0 ∷ pos 1 ∷ pos 0 ∷ [])
+    ∷ row (then (shared-1 7 ∷ Ack 7 (3 ∷ 4 ∷ 0 ∷ []) ∷ append-1 3 4 0 ∷ []) (Ack 7 [])) (pos 0 ∷ pos 1 ∷ pos 1 ∷ [])
     -- K8 ring 7, 8, one permit each, no entry: push sends none, next 1; the next entry goes to 8
-    ∷ record {
-      comes-out = then (shared-1 7 ∷ shared-1 8 ∷ Flow 7 1 ∷ Flow 8 1 ∷ []) (Push 0);
-      must = pos 0 ∷ pos 0 ∷ [];
-    }
-    ∷ record {
-      comes-out = ring-1 (after false false (shared-1 7 ∷ shared-1 8 ∷ Flow 7 1 ∷ Flow 8 1 ∷ Push 0 ∷ []));
-      must = pos 1 ∷ pos 2 ∷ [];
-    }
-    ∷ record {
-      comes-out = then (shared-1 7 ∷ shared-1 8 ∷ Flow 7 1 ∷ Flow 8 1 ∷ Push 0 ∷ append-1 1 0 0 ∷ []) (Push 1);
-      must = pos 0 ∷ pos 1 ∷ pos 8 ∷ pos 1 ∷ pos 0 ∷ pos 0 ∷ pos 1 ∷ pos 0 ∷ [];
-    }
+    ∷ row (then (shared-1 7 ∷ shared-1 8 ∷ Flow 7 1 ∷ Flow 8 1 ∷ []) (Push 0)) (pos 0 ∷ pos 0 ∷ [])
+    ∷ row (ring-1 (after false false (shared-1 7 ∷ shared-1 8 ∷ Flow 7 1 ∷ Flow 8 1 ∷ Push 0 ∷ []))) (pos 1 ∷ pos 2 ∷ [])
+    ∷ row (then (shared-1 7 ∷ shared-1 8 ∷ Flow 7 1 ∷ Flow 8 1 ∷ Push 0 ∷ append-1 1 0 0 ∷ []) (Push 1)) (pos 0 ∷ pos 1 ∷ pos 8 ∷ pos 1 ∷ pos 0 ∷ pos 0 ∷ pos 1 ∷ pos 0 ∷ [])
     -- K9 ids (1,0), (1,3): seek (1,2) gives 1, (1,5) gives 0
-    ∷ record {
-      comes-out =
-          then (append-1 1 0 0 ∷ append-1 1 3 0 ∷ Subscribe 7 plain pair-1 ∷ [])
-          (Seek 7 (to-id (record { ledger = 1; entry = 2 })));
-      must = pos 0 ∷ pos 1 ∷ [];
-    }
-    ∷ record {
-      comes-out =
-          then (append-1 1 0 0 ∷ append-1 1 3 0 ∷ Subscribe 7 plain pair-1 ∷ [])
-          (Seek 7 (to-id (record { ledger = 1; entry = 5 })));
-      must = pos 0 ∷ pos 0 ∷ [];
-    }
+    ∷ row (then (append-1 1 0 0 ∷ append-1 1 3 0 ∷ Subscribe 7 plain pair-1 ∷ []) (Seek 7 (to-id (record { ledger = 1; entry = 2 })))) (pos 0 ∷ pos 1 ∷ [])
+    ∷ row (then (append-1 1 0 0 ∷ append-1 1 3 0 ∷ Subscribe 7 plain pair-1 ∷ []) (Seek 7 (to-id (record { ledger = 1; entry = 5 })))) (pos 0 ∷ pos 0 ∷ [])
     -- K10 7 holds, 8 acks, 7 closes: the next push sends it to 8, whose balance is above 0
-    ∷ record {
-      comes-out =
-          then
-          (append-1 1 0 0 ∷ shared-1 7 ∷ shared-1 8 ∷ Flow 7 1 ∷ Push 1 ∷ Flow 8 2 ∷ Ack 8 (1 ∷ 0 ∷ 0 ∷ []) ∷ Close 7 ∷ [])
-          (Push 1);
-      must = pos 0 ∷ pos 1 ∷ pos 8 ∷ pos 1 ∷ pos 0 ∷ pos 0 ∷ pos 1 ∷ pos 1 ∷ [];
-    }
+    ∷ row (then (append-1 1 0 0 ∷ shared-1 7 ∷ shared-1 8 ∷ Flow 7 1 ∷ Push 1 ∷ Flow 8 2 ∷ Ack 8 (1 ∷ 0 ∷ 0 ∷ []) ∷ Close 7 ∷ []) (Push 1)) (pos 0 ∷ pos 1 ∷ pos 8 ∷ pos 1 ∷ pos 0 ∷ pos 0 ∷ pos 1 ∷ pos 1 ∷ [])
     -- K11 balances 4 and 5: closing the first leaves 5, with leak 1
-    ∷ record {
-      comes-out = ring-1 (after false false (shared-1 7 ∷ shared-1 8 ∷ Flow 7 4 ∷ Flow 8 5 ∷ Close 7 ∷ []));
-      must = pos 0 ∷ pos 5 ∷ [];
-    }
-    ∷ record {
-      comes-out = ring-1 (after true false (shared-1 7 ∷ shared-1 8 ∷ Flow 7 4 ∷ Flow 8 5 ∷ Close 7 ∷ []));
-      must = pos 0 ∷ pos 1 ∷ [];
-    }
+    ∷ row (ring-1 (after false false (shared-1 7 ∷ shared-1 8 ∷ Flow 7 4 ∷ Flow 8 5 ∷ Close 7 ∷ []))) (pos 0 ∷ pos 5 ∷ [])
+    ∷ row (ring-1 (after true false (shared-1 7 ∷ shared-1 8 ∷ Flow 7 4 ∷ Flow 8 5 ∷ Close 7 ∷ []))) (pos 0 ∷ pos 1 ∷ [])
     -- K12 balance 2^40 - 1: flow 1 done, flow 2 gets 9
-    ∷ record {
-      comes-out = then (shared-1 7 ∷ replicate 256 (Flow 7 (2 ^ 32 - 1)) ++ Flow 7 255 ∷ []) (Flow 7 1);
-      must = pos 0 ∷ pos (2 ^ 40) ∷ [];
-    }
-    ∷ record {
-      comes-out = then (shared-1 7 ∷ replicate 256 (Flow 7 (2 ^ 32 - 1)) ++ Flow 7 255 ∷ []) (Flow 7 2);
-      must = pos 9 ∷ [];
-    }
+    ∷ row (then (shared-1 7 ∷ replicate 256 (Flow 7 (2 ^ 32 - 1)) ++ Flow 7 255 ∷ []) (Flow 7 1)) (pos 0 ∷ pos (2 ^ 40) ∷ [])
+    ∷ row (then (shared-1 7 ∷ replicate 256 (Flow 7 (2 ^ 32 - 1)) ++ Flow 7 255 ∷ []) (Flow 7 2)) (pos 9 ∷ [])
     ∷ []

@@ -174,41 +174,29 @@ unfoldable pub insert : Consumer → List Consumer → List Consumer
 insert c [] = c ∷ []
 insert c (d ∷ l) = cond (ltb (c .id) (d .id)) (c ∷ d ∷ l) (cond (eqb (c .id) (d .id)) (c ∷ l) (d ∷ insert c l))
 
--- a state with other topics
-unfoldable pub with-topics : State → List Topic → State
-with-topics s l =
+-- a state with other tables
+abbrev pub with-tables : State → List Topic → List Consumer → List Dispatcher → State
+with-tables s topics consumers dispatchers =
     record {
       entries = s .entries;
       leak-shared-permits-on-churn = s .leak-shared-permits-on-churn;
       live-id-subscribe-is-noop = s .live-id-subscribe-is-noop;
-      topics = l;
-      consumers = s .consumers;
-      dispatchers = s .dispatchers;
+      topics = topics;
+      consumers = consumers;
+      dispatchers = dispatchers;
     }
+
+-- a state with other topics
+unfoldable pub with-topics : State → List Topic → State
+with-topics s l = with-tables s l (s .consumers) (s .dispatchers)
 
 -- a state with other consumers
 unfoldable pub with-consumers : State → List Consumer → State
-with-consumers s l =
-    record {
-      entries = s .entries;
-      leak-shared-permits-on-churn = s .leak-shared-permits-on-churn;
-      live-id-subscribe-is-noop = s .live-id-subscribe-is-noop;
-      topics = s .topics;
-      consumers = l;
-      dispatchers = s .dispatchers;
-    }
+with-consumers s l = with-tables s (s .topics) l (s .dispatchers)
 
 -- a state with other dispatchers
 unfoldable pub with-dispatchers : State → List Dispatcher → State
-with-dispatchers s l =
-    record {
-      entries = s .entries;
-      leak-shared-permits-on-churn = s .leak-shared-permits-on-churn;
-      live-id-subscribe-is-noop = s .live-id-subscribe-is-noop;
-      topics = s .topics;
-      consumers = s .consumers;
-      dispatchers = l;
-    }
+with-dispatchers s l = with-tables s (s .topics) (s .consumers) l
 
 -- a state with a consumer's record put in place, or the consumer added
 unfoldable pub put-consumer : State → Consumer → State
