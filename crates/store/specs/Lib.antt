@@ -1,4 +1,10 @@
+pub mod Below
 pub mod Canonical
+pub mod Dispatchers
 pub mod Find
 pub mod Lookup
+pub mod Marks
 pub mod Open
+pub mod Places
+pub mod Rows
+pub mod ValidConsumers

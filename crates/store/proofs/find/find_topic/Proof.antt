@@ -1,6 +1,6 @@
 -- `store::find::find_topic` meets its contract: the topics are looked at one by one. The loop's invariant: the topic's slot
 -- among those from i on is its slot among all.
-use mathlib.Core.Path.{_≡_, refl, sym, _∙_}
+use mathlib.Core.Path.{_≡_, sym, _∙_}
 use Prim.Native.Nat.{_+_, _*_, _-_, _≤_, _<_}
 use native.Mathlib.Omega.{arith}
 use lib.ListN.{length}
@@ -10,7 +10,7 @@ use Rattle.rules.specs.State.{by-number}
 use Rattle.layout.specs.Layout.{decode}
 use Rattle.layout.specs.Fields.{zero-topic}
 use Rattle.layout.proofs.Gets.{read-topic-count, read-topic-number}
-use Rattle.store.proofs.Rooms.{slot-le}
+use Rattle.store.proofs.Inside.{topic-inside}
 use Rattle.store.proofs.Finding.{Sought, sought-start, sought-here, sought-on, sought-end}
 use Rattle.store.proofs.find.find_topic.Statement.{statement}
 use Rattle.store.proofs.find.find_topic.Tie as tie
@@ -34,10 +34,7 @@ here c = let n = counted (c .before .before) in omega arith
 
 -- and in the store
 inside : (c : tie.In-loop Inv-loop μ-loop) → 2322 + (c .before .loop .i * (4 + 4 * c .before .before .before .before .args .e) + (4 + 4 * c .before .before .before .before .args .e)) ≤ length (c .before .before .before .before .args .store .now)
-inside c =
-    let k = slot-le (c .before .loop .i) _ 8 (4 + 4 * c .before .before .before .before .args .e) (here c) (c .before .before .before .before .pre .shaped .topics-fit) in
-    let l = c .before .before .before .before .pre .long in
-    omega arith
+inside c = topic-inside (c .before .before .before .before .pre) (c .before .loop .i) (here c)
 
 -- src/find.rt:16:9
 word-requires : tie.Need-word-requires Inv-loop μ-loop

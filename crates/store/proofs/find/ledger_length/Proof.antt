@@ -1,5 +1,5 @@
 -- `store::find::ledger_length` meets its contract: the count of the topic's slot, or 0 where there is none.
-use mathlib.Core.Path.{_≡_, refl, sym, ap, _∙_, subst}
+use mathlib.Core.Path.{_≡_, sym, ap, _∙_}
 use mathlib.Core.List.{List}
 use Prim.Native.Nat.{ℕ, _+_, _*_, _≤_, _<_}
 use native.Mathlib.Omega.{arith}
@@ -9,7 +9,7 @@ use Rattle.layout.specs.Layout.{decode}
 use Rattle.layout.specs.Fields.{topic-nth}
 use Rattle.layout.proofs.Gets.{read-topic-count, read-message-count}
 use Rattle.store.specs.Find.{slot}
-use Rattle.store.proofs.Rooms.{slot-le}
+use Rattle.store.proofs.Inside.{topic-inside}
 use Rattle.store.proofs.Ledgers.{ledger-at, ledger-none}
 use borrow.Author.Needs.{needs}
 use Rattle.store.proofs.find.ledger_length.Statement.{statement}
@@ -25,10 +25,7 @@ here c = let e = c .before .word .ensures ∙ read-topic-count (c .before .befor
 
 -- and in the store
 inside : (c : tie.Then1) → 2322 + (c .before .before .find-topic .result * (4 + 4 * c .before .before .before .before .args .e) + (4 + 4 * c .before .before .before .before .args .e)) ≤ length (c .before .before .before .before .args .store .now)
-inside c =
-    let k = slot-le (c .before .before .find-topic .result) _ 8 (4 + 4 * c .before .before .before .before .args .e) (here c) (c .before .before .before .before .pre .shaped .topics-fit) in
-    let l = c .before .before .before .before .pre .long in
-    omega arith
+inside c = topic-inside (c .before .before .before .before .pre) (c .before .before .find-topic .result) (here c)
 
 -- src/find.rt:33:9
 find-topic-requires : tie.Need-find-topic-requires

@@ -1,0 +1,19 @@
+-- `store::rows::repeated` meets its contract: a word above the greatest is not there, and else the rows are looked at.
+use mathlib.Core.Path.{sym}
+use Rattle.store.proofs.Among.{among-above}
+use Rattle.store.proofs.rows.repeated.Statement.{statement}
+use Rattle.store.proofs.rows.repeated.Tie as tie
+
+returns : tie.Need-returns
+returns c =
+    let a = c .before .before .args in
+    sym (among-above (a .store .now) (a .first) (a .width) (a .n) (a .a) (a .greatest) (c .before .before .pre .1) (c .if1 .taken))
+
+row-of-requires : tie.Need-row-of-requires
+row-of-requires c κs = c .before .before .pre .0
+
+returns-2 : tie.Need-returns-2
+returns-2 c = c .row-of .ensures
+
+pub repeated-spec : {M : Type 1} → statement M
+repeated-spec = tie.close (tie.spec returns row-of-requires returns-2)

@@ -1,0 +1,85 @@
+-- `store::valid_dispatchers::dispatchers_valid` meets its contract: the pairs are distinct, and then each dispatcher is valid.
+use borrow.Author.Needs.{needs}
+use mathlib.Core.Path.{_≡_, refl, sym, ap, _∙_}
+use Prim.Native.Nat.{ℕ, _+_, _*_, _≤_}
+use lib.ListN.{length}
+use Rattle.layout.specs.Layout.{decode}
+use Rattle.layout.proofs.Gets.{read-dispatcher-count}
+use Rattle.store.specs.Rows.{twos-distinct}
+use Rattle.store.proofs.Spelt.{fails, passes, answered-no, answered-yes}
+use Rattle.store.proofs.Pairs.{zeros-under, table-room, pairs-reads}
+use Rattle.store.proofs.valid_dispatchers.dispatchers_valid.Statement.{statement}
+use Rattle.store.proofs.valid_dispatchers.dispatchers_valid.Tie as tie
+
+-- there are as many dispatchers as the count says
+counted : (c : tie.After-word) → c .word .result ≡ length (decode (c .before .before .args .store .now) .dispatchers)
+counted c = c .word .ensures ∙ read-dispatcher-count (c .before .before .pre)
+
+-- what was asked of their pairs
+asked : (c : tie.After-twos-distinct) → c .twos-distinct .result
+    ≡ twos-distinct (c .before .before .before .args .store .now) (2355 + 32 * c .before .before .before .args .e) (176 + 9 * c .before .before .before .args .e)
+    (length (decode (c .before .before .before .args .store .now) .dispatchers))
+asked c =
+    c .twos-distinct .ensures
+    ∙ ap (λ (n : ℕ). twos-distinct (c .before .before .before .args .store .now) (2355 + 32 * c .before .before .before .args .e)
+    (176 + 9 * c .before .before .before .args .e) n) (counted (c .before))
+
+mul-word : tie.Need-mul-word
+mul-word c = search needs
+
+add-word : tie.Need-add-word
+add-word c = search needs
+
+word-requires : tie.Need-word-requires
+word-requires c κs = search needs
+
+mul-twos-distinct : tie.Need-mul-twos-distinct
+mul-twos-distinct c = search needs
+
+add-twos-distinct : tie.Need-add-twos-distinct
+add-twos-distinct c = search needs
+
+mul-twos-distinct-2 : tie.Need-mul-twos-distinct-2
+mul-twos-distinct-2 c = search needs
+
+add-twos-distinct-2 : tie.Need-add-twos-distinct-2
+add-twos-distinct-2 c = search needs
+
+twos-distinct-requires : tie.Need-twos-distinct-requires
+twos-distinct-requires c κs =
+    let n = counted c in
+    let r = table-room (c .before .before .pre) in
+    let l : 2355 + 32 * c .before .before .args .e + c .word .result * (176 + 9 * c .before .before .args .e) ≤ length (c .before .before .args .store .now) = rw n r in
+    (search needs, l)
+
+returns : tie.Need-returns
+returns c =
+    fails _ (sym (pairs-reads (c .before .before .before .before .pre)) ∙ answered-no (asked (c .before)) (c .if1 .taken))
+
+slice-aggregate-each-valid : tie.Need-slice-aggregate-each-valid
+slice-aggregate-each-valid c = search needs
+
+each-valid-requires : tie.Need-each-valid-requires
+each-valid-requires c κs = (c .before .before .before .before .before .pre, (counted (c .before .before .before), (refl, zeros-under 4096)))
+
+returns-2 : tie.Need-returns-2
+returns-2 c =
+    passes (sym (pairs-reads (c .before .before .before .before .before .before .before .pre)) ∙ answered-yes (asked (c .before .before .before .before))
+    (c .before .before .before .if1 .left)) (c .before .each-valid .ensures)
+
+pub dispatchers-valid-spec : {M : Type 1} → statement M
+dispatchers-valid-spec =
+    tie.close
+    (tie.spec
+    mul-word
+    add-word
+    word-requires
+    mul-twos-distinct
+    add-twos-distinct
+    mul-twos-distinct-2
+    add-twos-distinct-2
+    twos-distinct-requires
+    returns
+    slice-aggregate-each-valid
+    each-valid-requires
+    returns-2)

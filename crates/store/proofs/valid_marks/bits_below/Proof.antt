@@ -1,0 +1,48 @@
+-- `store::valid_marks::bits_below` meets its contract: each word is at most that of a full batch.
+use borrow.Author.Needs.{needs}
+use mathlib.Core.Path.{_≡_, refl, sym, _∙_}
+use native.Mathlib.Omega.{arith}
+use borrow.Author.Tests.{lt-leb, le-leb}
+use Rattle.bits.specs.Bits.{bits-below}
+use Rattle.bits.specs.Four.{words}
+use Rattle.store.proofs.Spelt.{fails, passes}
+use Rattle.store.proofs.MarkBits.{within, four-below}
+use Rattle.store.proofs.valid_marks.bits_below.Statement.{statement}
+use Rattle.store.proofs.valid_marks.bits_below.Tie as tie
+
+-- the words of the bits against those of a full batch
+parts : (c : tie.After-fresh-unacked-bits) → bits-below (c .before .before .args .batch) (words (c .before .before .args .bits))
+    ≡ within (c .before .before .args .bits) (c .fresh-unacked-bits .result)
+parts c =
+    four-below (c .before .before .args .bits) (c .fresh-unacked-bits .result) (c .before .before .args .batch) (c .before .capped .ensures)
+    (c .fresh-unacked-bits .ensures)
+
+capped-requires : tie.Need-capped-requires
+capped-requires c κs = search needs
+
+fresh-unacked-bits-requires : tie.Need-fresh-unacked-bits-requires
+fresh-unacked-bits-requires c κs = let e = c .capped .ensures in omega arith
+
+returns : tie.Need-returns
+returns c = fails _ (lt-leb _ _ (c .if1 .taken)) ∙ sym (parts (c .before .before .before))
+
+returns-2 : tie.Need-returns-2
+returns-2 c =
+    passes (le-leb _ _ (c .before .before .before .if1 .left)) (fails _ (lt-leb _ _ (c .if2 .taken))) ∙ sym (parts (c .before .before .before .before .before .before))
+
+returns-3 : tie.Need-returns-3
+returns-3 c =
+    passes (le-leb _ _ (c .before .before .before .before .before .before .if1 .left))
+    (passes (le-leb _ _ (c .before .before .before .if2 .left)) (fails _ (lt-leb _ _ (c .if3 .taken)))) ∙ sym
+    (parts (c .before .before .before .before .before .before .before .before .before))
+
+returns-4 : tie.Need-returns-4
+returns-4 c =
+    passes (le-leb _ _ (c .before .before .before .before .before .before .before .before .if1 .left))
+    (passes (le-leb _ _ (c .before .before .before .before .before .if2 .left)) (passes (le-leb _ _ (c .before .before .if3 .left)) refl)) ∙ sym
+    (parts (c .before .before .before .before .before .before .before .before .before .before .before))
+
+pub bits-below-spec : {M : Type 1} → statement M
+bits-below-spec =
+    tie.close
+    (tie.spec capped-requires fresh-unacked-bits-requires returns returns-2 returns-3 returns-4)

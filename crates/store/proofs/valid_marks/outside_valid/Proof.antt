@@ -1,0 +1,47 @@
+-- `store::valid_marks::outside_valid` meets its contract: the ids are distinct, and then none is in the ledger.
+use borrow.Author.Needs.{needs}
+use native.Mathlib.Omega.{arith}
+use Rattle.store.specs.Marks.{outside-right}
+use Rattle.store.proofs.Spelt.{fails, passes, answered-no, answered-yes}
+use Rattle.store.proofs.valid_marks.outside_valid.Statement.{statement}
+use Rattle.store.proofs.valid_marks.outside_valid.Tie as tie
+
+add-word : tie.Need-add-word
+add-word c = search needs
+
+word-requires : tie.Need-word-requires
+word-requires c κs = search needs
+
+add-twos-distinct : tie.Need-add-twos-distinct
+add-twos-distinct c = search needs
+
+twos-distinct-requires : tie.Need-twos-distinct-requires
+twos-distinct-requires c κs = let e = c .word .ensures in (search needs, omega arith)
+
+returns : tie.Need-returns
+unfolding outside-right
+returns c = rw (← c .before .before .word .ensures) (fails _ (answered-no (c .before .twos-distinct .ensures) (c .if1 .taken)))
+
+add-ids-absent : tie.Need-add-ids-absent
+add-ids-absent c = search needs
+
+ids-absent-requires : tie.Need-ids-absent-requires
+ids-absent-requires c κs = let e = c .before .before .word .ensures in (omega arith, search needs)
+
+returns-2 : tie.Need-returns-2
+unfolding outside-right
+returns-2 c =
+    rw (← c .before .before .before .word .ensures) (passes (answered-yes (c .before .before .twos-distinct .ensures) (c .before .if1 .left)) (c .ids-absent .ensures))
+
+pub outside-valid-spec : {M : Type 1} → statement M
+outside-valid-spec =
+    tie.close
+    (tie.spec
+    add-word
+    word-requires
+    add-twos-distinct
+    twos-distinct-requires
+    returns
+    add-ids-absent
+    ids-absent-requires
+    returns-2)

@@ -1,0 +1,35 @@
+-- `store::valid_places::holder_slot` meets its contract: the guessed slot holds the id, or all are looked at.
+use borrow.Author.Needs.{needs}
+use mathlib.Core.Path.{_≡_, sym, _∙_}
+use Prim.Native.Nat.{_+_, _*_}
+use native.Mathlib.Omega.{arith}
+use borrow.Author.Tests.{lt-ltb}
+use Rattle.store.proofs.Among.{among-found}
+use Rattle.store.proofs.valid_places.holder_slot.Statement.{statement}
+use Rattle.store.proofs.valid_places.holder_slot.Tie as tie
+
+add-if2 : tie.Need-add-if2
+add-if2 c = search needs
+
+mul-if2 : tie.Need-mul-if2
+mul-if2 c = search needs
+
+shared-slice-read-if2 : tie.Need-shared-slice-read-if2
+shared-slice-read-if2 c = search needs
+
+returns : tie.Need-returns
+returns c =
+    let a = c .before .before .before .before .args in
+    let e : a .ring + a .guess * 1 ≡ a .ring + a .guess = omega arith in
+    lt-ltb (a .guess) (a .count) (c .before .before .if1 .taken)
+    ∙ sym (among-found (a .store .now) (a .ring) 1 (a .count) (a .guess) (a .id) (c .before .before .if1 .taken) (rw e (c .if2 .taken)))
+
+row-of-requires : tie.Need-row-of-requires
+row-of-requires c κs = (search needs, omega arith)
+
+returns-2 : tie.Need-returns-2
+returns-2 c = c .row-of .ensures
+
+pub holder-slot-spec : {M : Type 1} → statement M
+holder-slot-spec =
+    tie.close (tie.spec add-if2 mul-if2 shared-slice-read-if2 returns row-of-requires returns-2)

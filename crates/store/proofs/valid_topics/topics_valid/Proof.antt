@@ -1,0 +1,153 @@
+-- `store::valid_topics::topics_valid` meets its contract: the topics are tested one by one. The loop's invariant: those before t
+-- have distinct numbers and are valid.
+use mathlib.Core.Path.{_≡_, sym, ap, _∙_}
+use mathlib.Core.Bool.{true, not, _&&_}
+use mathlib.Core.List.{List, map}
+use Prim.Native.Nat.{ℕ, _+_, _*_, _-_, _≤_, _<_}
+use native.Mathlib.Omega.{arith}
+use lib.Dec.{eqb}
+use lib.ListN.{length, getD, take}
+use borrow.Author.Needs.{needs}
+use Rattle.rules.specs.Table.{all, any, distinct}
+use Rattle.rules.specs.State.{Topic, by-number}
+use Rattle.rules.specs.Valid.{valid-topic}
+use Rattle.layout.specs.Layout.{decode}
+use Rattle.layout.specs.Fields.{zero-topic}
+use Rattle.layout.proofs.Gets.{read-topic-count, read-topic-number}
+use Rattle.store.specs.Find.{slot}
+use Rattle.store.proofs.Spelt.{fails, passes, answered-no, answered-yes}
+use Rattle.store.proofs.Inside.{topic-inside}
+use Rattle.store.proofs.Distinct.{slot-seen, slot-new}
+use Rattle.store.proofs.Topics.{topic-steps}
+use Rattle.store.proofs.Prefixes.{Passed, passed-start, passed-stop, passed-turn, passed-end}
+use Rattle.store.proofs.valid_topics.topics_valid.Statement.{statement}
+use Rattle.store.proofs.valid_topics.topics_valid.Tie as tie
+use Rattle.store.proofs.valid_topics.topics_valid.Reads as reads
+use Rattle.store.proofs.valid_topics.topics_valid.Lts as lts
+use Rattle.store.proofs.find.find_topic.Reads as find-topic-reads
+use Rattle.store.proofs.stretch.word.Reads as word-reads
+use Rattle.store.proofs.valid_topics.topic_valid.Reads as topic-valid-reads
+
+abbrev Inv-loop : tie.InvT-loop
+Inv-loop store e n width t₀ t =
+    (t ≤ n)
+    × Passed (λ l. distinct eqb (map (λ (x : Topic). x .number) l) && all (valid-topic e) l) (decode store .topics) t
+
+abbrev μ-loop : tie.MeasureT-loop
+μ-loop store e n width t₀ t = n - t
+
+-- the topics
+abbrev topics : tie.Start Inv-loop μ-loop → List Topic
+topics c = decode (c .args .store .now) .topics
+
+-- there are as many as the count says
+counted : (c : tie.After-word Inv-loop μ-loop) → c .word .result ≡ length (topics (c .before .before))
+counted c = c .word .ensures ∙ read-topic-count (c .before .before .pre)
+
+-- the slot of a turn lies in the table
+here : (c : tie.In-loop Inv-loop μ-loop) → c .before .loop .t < length (topics (c .before .before .before .before))
+here c = let n = counted (c .before .before) in omega arith
+
+-- and in the store
+inside : (c : tie.In-loop Inv-loop μ-loop)
+    → 2322 + (c .before .loop .t * (4 + 4 * c .before .before .before .before .args .e) + (4 + 4 * c .before .before .before .before .args .e)) ≤ length (c .before .before .before .before .args .store .now)
+inside c = topic-inside (c .before .before .before .before .pre) (c .before .loop .t) (here c)
+
+-- where the topic's number is found
+found : (c : tie.After-find-topic Inv-loop μ-loop)
+    → c .find-topic .result ≡ slot by-number (getD (topics (c .before .before .before .before .before .before)) (c .before .before .before .loop .t) zero-topic .number) (topics (c .before .before .before .before .before .before))
+found c =
+    c .find-topic .ensures
+    ∙ ap (λ (k : ℕ). slot by-number k (topics (c .before .before .before .before .before .before))) (read-topic-number (c .before .before .before .before .before .before .pre) (c .before .before .before .loop .t) (here (c .before .before)))
+
+-- a number found at its own slot is new
+new : (c : tie.Else1 Inv-loop μ-loop)
+    → not (any (eqb (getD (topics (c .before .before .before .before .before .before .before)) (c .before .before .before .before .loop .t) zero-topic .number)) (map (λ (x : Topic). x .number) (take (c .before .before .before .before .loop .t) (topics (c .before .before .before .before .before .before .before))))) ≡ true
+new c =
+    ap not (slot-new by-number (getD (topics (c .before .before .before .before .before .before .before)) (c .before .before .before .before .loop .t) zero-topic .number) (topics (c .before .before .before .before .before .before .before)) (c .before .before .before .before .loop .t) (rw (found (c .before)) at (c .if1 .left)))
+
+word-requires : tie.Need-word-requires Inv-loop μ-loop
+word-requires c κs = search needs
+
+mul-width : tie.Need-mul-width Inv-loop μ-loop
+mul-width c = search needs
+
+add-width : tie.Need-add-width Inv-loop μ-loop
+add-width c = search needs
+
+loop-holds : tie.Need-loop-holds Inv-loop μ-loop
+loop-holds c = (search needs, passed-start (topic-steps (c .before .before .args .e)) (topics (c .before .before)))
+
+mul-find-topic : tie.Need-mul-find-topic Inv-loop μ-loop
+mul-find-topic c = let k = inside c in search needs
+
+add-find-topic : tie.Need-add-find-topic Inv-loop μ-loop
+add-find-topic c = let k = inside c in search needs
+
+mul-find-topic-2 : tie.Need-mul-find-topic-2 Inv-loop μ-loop
+mul-find-topic-2 c = let k = inside c in search needs
+
+shared-slice-read-find-topic : tie.Need-shared-slice-read-find-topic Inv-loop μ-loop
+shared-slice-read-find-topic c = let k = inside (c .before) in omega arith
+
+find-topic-requires : tie.Need-find-topic-requires Inv-loop μ-loop
+find-topic-requires c κs = search needs
+
+returns : tie.Need-returns Inv-loop μ-loop
+returns c =
+    let l = topics (c .before .before .before .before .before .before .before) in
+    let t = c .before .before .before .before .loop .t in
+    let h = here (c .before .before .before) in
+    let b : t ≤ length l = omega arith in
+    passed-stop (topic-steps (c .before .before .before .before .before .before .before .args .e)) l t zero-topic h (c .before .before .before .before .loop .inv .1)
+    (sym (fails _ (ap not (slot-seen by-number (getD l t zero-topic .number) l t b (rw (found (c .before)) at (c .if1 .taken))))))
+
+topic-valid-requires : tie.Need-topic-valid-requires Inv-loop μ-loop
+topic-valid-requires c κs = (c .before .before .before .before .before .before .before .pre, here (c .before .before .before))
+
+returns-2 : tie.Need-returns-2 Inv-loop μ-loop
+returns-2 c =
+    passed-stop (topic-steps (c .before .before .before .before .before .before .before .before .before .args .e)) (topics (c .before .before .before .before .before .before .before .before .before)) (c .before .before .before .before .before .before .loop .t) zero-topic (here (c .before .before .before .before .before)) (c .before .before .before .before .before .before .loop .inv .1)
+    (sym (passes (new (c .before .before)) (sym (answered-no (c .before .topic-valid .ensures) (c .if2 .taken)))))
+
+add-t : tie.Need-add-t Inv-loop μ-loop
+add-t c = search needs
+
+loop-less : tie.Need-loop-less Inv-loop μ-loop
+loop-less c = search needs
+
+loop-again : tie.Need-loop-again Inv-loop μ-loop
+loop-again c = (
+  search needs,
+  passed-turn (topic-steps (c .before .before .before .before .before .before .before .before .before .args .e)) (topics (c .before .before .before .before .before .before .before .before .before)) (c .before .before .before .before .before .before .loop .t) zero-topic (here (c .before .before .before .before .before)) (c .before .before .before .before .before .before .loop .inv .1)
+      (sym (passes (new (c .before .before)) (sym (answered-yes (c .before .topic-valid .ensures) (c .if2 .left))))),
+)
+
+returns-3 : tie.Need-returns-3 Inv-loop μ-loop
+returns-3 c =
+    let n = counted (c .before .before) in
+    let l : length (topics (c .before .before .before .before)) ≤ c .before .loop .t = omega arith in
+    passed-end (topic-steps (c .before .before .before .before .args .e)) (topics (c .before .before .before .before)) (c .before .loop .t) l (c .before .loop .inv .1)
+
+pub topics-valid-spec : {M : Type 1} → statement M
+topics-valid-spec =
+    tie.close
+    (tie.spec
+    Inv-loop
+    μ-loop
+    word-requires
+    mul-width
+    add-width
+    loop-holds
+    mul-find-topic
+    add-find-topic
+    mul-find-topic-2
+    shared-slice-read-find-topic
+    find-topic-requires
+    returns
+    topic-valid-requires
+    returns-2
+    add-t
+    loop-less
+    loop-again
+    returns-3)

@@ -1,0 +1,45 @@
+// Whether words spell a state: the check that every call but opening makes first. One pass over the
+// needed words tests that they are spelt as the layout has them; then each record is tested against
+// the rules on states. Nothing is required of the words.
+use super::canonical::body_canonical;
+use super::header::header_right;
+use super::stretch::word;
+use super::valid_consumers::consumers_valid;
+use super::valid_dispatchers::dispatchers_valid;
+use super::valid_topics::topics_valid;
+ghost use mathlib.Core.Path.{_≡_};
+ghost use Rattle.rules.specs.Valid.{valid};
+ghost use Rattle.layout.specs.Layout.{decode};
+ghost use Rattle.layout.specs.Layout as layout;
+ghost use Rattle.layout.specs.Canon.{Canon-store};
+
+// Whether the state that well-spelt words decode to obeys the rules.
+fn state_valid(store: &[u64], e: usize) -> bool
+    requires { ⌜ Canon-store e (now store) ⌝ }
+    ensures { λ r. ⌜ r ≡ valid (decode (now (store .entry))) ⌝ }
+{
+    if !topics_valid(store, e) {
+        return false;
+    }
+    if !consumers_valid(store, e) {
+        return false;
+    }
+    dispatchers_valid(store, e)
+}
+
+// Whether the words spell a state.
+pub fn spells(store: &[u64]) -> bool
+    ensures { λ r. ⌜ r ≡ layout.spells (now (store .entry)) ⌝ }
+{
+    if !header_right(store) {
+        return false;
+    }
+    let e = word(store, 1);
+    if store.len() < 4096 + 128 * e {
+        return false;
+    }
+    if !body_canonical(store, e) {
+        return false;
+    }
+    state_valid(store, e)
+}

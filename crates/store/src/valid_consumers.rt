@@ -1,0 +1,128 @@
+// Whether the consumers that a store spells are valid: ids ascending, topic and subscription bytes,
+// permits in their range, cursor and nacked positions in the ledger, a shared one in its ring. The
+// store is spelt as it should be, so that counts are within their room.
+use super::find::in_ring;
+use super::find::ledger_length;
+use super::stretch::word;
+ghost use mathlib.Core.Path.{_≡_};
+ghost use mathlib.Core.Bool.{true, _&&_};
+ghost use Prim.Native.Nat.{_<_};
+ghost use lib.Dec.{ltb};
+ghost use lib.ListN.{length, take};
+ghost use Rattle.rules.specs.Table.{all};
+ghost use Rattle.rules.specs.State.{Consumer};
+ghost use Rattle.rules.specs.Valid.{ascending, valid-consumer};
+ghost use Rattle.layout.specs.Layout.{decode};
+ghost use Rattle.layout.specs.Canon.{Canon-store};
+ghost use Rattle.layout.specs.Fields.{consumer-nth};
+ghost use Rattle.store.specs.ValidConsumers.{numbers-valid, nacked-valid, places-valid, attached-valid};
+
+// The least and the most permits of a consumer, 2^62 - 255 and 2^62 + 2^40 in excess form.
+const LEAST_PERMITS: u64 = 0x3fff_ffff_ffff_ff01;
+
+const MOST_PERMITS: u64 = 0x4000_0100_0000_0000;
+
+// Whether consumer i's topic and subscription are bytes and its permits in range.
+fn numbers_valid(store: &[u64], e: usize, i: usize) -> bool
+    requires { ⌜ Canon-store e (now store) × (i < length (decode (now store) .consumers)) ⌝ }
+    ensures { λ r. ⌜ r ≡ numbers-valid (consumer-nth (decode (now (store .entry))) i) ⌝ }
+{
+    let at = 17 + i * 72;
+    if 255 < store[at + 1] {
+        return false;
+    }
+    if 255 < store[at + 2] {
+        return false;
+    }
+    if store[at + 4] < LEAST_PERMITS {
+        return false;
+    }
+    store[at + 4] <= MOST_PERMITS
+}
+
+// Whether each nacked position of consumer i is below n.
+fn nacked_valid(store: &[u64], e: usize, i: usize, n: usize) -> bool
+    requires { ⌜ Canon-store e (now store) × (i < length (decode (now store) .consumers)) ⌝ }
+    ensures { λ r. ⌜ r ≡ nacked-valid n (consumer-nth (decode (now (store .entry))) i) ⌝ }
+{
+    let first = 24 + i * 72;
+    let count = word(store, first - 1);
+    let mut j = 0;
+    while j < count {
+        if word(store, first + j) >= n {
+            return false;
+        }
+        j += 1;
+    }
+    true
+}
+
+// Whether consumer i's cursor and nacked positions are in its topic's ledger.
+fn places_valid(store: &[u64], e: usize, i: usize) -> bool
+    requires { ⌜ Canon-store e (now store) × (i < length (decode (now store) .consumers)) ⌝ }
+    ensures { λ r. ⌜ r ≡ places-valid (decode (now (store .entry))) (consumer-nth (decode (now (store .entry))) i) ⌝ }
+{
+    let at = 17 + i * 72;
+    let n = ledger_length(store, e, store[at + 1]);
+    if n < word(store, at + 5) {
+        return false;
+    }
+    nacked_valid(store, e, i, n)
+}
+
+// Whether consumer i, if it is a shared one, is in its dispatcher's ring.
+fn attached_valid(store: &[u64], e: usize, i: usize) -> bool
+    requires { ⌜ Canon-store e (now store) × (i < length (decode (now store) .consumers)) ⌝ }
+    ensures { λ r. ⌜ r ≡ attached-valid (decode (now (store .entry))) (consumer-nth (decode (now (store .entry))) i) ⌝ }
+{
+    let at = 17 + i * 72;
+    if store[at + 3] == 0 {
+        return true;
+    }
+    in_ring(store, e, store[at + 1], store[at + 2], store[at])
+}
+
+// Whether consumer i is valid.
+fn consumer_valid(store: &[u64], e: usize, i: usize) -> bool
+    requires { ⌜ Canon-store e (now store) × (i < length (decode (now store) .consumers)) ⌝ }
+    ensures { λ r. ⌜ r ≡ valid-consumer (decode (now (store .entry))) (consumer-nth (decode (now (store .entry))) i) ⌝ }
+{
+    if !numbers_valid(store, e, i) {
+        return false;
+    }
+    if !places_valid(store, e, i) {
+        return false;
+    }
+    attached_valid(store, e, i)
+}
+
+// Whether consumer i's id is above those of all before it, which ascend: it is if it is above the
+// last of them.
+fn id_ascends(store: &[u64], e: usize, i: usize) -> bool
+    requires { ⌜ Canon-store e (now store) × (i < length (decode (now store) .consumers)) × (ascending (take i (decode (now store) .consumers)) ≡ true) ⌝ }
+    ensures { λ r. ⌜ r ≡ all (λ (c : Consumer). ltb (c .id) (consumer-nth (decode (now (store .entry))) i .id)) (take i (decode (now (store .entry)) .consumers)) ⌝ }
+{
+    if i == 0 {
+        return true;
+    }
+    store[17 + (i - 1) * 72] < store[17 + i * 72]
+}
+
+// Whether the consumers are valid and their ids ascend.
+pub fn consumers_valid(store: &[u64], e: usize) -> bool
+    requires { ⌜ Canon-store e (now store) ⌝ }
+    ensures { λ r. ⌜ r ≡ (ascending (decode (now (store .entry)) .consumers) && all (valid-consumer (decode (now (store .entry)))) (decode (now (store .entry)) .consumers)) ⌝ }
+{
+    let n = word(store, 16);
+    let mut i = 0;
+    while i < n {
+        if !id_ascends(store, e, i) {
+            return false;
+        }
+        if !consumer_valid(store, e, i) {
+            return false;
+        }
+        i += 1;
+    }
+    true
+}

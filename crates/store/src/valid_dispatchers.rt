@@ -1,0 +1,163 @@
+// Whether the dispatchers of a store are valid: pairs distinct, and each dispatcher's head, ring,
+// places, marks and outside ids right. The store is spelt as it should be, so that every count is
+// within its list's room.
+use super::find::find_topic;
+use super::find::ledger_length;
+use super::rows::rows_distinct;
+use super::rows::twos_distinct;
+use super::stretch::word;
+use super::valid_marks::marks_valid;
+use super::valid_marks::outside_valid;
+use super::valid_places::places_valid;
+ghost use mathlib.Core.Path.{_≡_};
+ghost use Prim.Native.Nat.{_+_, _*_, _≤_, _<_};
+ghost use lib.ListN.{length, getD};
+ghost use Rattle.rules.specs.Table.{all};
+ghost use Rattle.rules.specs.State.{by-number};
+ghost use Rattle.rules.specs.Valid.{valid-dispatcher};
+ghost use Rattle.layout.specs.Layout.{decode};
+ghost use Rattle.layout.specs.Canon.{Canon-store};
+ghost use Rattle.layout.specs.Fields.{dispatcher-nth};
+ghost use Rattle.store.specs.Find.{slot};
+ghost use Rattle.store.specs.Places.{Under, Tested};
+ghost use Rattle.store.specs.Dispatchers.{Dispatcher-room, head-right, next-right, ring-right, front-right, rest-right, dispatchers-right};
+
+// The head of the dispatcher at `at`, whose topic has so many entries.
+fn head_valid(store: &[u64], at: usize, entries: usize) -> bool
+    requires { ⌜ at + 6 ≤ length (now store) ⌝ }
+    ensures { λ r. ⌜ r ≡ head-right (now (store .entry)) at entries ⌝ }
+{
+    if 255 < store[at] {
+        return false;
+    }
+    if 255 < store[at + 1] {
+        return false;
+    }
+    if store[at + 5] < 0x3000_0000_0000_0000 {
+        return false;
+    }
+    if 0x5000_0000_0000_0000 < store[at + 5] {
+        return false;
+    }
+    if entries < word(store, at + 3) {
+        return false;
+    }
+    word(store, at + 4) <= entries
+}
+
+// Whether next is a slot of a ring of n, or 0 where the ring is empty.
+fn next_valid(next: usize, n: usize) -> bool
+    ensures { λ r. ⌜ r ≡ next-right next n ⌝ }
+{
+    if n == 0 {
+        return next == 0;
+    }
+    next < n
+}
+
+// The ring of the dispatcher at `at`.
+fn ring_valid(store: &[u64], at: usize) -> bool
+    requires { ⌜ (at + 44 ≤ length (now store)) × (getD (now store) (at + 11) 0 ≤ 32) ⌝ }
+    ensures { λ r. ⌜ r ≡ ring-right (now (store .entry)) at ⌝ }
+{
+    let n = word(store, at + 11);
+    if !rows_distinct(store, at + 12, 1, n) {
+        return false;
+    }
+    next_valid(word(store, at + 2), n)
+}
+
+// What does not look into the ledger: head, ring, places.
+fn front_valid(
+    store: &[u64],
+    e: usize,
+    at: usize,
+    entries: usize,
+    stamps: &mut [u8],
+    stamp: u8,
+) -> bool
+    requires room { ⌜ Dispatcher-room e (now store) at ⌝ }
+    requires most { ⌜ entries ≤ length (now stamps) ⌝ }
+    requires under { ⌜ Under (now stamps) stamp ⌝ }
+    ensures { λ r. ⌜ Tested stamp (now (stamps .exit)) r (front-right (now (store .entry)) e at entries) ⌝ }
+{
+    if !head_valid(store, at, entries) {
+        return false;
+    }
+    if !ring_valid(store, at) {
+        return false;
+    }
+    places_valid(store, e, at, stamps, stamp)
+}
+
+// What does: marks and outside ids.
+fn rest_valid(store: &[u64], e: usize, at: usize, ledger: usize, entries: usize) -> bool
+    requires room { ⌜ Dispatcher-room e (now store) at ⌝ }
+    requires ledger { ⌜ (entries ≤ e) × (ledger + entries * 4 ≤ length (now store)) ⌝ }
+    ensures { λ r. ⌜ r ≡ rest-right (now (store .entry)) e at ledger entries ⌝ }
+{
+    if !marks_valid(
+        store,
+        ledger,
+        entries,
+        at + 176 + 3 * e,
+        word(store, at + 175 + 3 * e),
+    ) {
+        return false;
+    }
+    outside_valid(store, at, ledger, entries)
+}
+
+// Where the ledger of a topic stands.
+fn ledger_at(store: &[u64], e: usize, topic: u64) -> usize
+    requires { ⌜ Canon-store e (now store) ⌝ }
+    ensures { λ r. ⌜ r ≡ 2326 + slot by-number topic (decode (now (store .entry)) .topics) * (4 + 4 * e) ⌝ }
+{
+    2326 + find_topic(store, e, topic) * (4 + 4 * e)
+}
+
+// Dispatcher d.
+fn dispatcher_valid(store: &[u64], e: usize, d: usize, stamps: &mut [u8]) -> bool
+    requires canon { ⌜ Canon-store e (now store) ⌝ }
+    requires there { ⌜ d < length (decode (now store) .dispatchers) ⌝ }
+    requires stamps { ⌜ (length (now stamps) ≡ 4096) × Under (now stamps) (d + 1) ⌝ }
+    ensures { λ r. ⌜ Tested (d + 1) (now (stamps .exit)) r (valid-dispatcher (decode (now (store .entry))) (dispatcher-nth (decode (now (store .entry))) d)) ⌝ }
+{
+    let at = 2355 + 32 * e + d * (176 + 9 * e);
+    let topic = store[at];
+    let entries = ledger_length(store, e, topic);
+    if !front_valid(store, e, at, entries, stamps, (d + 1) as u8) {
+        return false;
+    }
+    rest_valid(store, e, at, ledger_at(store, e, topic), entries)
+}
+
+// Each of the n dispatchers.
+fn each_valid(store: &[u64], e: usize, n: usize, stamps: &mut [u8]) -> bool
+    requires canon { ⌜ Canon-store e (now store) ⌝ }
+    requires count { ⌜ n ≡ length (decode (now store) .dispatchers) ⌝ }
+    requires stamps { ⌜ (length (now stamps) ≡ 4096) × Under (now stamps) 1 ⌝ }
+    ensures { λ r. ⌜ r ≡ all (valid-dispatcher (decode (now (store .entry)))) (decode (now (store .entry)) .dispatchers) ⌝ }
+{
+    let mut d = 0;
+    while d < n {
+        if !dispatcher_valid(store, e, d, stamps) {
+            return false;
+        }
+        d += 1;
+    }
+    true
+}
+
+// The dispatchers of a store.
+pub fn dispatchers_valid(store: &[u64], e: usize) -> bool
+    requires { ⌜ Canon-store e (now store) ⌝ }
+    ensures { λ r. ⌜ r ≡ dispatchers-right (decode (now (store .entry))) ⌝ }
+{
+    let n = word(store, 2354 + 32 * e);
+    if !twos_distinct(store, 2355 + 32 * e, 176 + 9 * e, n) {
+        return false;
+    }
+    let mut stamps = [0u8; 4096];
+    each_valid(store, e, n, &mut stamps)
+}

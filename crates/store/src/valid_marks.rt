@@ -1,0 +1,106 @@
+// A dispatcher's marks and outside ids against the ledger of its topic, which stands from `ledger` on
+// in rows of four words: a mark for each entry, and no outside id among the entries.
+use super::rows::two_among;
+use super::rows::twos_distinct;
+use super::stretch::word;
+use bits::UnackedBits;
+ghost use mathlib.Core.Path.{_≡_};
+ghost use Prim.Native.Nat.{_+_, _*_, _≤_, _<_, min};
+ghost use lib.ListN.{length, getD};
+ghost use Rattle.bits.specs.Bits.{bits-below};
+ghost use Rattle.bits.specs.Four.{words};
+ghost use Rattle.store.specs.Marks.{mark-right, marks-right, absent, outside-right};
+
+// A batch size, or 256 where it is greater.
+fn capped(batch: u64) -> u64
+    ensures { λ r. ⌜ r ≡ min batch 256 ⌝ }
+{
+    if 256 < batch { 256 } else { batch }
+}
+
+// Whether only bits below the batch size are set.
+fn bits_below(bits: UnackedBits, batch: u64) -> bool
+    ensures { λ r. ⌜ r ≡ bits-below batch (words bits) ⌝ }
+{
+    let full = UnackedBits::fresh_unacked_bits(capped(batch));
+    if full.w0 < bits.w0 {
+        return false;
+    }
+    if full.w1 < bits.w1 {
+        return false;
+    }
+    if full.w2 < bits.w2 {
+        return false;
+    }
+    bits.w3 <= full.w3
+}
+
+// Whether the mark at `at` suits an entry of a batch size. Most marks have no bits, and need no look
+// at the size.
+fn mark_valid(store: &[u64], at: usize, batch: u64) -> bool
+    requires { ⌜ at + 6 ≤ length (now store) ⌝ }
+    ensures { λ r. ⌜ r ≡ mark-right (now (store .entry)) at batch ⌝ }
+{
+    if 0xffff_ffff < store[at + 1] {
+        return false;
+    }
+    let bits = UnackedBits {
+        w0: store[at + 2],
+        w1: store[at + 3],
+        w2: store[at + 4],
+        w3: store[at + 5],
+    };
+    if bits.bits_empty() {
+        return true;
+    }
+    if batch <= 1 {
+        return false;
+    }
+    bits_below(bits, batch)
+}
+
+// Whether n marks are one for each entry, and each suits its entry.
+pub fn marks_valid(store: &[u64], ledger: usize, entries: usize, first: usize, n: usize) -> bool
+    requires { ⌜ (ledger + entries * 4 ≤ length (now store)) × (first + entries * 6 ≤ length (now store)) ⌝ }
+    ensures { λ r. ⌜ r ≡ marks-right (now (store .entry)) ledger entries first n ⌝ }
+{
+    if n != entries {
+        return false;
+    }
+    let mut i = 0;
+    while i < n {
+        if !mark_valid(store, first + i * 6, store[ledger + i * 4 + 3]) {
+            return false;
+        }
+        i += 1;
+    }
+    true
+}
+
+// Whether none of n ids stands in the ledger.
+fn ids_absent(store: &[u64], first: usize, n: usize, ledger: usize, entries: usize) -> bool
+    requires { ⌜ (first + n * 2 ≤ length (now store)) × (ledger + entries * 4 ≤ length (now store)) ⌝ }
+    ensures { λ r. ⌜ r ≡ absent (now (store .entry)) first n ledger entries ⌝ }
+{
+    let mut i = 0;
+    while i < n {
+        let at = first + i * 2;
+        if two_among(store, ledger, 4, entries, store[at], store[at + 1]) {
+            return false;
+        }
+        i += 1;
+    }
+    true
+}
+
+// Whether the outside ids of the dispatcher at `at` are distinct and none stands in the ledger.
+pub fn outside_valid(store: &[u64], at: usize, ledger: usize, entries: usize) -> bool
+    requires { ⌜ (getD (now store) (at + 44) 0 ≤ 64) × (at + 176 ≤ length (now store)) × (ledger + entries * 4 ≤ length (now store)) ⌝ }
+    ensures { λ r. ⌜ r ≡ outside-right (now (store .entry)) at ledger entries ⌝ }
+{
+    let n = word(store, at + 44);
+    if !twos_distinct(store, at + 45, 2, n) {
+        return false;
+    }
+    ids_absent(store, at + 45, n, ledger, entries)
+}

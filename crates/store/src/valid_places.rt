@@ -1,0 +1,99 @@
+// The places of a dispatcher: only ring ids hold entries, and a position is in flight or queued at
+// most once and below the cursor. Positions are told apart by stamps in a lent list, one stamp for
+// each dispatcher, so that the list need not be cleared between two.
+use super::rows::row_of;
+use super::stretch::word;
+ghost use mathlib.Core.Path.{_≡_};
+ghost use Prim.Native.Nat.{_+_, _*_, _≤_, _<_};
+ghost use lib.Dec.{ltb};
+ghost use lib.ListN.{length, getD};
+ghost use Rattle.store.specs.Rows.{among};
+ghost use Rattle.store.specs.Places.{holders-right, Under, Placed, Tested, places-right};
+ghost use Rattle.store.specs.Dispatchers.{Dispatcher-room};
+
+// The slot of a holder among the ring's ids; a number from `count` on where it is none of them.
+// `guess` is looked at first.
+fn holder_slot(store: &[u64], ring: usize, count: usize, guess: usize, id: u64) -> usize
+    requires { ⌜ ring + count ≤ length (now store) ⌝ }
+    ensures { λ r. ⌜ ltb r count ≡ among (now (store .entry)) ring 1 count id ⌝ }
+{
+    if guess < count {
+        if store[ring + guess] == id {
+            return guess;
+        }
+    }
+    row_of(store, ring, 1, count, id)
+}
+
+// Whether n entries in flight are held by ring ids. Holders come in the order of the ring, so each is
+// looked for first in the slot after the last one.
+fn holders_in_ring(store: &[u64], ring: usize, count: usize, first: usize, n: usize) -> bool
+    requires { ⌜ (ring + count ≤ length (now store)) × (first + n * 2 ≤ length (now store)) ⌝ }
+    ensures { λ r. ⌜ r ≡ holders-right (now (store .entry)) ring count first n ⌝ }
+{
+    let mut guess = 0;
+    let mut i = 0;
+    while i < n {
+        let slot = holder_slot(store, ring, count, guess, store[first + i * 2]);
+        if count <= slot {
+            return false;
+        }
+        guess = slot + 1;
+        i += 1;
+    }
+    true
+}
+
+// Whether n positions are below the cursor, carry no stamp yet and are distinct; each is stamped.
+fn places_fresh(
+    store: &[u64],
+    first: usize,
+    width: usize,
+    n: usize,
+    cursor: usize,
+    stamps: &mut [u8],
+    stamp: u8,
+) -> bool
+    requires { ⌜ (1 ≤ width) × (first + n * width ≤ length (now store)) × (cursor ≤ length (now stamps)) ⌝ }
+    ensures { λ r. ⌜ Placed (now (store .entry)) first width n cursor stamp (now (stamps .entry)) (now (stamps .exit)) r ⌝ }
+{
+    let mut i = 0;
+    while i < n {
+        let p = word(store, first + i * width);
+        if cursor <= p {
+            return false;
+        }
+        if stamps[p] == stamp {
+            return false;
+        }
+        stamps[p] = stamp;
+        i += 1;
+    }
+    true
+}
+
+// Whether the places of the dispatcher at `at` are right.
+pub fn places_valid(store: &[u64], e: usize, at: usize, stamps: &mut [u8], stamp: u8) -> bool
+    requires room { ⌜ Dispatcher-room e (now store) at ⌝ }
+    requires cursor { ⌜ getD (now store) (at + 3) 0 ≤ length (now stamps) ⌝ }
+    requires under { ⌜ Under (now stamps) stamp ⌝ }
+    ensures { λ r. ⌜ Tested stamp (now (stamps .exit)) r (places-right (now (store .entry)) e at) ⌝ }
+{
+    let cursor = word(store, at + 3);
+    let n = word(store, at + 174 + e);
+    if !holders_in_ring(store, at + 12, word(store, at + 11), at + 175 + e, n) {
+        return false;
+    }
+    if !places_fresh(store, at + 176 + e, 2, n, cursor, stamps, stamp) {
+        return false;
+    }
+    places_fresh(
+        store,
+        at + 174,
+        1,
+        word(store, at + 173),
+        cursor,
+        stamps,
+        stamp,
+    )
+}

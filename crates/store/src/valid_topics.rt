@@ -1,0 +1,119 @@
+// Whether the topics that a store spells are valid: numbers distinct, each a byte, each topic with
+// an entry, batch sizes at most 256, and no id twice in a ledger. The store is spelt as it should
+// be, so that counts are within their room; every word is below 2^64.
+use super::find::find_topic;
+use super::stretch::word;
+ghost use mathlib.Core.Path.{_≡_};
+ghost use mathlib.Core.Bool.{not, _&&_};
+ghost use mathlib.Core.List.{map};
+ghost use Prim.Native.Nat.{_+_, _≤_, _<_};
+ghost use lib.Dec.{eqb};
+ghost use lib.ListN.{length, getD, take};
+ghost use Rattle.rules.specs.Table.{all, any, distinct};
+ghost use Rattle.rules.specs.State.{same-id, StoredMessage, Topic};
+ghost use Rattle.rules.specs.Ledger.{at-or-after};
+ghost use Rattle.rules.specs.Valid.{valid-message, valid-topic};
+ghost use Rattle.layout.specs.Layout.{decode};
+ghost use Rattle.layout.specs.Canon.{Canon-store};
+ghost use Rattle.layout.specs.Fields.{topic-nth};
+
+// Whether the first id is greater than the second: by ledger, then by entry.
+fn is_after(ledger: u64, entry: u64, ledger2: u64, entry2: u64) -> bool
+    ensures { λ r. ⌜ r ≡ not (at-or-after (record { ledger = ledger2; entry = entry2 }) (record { ledger = ledger; entry = entry })) ⌝ }
+{
+    if ledger == ledger2 {
+        return entry2 < entry;
+    }
+    ledger2 < ledger
+}
+
+// Whether the two words at `at` are another id than the given one.
+fn is_other(store: &[u64], at: usize, ledger: u64, entry: u64) -> bool
+    requires { ⌜ at + 1 < length (now store) ⌝ }
+    ensures { λ r. ⌜ r ≡ not (same-id (record { ledger = ledger; entry = entry }) (record { ledger = getD (now (store .entry)) at 0; entry = getD (now (store .entry)) (at + 1) 0 })) ⌝ }
+{
+    if store[at] != ledger {
+        return true;
+    }
+    store[at + 1] != entry
+}
+
+// Whether none of the first m messages of topic t has an id.
+fn is_new(store: &[u64], e: usize, t: usize, m: usize, ledger: u64, entry: u64) -> bool
+    requires { ⌜ Canon-store e (now store) × (t < length (decode (now store) .topics)) × (m ≤ length (topic-nth (decode (now store)) t .messages)) ⌝ }
+    ensures { λ r. ⌜ r ≡ not (any (same-id (record { ledger = ledger; entry = entry })) (map (λ (x : StoredMessage). x .id) (take m (topic-nth (decode (now (store .entry))) t .messages)))) ⌝ }
+{
+    let first = 2326 + t * (4 + 4 * e);
+    let mut j = 0;
+    while j < m {
+        if !is_other(store, first + j * 4, ledger, entry) {
+            return false;
+        }
+        j += 1;
+    }
+    true
+}
+
+// Whether the messages of topic t are valid and no id stands twice. An id greater than all before
+// it is new; only one that is not greater is compared with each of them.
+fn messages_valid(store: &[u64], e: usize, t: usize) -> bool
+    requires { ⌜ Canon-store e (now store) × (t < length (decode (now store) .topics)) ⌝ }
+    ensures { λ r. ⌜ r ≡ (all valid-message (topic-nth (decode (now (store .entry))) t .messages) && distinct same-id (map (λ (x : StoredMessage). x .id) (topic-nth (decode (now (store .entry))) t .messages))) ⌝ }
+{
+    let first = 2326 + t * (4 + 4 * e);
+    let n = word(store, first - 1);
+    let mut ledger = 0;
+    let mut entry = 0;
+    let mut m = 0;
+    while m < n {
+        let at = first + m * 4;
+        if 256 < store[at + 3] {
+            return false;
+        }
+        let x = store[at];
+        let y = store[at + 1];
+        if is_after(x, y, ledger, entry) {
+            ledger = x;
+            entry = y;
+        } else if !is_new(store, e, t, m, x, y) {
+            return false;
+        }
+        m += 1;
+    }
+    true
+}
+
+// Whether topic t is valid.
+fn topic_valid(store: &[u64], e: usize, t: usize) -> bool
+    requires { ⌜ Canon-store e (now store) × (t < length (decode (now store) .topics)) ⌝ }
+    ensures { λ r. ⌜ r ≡ valid-topic e (topic-nth (decode (now (store .entry))) t) ⌝ }
+{
+    let at = 2322 + t * (4 + 4 * e);
+    if 255 < store[at] {
+        return false;
+    }
+    if store[at + 3] < 1 {
+        return false;
+    }
+    messages_valid(store, e, t)
+}
+
+// Whether the topics are valid and their numbers distinct: each is found at its own slot.
+pub fn topics_valid(store: &[u64], e: usize) -> bool
+    requires { ⌜ Canon-store e (now store) ⌝ }
+    ensures { λ r. ⌜ r ≡ (distinct eqb (map (λ (t : Topic). t .number) (decode (now (store .entry)) .topics)) && all (valid-topic e) (decode (now (store .entry)) .topics)) ⌝ }
+{
+    let n = word(store, 2321);
+    let width = 4 + 4 * e;
+    let mut t = 0;
+    while t < n {
+        if find_topic(store, e, store[2322 + t * width]) < t {
+            return false;
+        }
+        if !topic_valid(store, e, t) {
+            return false;
+        }
+        t += 1;
+    }
+    true
+}
