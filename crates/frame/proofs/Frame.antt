@@ -122,6 +122,12 @@ insert-missing c (d ∷ l) h =
     by-test (ltb (c .id) (d .id)) (λ u. rw u)
     (λ u. rw (u, t) (ap (λ (r : List Consumer). d ∷ r) (insert-missing c l (le-of-suc-le-suc h′)))))
 
+-- a place is in the table or just past it
+pub place-le : (i : ℕ) (l : List Consumer) → place i l ≤ length l
+unfolding place
+place-le i [] = omega arith
+place-le i (c ∷ l) = let h = place-le i l in by-test (ltb i (c .id)) (λ t. rw t (omega arith)) (λ t. rw t (omega arith))
+
 -- the consumers without the one at a slot
 keep-others : (i : ℕ) (l : List Consumer) → Ascending l → slot by-id i l < length l
     → keep (λ (c : Consumer). not (eqb i (c .id))) l ≡ take (slot by-id i l) l ++ drop (suc (slot by-id i l)) l
@@ -166,6 +172,14 @@ module _ (s : State) (i id : ℕ) (e : i ≡ slot by-id id (s .consumers)) where
   pub live-missing : (f : Consumer → Outcome) → length (s .consumers) ≤ i → with-live s id f ≡ refused 4
   unfolding with-live found-or-4
   live-missing f h = rw (consumer-missing h)
+
+  -- a consumer of such an id that is put in the state has its place
+  pub put-consumer-new : (c : Consumer) → length (s .consumers) ≤ i → c .id ≡ id
+      → put-consumer s c ≡ with-consumers s (take (place (c .id) (s .consumers)) (s .consumers) ++ c ∷ drop (place (c .id) (s .consumers)) (s .consumers))
+  unfolding put-consumer
+  put-consumer-new c h q =
+      let e′ : i ≡ slot by-id (c .id) (s .consumers) = e ∙ ap (λ (j : ℕ). slot by-id j (s .consumers)) (sym q) in
+      ap (with-consumers s) (insert-missing c (s .consumers) (rw e′ at h))
 
   -- a consumer of that id set at its slot is put in the state
   pub set-consumer-put : (c : Consumer) → Valid s → i < length (s .consumers) → c .id ≡ id → set-consumer s i c ≡ put-consumer s c

@@ -1,0 +1,56 @@
+-- `commands::entry::new_entry` meets its contract, by whether the dispatcher is one of the topic.
+use mathlib.Core.Path.{_≡_, sym, ap, _∙_}
+use lib.ListN.{getD}
+use borrow.Author.Needs.{needs}
+use Rattle.layout.specs.Layout.{decode, put}
+use Rattle.rules.specs.State.{Dispatcher}
+use Rattle.layout.specs.Fields.{dispatcher-nth, set-dispatcher}
+use Rattle.layout.proofs.GetsDispatcher.{read-dispatcher-topic}
+use Rattle.ledger.specs.Ids.{id-of}
+use Rattle.commands.proofs.Entries.{entry-there, entry-words-not}
+use Rattle.commands.proofs.entry.new_entry.Statement.{statement}
+use Rattle.commands.proofs.entry.new_entry.Tie as tie
+
+-- the word that is tested is the dispatcher's topic
+topic-here : (c : tie.After-dispatcher-at) → getD (c .before .before .args .store .now) (c .dispatcher-at .result) 0 ≡ dispatcher-nth (decode (c .before .before .args .store .now)) (c .before .before .args .d) .pair .topic
+topic-here c = rw (c .dispatcher-at .ensures) (read-dispatcher-topic (c .before .before .pre .0 .canon) (c .before .before .args .d) (c .before .before .pre .0 .there))
+
+dispatcher-at-requires : tie.Need-dispatcher-at-requires
+dispatcher-at-requires c κs = search needs
+
+mul-if1 : tie.Need-mul-if1
+mul-if1 c = search needs
+
+slice-read-if1 : tie.Need-slice-read-if1
+slice-read-if1 c = search needs
+
+gain-entry-requires : tie.Need-gain-entry-requires
+gain-entry-requires c κs = (c .before .before .before .before .before .pre .0, c .before .before .before .before .before .pre .1 (c .before .if1 .taken ∙ topic-here (c .before .before .before)))
+
+same-length : tie.Need-same-length
+same-length c = search needs
+
+returns : tie.Need-returns
+returns c =
+    let a = c .before .before .before .before .before .before .before .before .args in
+    let s = decode (a .store .now) in
+    c .before .before .gain-entry .ensures
+    ∙ ap (λ (y : Dispatcher). put (a .store .now) (set-dispatcher s (a .d) y))
+    (entry-there (a .topic) (id-of (a .ledger) (a .entry)) (dispatcher-nth s (a .d)) (c .before .before .before .before .if1 .taken ∙ topic-here (c .before .before .before .before .before .before)))
+
+returns-2 : tie.Need-returns-2
+returns-2 c =
+    let a = c .before .before .before .before .args in
+    entry-words-not (a .topic) (id-of (a .ledger) (a .entry)) (a .d) (c .before .before .before .before .pre .0 .canon) (λ q. c .if1 .left (q ∙ sym (topic-here (c .before .before))))
+
+pub new-entry-spec : {M : Type 1} → statement M
+new-entry-spec =
+    tie.close
+    (tie.spec
+    dispatcher-at-requires
+    mul-if1
+    slice-read-if1
+    gain-entry-requires
+    same-length
+    returns
+    returns-2)

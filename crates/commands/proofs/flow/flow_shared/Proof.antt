@@ -1,0 +1,100 @@
+-- `commands::flow::flow_shared` meets its contract: over the limit, or the consumer and then the dispatcher written.
+use mathlib.Core.Path.{refl, sym, ap}
+use Prim.Native.Nat.{ℕ, _+_, _<_}
+use native.Mathlib.Omega.{arith}
+use lib.ListN.{length}
+use Rattle.layout.specs.Layout.{decode}
+use Rattle.layout.specs.Fields.{consumer-nth}
+use Rattle.rules.specs.State.{Dispatcher}
+use Rattle.layout.proofs.Placed.{dispatcher-in, shaped-permits}
+use Rattle.rules.specs.Dispatcher.{with-total}
+use Rattle.rules.specs.Commands.{with-permits}
+use Rattle.frame.proofs.Frame.{refused-with, done-with, value-permits, shared-found, dispatcher-found-valid, dispatcher-still-in, consumer-then-dispatcher}
+use Rattle.commands.proofs.Found.{live-canon, live-in, live-valid, live-slot, live-consumer}
+use Rattle.commands.proofs.Grants.{flow-total-over, flow-shared}
+use borrow.Author.Needs.{needs}
+use Rattle.commands.proofs.flow.flow_shared.Statement.{statement}
+use Rattle.commands.proofs.flow.flow_shared.Tie as tie
+
+-- the dispatcher of the shared consumer is there
+there : (c : tie.After-dispatcher-of) → c .dispatcher-of .result < length (decode (c .before .before .before .args .store .now) .dispatchers)
+there c =
+    let h = c .before .before .before .pre .0 in
+    shared-found (decode (c .before .before .before .args .store .now)) (c .dispatcher-of .result) _ (c .dispatcher-of .ensures) (consumer-nth (decode (c .before .before .before .args .store .now)) (c .before .before .before .args .i)) (live-consumer h) (c .before .before .before .pre .2) refl
+
+dispatcher-of-requires : tie.Need-dispatcher-of-requires
+dispatcher-of-requires c κs = live-in (c .before .before .pre .0)
+
+total-available-permits-requires : tie.Need-total-available-permits-requires
+total-available-permits-requires c κs = dispatcher-in (live-canon (c .before .before .before .before .pre .0)) (c .before .dispatcher-of .result) (there (c .before))
+
+add-total : tie.Need-add-total
+add-total c =
+    let h = c .before .before .before .before .before .pre .0 in
+    let m = dispatcher-found-valid (decode (c .before .before .before .before .before .args .store .now)) (c .before .before .dispatcher-of .result) _ (c .before .before .dispatcher-of .ensures) (live-valid h) (there (c .before .before)) .total-to in
+    let t = c .total-available-permits .ensures in
+    let g = c .before .before .before .before .before .pre .1 in
+    omega arith
+
+same-length : tie.Need-same-length
+same-length c = search needs
+
+returns : tie.Need-returns
+returns c =
+    let a = c .before .before .before .before .before .before .args in
+    let p = c .before .before .before .before .before .before .pre in
+    let h = p .0 in
+    let d = c .before .before .before .dispatcher-of in
+    let t = c .before .total-available-permits in
+    refused-with (a .store .now) _ (h .spelt)
+    (flow-total-over (decode (a .store .now)) (a .i) _ (a .grant) (live-slot h) refl (live-valid h) (h .there) (a .granted) (p .3) (p .4) (p .2)
+    (d .result) (t .result + a .grant) (d .ensures) (there (c .before .before .before)) (ap (λ (n : ℕ). n + a .grant) (t .ensures)) (c .if1 .taken))
+
+set-permits-requires : tie.Need-set-permits-requires
+set-permits-requires c κs = live-in (c .before .before .before .before .before .before .before .pre .0)
+
+set-total-available-permits-requires : tie.Need-set-total-available-permits-requires
+set-total-available-permits-requires c κs =
+    let a = c .before .before .before .before .before .before .before .before .before .before .before .args in
+    let h = c .before .before .before .before .before .before .before .before .before .before .before .pre .0 in
+    dispatcher-still-in (a .store .now) (decode (a .store .now)) (a .i) (c .before .before .before .before .before .before .before .before .dispatcher-of .result) _ (live-canon h .shaped) (sym (h .E))
+    (shaped-permits (consumer-nth (decode (a .store .now)) (a .i)) (a .granted) (live-in h .nacked-fit)) (c .before .before .before .set-permits .ensures) (there (c .before .before .before .before .before .before .before .before))
+
+value-requires : tie.Need-value-requires
+value-requires c κs = search needs
+
+same-length-2 : tie.Need-same-length-2
+same-length-2 c = search needs
+
+returns-2 : tie.Need-returns-2
+returns-2 c =
+    let a = c .before .before .before .before .before .before .before .before .before .before .before .before .before .before .before .args in
+    let p = c .before .before .before .before .before .before .before .before .before .before .before .before .before .before .before .pre in
+    let h = p .0 in
+    let s = decode (a .store .now) in
+    let d = c .before .before .before .before .before .before .before .before .before .before .before .before .dispatcher-of in
+    let t = c .before .before .before .before .before .before .before .before .before .before .total-available-permits in
+    let left = c .before .before .before .before .before .before .before .before .before .if1 .left in
+    done-with (a .store .now) _ (h .spelt) (a .granted) (c .value .result)
+    (flow-shared s (a .i) _ (a .grant) (live-slot h) refl (live-valid h) (h .there) (a .granted) (p .3) (p .4) (p .2)
+    (d .result) (t .result + a .grant) (d .ensures) (there (c .before .before .before .before .before .before .before .before .before .before .before .before)) (ap (λ (n : ℕ). n + a .grant) (t .ensures)) (omega arith))
+    (value-permits (a .granted)) (c .value .ensures)
+    (consumer-then-dispatcher (a .store .now) s (a .i) (d .result) (with-permits (consumer-nth s (a .i)) (a .granted))
+    (λ (x : Dispatcher). with-total x (t .result + a .grant)) (live-canon h .shaped)
+    (shaped-permits (consumer-nth s (a .i)) (a .granted) (live-in h .nacked-fit))
+    (c .before .before .before .before .before .before .before .set-permits .ensures) (c .before .before .before .set-total-available-permits .ensures))
+
+pub flow-shared-spec : {M : Type 1} → statement M
+flow-shared-spec =
+    tie.close
+    (tie.spec
+    dispatcher-of-requires
+    total-available-permits-requires
+    add-total
+    same-length
+    returns
+    set-permits-requires
+    set-total-available-permits-requires
+    value-requires
+    same-length-2
+    returns-2)

@@ -1,0 +1,44 @@
+-- `commands::seek::seek_position` meets its contract: the topic exists, or its ledger is empty.
+use mathlib.Core.Path.{_∙_}
+use Prim.Native.Nat.{_<_}
+use native.Mathlib.Omega.{arith}
+use lib.ListN.{length}
+use Rattle.layout.specs.Layout.{decode}
+use Rattle.layout.proofs.Gets.{read-topic-count}
+use Rattle.layout.proofs.Placed.{topic-in}
+use Rattle.ledger.specs.Ids.{id-of}
+use Rattle.commands.proofs.Seeks.{position-there, position-none}
+use borrow.Author.Needs.{needs}
+use Rattle.commands.proofs.seek.seek_position.Statement.{statement}
+use Rattle.commands.proofs.seek.seek_position.Tie as tie
+
+-- the slot that was found lies in the table
+here : (c : tie.Then1) → c .before .before .find-topic .result < length (decode (c .before .before .before .before .args .store .now) .topics)
+here c = let n = c .before .word .ensures ∙ read-topic-count (c .before .before .before .before .pre) in let t = c .if1 .taken in omega arith
+
+find-topic-requires : tie.Need-find-topic-requires
+find-topic-requires c κs = search needs
+
+word-requires : tie.Need-word-requires
+word-requires c κs = search needs
+
+first-at-or-after-requires : tie.Need-first-at-or-after-requires
+first-at-or-after-requires c κs = topic-in (c .before .before .before .before .pre) (c .before .before .find-topic .result) (here c)
+
+returns : tie.Need-returns
+returns c =
+    let a = c .before .before .before .before .before .args in
+    position-there (decode (a .store .now)) (c .before .before .before .find-topic .result) (a .topic) (c .first-at-or-after .result) (id-of (a .ledger) (a .entry))
+    (c .before .before .before .find-topic .ensures) (here (c .before)) (c .first-at-or-after .ensures)
+
+returns-2 : tie.Need-returns-2
+returns-2 c =
+    let a = c .before .before .before .before .args in
+    let n = c .before .word .ensures ∙ read-topic-count (c .before .before .before .before .pre) in
+    let t = c .if1 .left in
+    position-none (decode (a .store .now)) (c .before .before .find-topic .result) (a .topic) (id-of (a .ledger) (a .entry)) (c .before .before .find-topic .ensures) (omega arith)
+
+pub seek-position-spec : {M : Type 1} → statement M
+seek-position-spec =
+    tie.close
+    (tie.spec find-topic-requires word-requires first-at-or-after-requires returns returns-2)

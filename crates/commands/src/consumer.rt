@@ -1,0 +1,79 @@
+// A live consumer in a store, by its slot: what flow and seek read and write of it.
+use store::find::find_dispatcher;
+use store::offsets::consumer_at;
+use store::stretch::clear_words;
+use store::stretch::word;
+ghost use mathlib.Core.Path.{_≡_};
+ghost use mathlib.Core.List.{[]};
+ghost use Rattle.rules.specs.State.{by-pair};
+ghost use Rattle.rules.specs.Commands.{with-permits, with-reading};
+ghost use Rattle.layout.specs.Records.{flag-of};
+ghost use Rattle.layout.specs.Layout.{decode, put};
+ghost use Rattle.layout.specs.Fields.{consumer-nth, set-consumer};
+ghost use Rattle.layout.specs.Placed.{Consumer-in};
+ghost use Rattle.store.specs.Find.{slot};
+
+// The permits of consumer `i`, in excess form.
+pub fn permits(store: &[u64], e: usize, i: usize) -> u64
+    requires { ⌜ Consumer-in e (now store) i ⌝ }
+    ensures { λ r. ⌜ r ≡ consumer-nth (decode (now (store .entry))) i .permits ⌝ }
+{
+    let at = consumer_at(i);
+    store[at + 4]
+}
+
+// The topic of consumer `i`.
+pub fn topic(store: &[u64], e: usize, i: usize) -> u64
+    requires { ⌜ Consumer-in e (now store) i ⌝ }
+    ensures { λ r. ⌜ r ≡ consumer-nth (decode (now (store .entry))) i .pair .topic ⌝ }
+{
+    let at = consumer_at(i);
+    store[at + 1]
+}
+
+// Whether consumer `i` is a shared one.
+pub fn is_shared(store: &[u64], e: usize, i: usize) -> bool
+    requires { ⌜ Consumer-in e (now store) i ⌝ }
+    ensures { λ r. ⌜ r ≡ flag-of (consumer-nth (decode (now (store .entry))) i .kind) ⌝ }
+{
+    let at = consumer_at(i);
+    store[at + 3] == 1
+}
+
+// The slot of the dispatcher of consumer `i`.
+pub fn dispatcher_of(store: &[u64], e: usize, i: usize) -> usize
+    requires { ⌜ Consumer-in e (now store) i ⌝ }
+    ensures { λ r. ⌜ r ≡ slot by-pair (consumer-nth (decode (now (store .entry))) i .pair) (decode (now (store .entry)) .dispatchers) ⌝ }
+{
+    let at = consumer_at(i);
+    find_dispatcher(store, e, store[at + 1], store[at + 2])
+}
+
+// Consumer `i` gets other permits.
+pub fn set_permits(store: &mut [u64], e: usize, i: usize, permits: u64)
+    requires { ⌜ Consumer-in e (now store) i ⌝ }
+    ensures { λ _. ⌜ now (store .exit) ≡ put (now (store .entry)) (set-consumer (decode (now (store .entry))) i (with-permits (consumer-nth (decode (now (store .entry))) i) permits)) ⌝ }
+{
+    let at = consumer_at(i);
+    store[at + 4] = permits;
+}
+
+// Consumer `i` gets another cursor.
+pub fn set_cursor(store: &mut [u64], e: usize, i: usize, cursor: usize)
+    requires { ⌜ Consumer-in e (now store) i ⌝ }
+    ensures { λ _. ⌜ now (store .exit) ≡ put (now (store .entry)) (set-consumer (decode (now (store .entry))) i (with-reading (consumer-nth (decode (now (store .entry))) i) cursor (consumer-nth (decode (now (store .entry))) i .nacked))) ⌝ }
+{
+    let at = consumer_at(i);
+    store[at + 5] = cursor as u64;
+}
+
+// The nacked entries of consumer `i` are cleared.
+pub fn clear_nacked(store: &mut [u64], e: usize, i: usize)
+    requires { ⌜ Consumer-in e (now store) i ⌝ }
+    ensures { λ _. ⌜ now (store .exit) ≡ put (now (store .entry)) (set-consumer (decode (now (store .entry))) i (with-reading (consumer-nth (decode (now (store .entry))) i) (consumer-nth (decode (now (store .entry))) i .cursor) [])) ⌝ }
+{
+    let at = consumer_at(i);
+    let n = word(store, at + 6);
+    clear_words(store, at + 7, at + 7 + n);
+    store[at + 6] = 0;
+}

@@ -1,0 +1,74 @@
+// Flow: a grant joins the permits of a consumer and, if it is shared, of its dispatcher.
+use super::answers::entries;
+use super::answers::value;
+use super::consumer::dispatcher_of;
+use super::consumer::is_shared;
+use super::consumer::permits;
+use super::consumer::set_permits;
+use dispatcher::total::set_total_available_permits;
+use dispatcher::total::total_available_permits;
+use store::lookup::Lookup;
+use store::lookup::find_consumer;
+ghost use mathlib.Core.Path.{_≡_};
+ghost use mathlib.Core.Bool.{true};
+ghost use Prim.Native.Nat.{_+_, _≤_, _<_, _^_};
+ghost use Rattle.rules.specs.Permits.{most-permits};
+ghost use Rattle.rules.specs.State.Kind.{shared};
+ghost use Rattle.rules.specs.Calls.Call.{Flow};
+ghost use Rattle.layout.specs.Layout.{decode, spells};
+ghost use Rattle.layout.specs.Calls.{answer, after};
+ghost use Rattle.layout.specs.Fields.{consumer-nth};
+ghost use Rattle.commands.specs.Live.{Live};
+
+// The most permits of a consumer, 2^40 in excess form.
+const MOST_PERMITS: u64 = 4_611_687_117_939_015_680;
+
+// The most permits of a dispatcher, 2^60 in excess form.
+const MOST_TOTAL: u64 = 5_764_607_523_034_234_880;
+
+// 4 if not live. 9 if the consumer would pass 2^40 or the dispatcher 2^60. The value is the
+// consumer's permits after.
+pub fn flow(store: &mut [u64], consumer: u64, grant: u32) -> u64
+    requires { ⌜ spells (now store) ≡ true ⌝ }
+    ensures answer { λ r. ⌜ r ≡ answer (now (store .entry)) (Flow consumer grant) ⌝ }
+    ensures words { λ _. ⌜ now (store .exit) ≡ after (now (store .entry)) (Flow consumer grant) ⌝ }
+{
+    let e = entries(store);
+    let Lookup::Live(i) = find_consumer(store, e, consumer) else {
+        return 4;
+    };
+    flow_live(store, e, i, grant as u64)
+}
+
+// A flow of the live consumer `i`.
+fn flow_live(store: &mut [u64], e: usize, i: usize, grant: u64) -> u64
+    requires { ⌜ Live e (now store) i × (grant < 2 ^ 32) ⌝ }
+    ensures answer { λ r. ⌜ r ≡ answer (now (store .entry)) (Flow (consumer-nth (decode (now (store .entry))) i .id) grant) ⌝ }
+    ensures words { λ _. ⌜ now (store .exit) ≡ after (now (store .entry)) (Flow (consumer-nth (decode (now (store .entry))) i .id) grant) ⌝ }
+{
+    let granted = permits(store, e, i) + grant;
+    if MOST_PERMITS < granted {
+        return 9;
+    }
+    if is_shared(store, e, i) {
+        return flow_shared(store, e, i, grant, granted);
+    }
+    set_permits(store, e, i, granted);
+    value(granted)
+}
+
+// A flow of the live shared consumer `i`, which would have the permits `granted`.
+fn flow_shared(store: &mut [u64], e: usize, i: usize, grant: u64, granted: u64) -> u64
+    requires { ⌜ Live e (now store) i × (grant < 2 ^ 32) × (consumer-nth (decode (now store)) i .kind ≡ shared) × (granted ≡ consumer-nth (decode (now store)) i .permits + grant) × (granted ≤ most-permits) ⌝ }
+    ensures answer { λ r. ⌜ r ≡ answer (now (store .entry)) (Flow (consumer-nth (decode (now (store .entry))) i .id) grant) ⌝ }
+    ensures words { λ _. ⌜ now (store .exit) ≡ after (now (store .entry)) (Flow (consumer-nth (decode (now (store .entry))) i .id) grant) ⌝ }
+{
+    let d = dispatcher_of(store, e, i);
+    let total = total_available_permits(store, e, d) + grant;
+    if MOST_TOTAL < total {
+        return 9;
+    }
+    set_permits(store, e, i, granted);
+    set_total_available_permits(store, e, d, total);
+    value(granted)
+}

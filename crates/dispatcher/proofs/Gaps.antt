@@ -1,0 +1,67 @@
+-- Words of a dispatcher's lists as the code reads and writes them.
+use mathlib.Core.Path.{_≡_, ap₂, _∙_}
+use mathlib.Core.Bool.{true}
+use mathlib.Core.List.{List, [], _∷_, _++_}
+use Prim.Native.Nat.{ℕ, _+_, _-_, _*_, _<_}
+use native.Mathlib.Omega.{arith}
+use lib.ListN.{length, getD, set, take, drop}
+use Rattle.words.specs.Act.{down, close, clear, both, past}
+use Rattle.rules.specs.State.{new-mark}
+use Rattle.rules.specs.Dispatcher.{with-marks}
+use Rattle.layout.specs.Layout.{decode, put}
+use Rattle.layout.specs.Offsets.{dispatcher-at, outside-id-in, marks-in, mark-in}
+use Rattle.layout.specs.Fields.{zero-id, dispatcher-nth, set-dispatcher, with-complete}
+use Rattle.layout.specs.Placed.{Dispatcher-in}
+use Rattle.layout.proofs.GetsDispatcher.{read-outside-count, read-outside-ledger, read-outside-entry, read-mark-count}
+use Rattle.layout.proofs.SetsDispatcher as layout
+use Rattle.ledger.specs.Ids.{id-of, id-at}
+
+-- words moved down, and the words that they leave cleared
+pub closed : {us vs : List ℕ} (ws : List ℕ) (at w n : ℕ) → us ≡ down w n .run at ws → vs ≡ clear (at + n + w - (at + n)) .run (at + n) us
+    → vs ≡ close w n .run at ws
+unfolding both past
+closed ws at w n e f =
+    let m : at + n + w - (at + n) ≡ w = omega arith in
+    f ∙ rw (m, e)
+
+module _ {e : ℕ} {ws : List ℕ} (d at : ℕ) (h : Dispatcher-in e ws d) (a : at ≡ dispatcher-at e d) where
+  -- the number of outside ids
+  pub outside-counted : getD ws (at + 44) 0 ≡ length (dispatcher-nth (decode ws) d .outside)
+  outside-counted = rw a (read-outside-count (h .canon) d (h .there))
+
+  -- outside id j
+  pub outside-here : (j : ℕ) → j < length (dispatcher-nth (decode ws) d .outside) → id-at ws (at + 45 + j * 2) ≡ getD (dispatcher-nth (decode ws) d .outside) j zero-id
+  outside-here j l =
+      let n : at + 45 + j * 2 ≡ dispatcher-at e d + outside-id-in j = omega arith in
+      rw n (ap₂ id-of (read-outside-ledger (h .canon) d (h .there) j l) (read-outside-entry (h .canon) d (h .there) j l))
+
+  -- the gap of outside id j closed, then the count lowered
+  pub removed-outside : {us : List ℕ} (j n : ℕ) → j < length (dispatcher-nth (decode ws) d .outside) → n ≡ length (dispatcher-nth (decode ws) d .outside)
+      → us ≡ close 2 ((n - (j + 1)) * 2) .run (at + 45 + j * 2) ws
+      → set us (at + 44) (n - 1) ≡ put ws (set-dispatcher (decode ws) d (with-marks (dispatcher-nth (decode ws) d) (dispatcher-nth (decode ws) d .marks)
+      (take j (dispatcher-nth (decode ws) d .outside) ++ drop (j + 1) (dispatcher-nth (decode ws) d .outside))))
+  removed-outside j n l c w =
+      let to : at + 45 + j * 2 ≡ dispatcher-at e d + outside-id-in j = omega arith in
+      rw (w, to, a, c) (layout.remove-outside (h .canon) d (h .there) j l)
+
+  -- the number of marks
+  pub marks-counted : getD ws (at + 175 + 3 * e) 0 ≡ length (dispatcher-nth (decode ws) d .marks)
+  marks-counted =
+      let n : at + 175 + 3 * e ≡ dispatcher-at e d + marks-in e = omega arith in
+      rw n (read-mark-count (h .canon) d (h .there))
+
+  -- the count of marks raised
+  pub raised-marks : (n : ℕ) → n ≡ length (dispatcher-nth (decode ws) d .marks) → n < e
+      → set ws (at + 175 + 3 * e) (n + 1) ≡ put ws (set-dispatcher (decode ws) d (with-marks (dispatcher-nth (decode ws) d)
+      (dispatcher-nth (decode ws) d .marks ++ new-mark ∷ []) (dispatcher-nth (decode ws) d .outside)))
+  raised-marks n c l =
+      let to : at + 175 + 3 * e ≡ dispatcher-at e d + marks-in e = omega arith in
+      rw (to, c) (layout.raise-marks (h .canon) d (h .there) 1 (omega arith))
+
+  -- mark k complete
+  pub completed-mark : (k : ℕ) → k < length (dispatcher-nth (decode ws) d .marks)
+      → set ws (at + 176 + 3 * e + k * 6) 1 ≡ put ws (set-dispatcher (decode ws) d (with-marks (dispatcher-nth (decode ws) d)
+      (set (dispatcher-nth (decode ws) d .marks) k (with-complete (getD (dispatcher-nth (decode ws) d .marks) k new-mark) true)) (dispatcher-nth (decode ws) d .outside)))
+  completed-mark k l =
+      let to : at + 176 + 3 * e + k * 6 ≡ dispatcher-at e d + mark-in e k = omega arith in
+      rw to (layout.write-mark-complete (h .canon) d (h .there) k l true)

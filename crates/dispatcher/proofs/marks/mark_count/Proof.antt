@@ -1,0 +1,28 @@
+-- `dispatcher::marks::mark_count` meets its contract: the word at its offset.
+use mathlib.Core.Path.{_∙_}
+use Rattle.dispatcher.proofs.Gaps.{marks-counted}
+use borrow.Author.Needs.{needs}
+use Rattle.dispatcher.proofs.marks.mark_count.Statement.{statement}
+use Rattle.dispatcher.proofs.marks.mark_count.Tie as tie
+
+dispatcher-at-requires : tie.Need-dispatcher-at-requires
+dispatcher-at-requires c κs = search needs
+
+add-word : tie.Need-add-word
+add-word c = search needs
+
+mul-word : tie.Need-mul-word
+mul-word c = search needs
+
+add-word-2 : tie.Need-add-word-2
+add-word-2 c = search needs
+
+word-requires : tie.Need-word-requires
+word-requires c κs = search needs
+
+returns : tie.Need-returns
+returns c = c .word .ensures ∙ marks-counted (c .before .before .before .args .d) (c .before .dispatcher-at .result) (c .before .before .before .pre) (c .before .dispatcher-at .ensures)
+
+pub mark-count-spec : {M : Type 1} → statement M
+mark-count-spec =
+    tie.close (tie.spec dispatcher-at-requires add-word mul-word add-word-2 word-requires returns)

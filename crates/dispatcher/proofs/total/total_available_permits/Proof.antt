@@ -1,0 +1,25 @@
+-- `dispatcher::total::total_available_permits` meets its contract: the word at its offset.
+use Rattle.layout.proofs.GetsDispatcher.{read-total}
+use borrow.Author.Needs.{needs}
+use Rattle.dispatcher.proofs.total.total_available_permits.Statement.{statement}
+use Rattle.dispatcher.proofs.total.total_available_permits.Tie as tie
+
+dispatcher-at-requires : tie.Need-dispatcher-at-requires
+dispatcher-at-requires c κs = search needs
+
+add-result : tie.Need-add-result
+add-result c = search needs
+
+mul-result : tie.Need-mul-result
+mul-result c = search needs
+
+shared-slice-read-result : tie.Need-shared-slice-read-result
+shared-slice-read-result c = search needs
+
+returns : tie.Need-returns
+returns c = rw (c .before .dispatcher-at .ensures) (read-total (c .before .before .before .pre .canon) (c .before .before .before .args .d) (c .before .before .before .pre .there))
+
+pub total-available-permits-spec : {M : Type 1} → statement M
+total-available-permits-spec =
+    tie.close
+    (tie.spec dispatcher-at-requires add-result mul-result shared-slice-read-result returns)

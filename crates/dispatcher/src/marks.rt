@@ -1,0 +1,41 @@
+// The marks of a dispatcher, one for each entry of its topic.
+use store::offsets::dispatcher_at;
+use store::stretch::word;
+ghost use mathlib.Core.Path.{_≡_};
+ghost use mathlib.Core.Bool.{true};
+ghost use mathlib.Core.List.{_++_, _∷_, []};
+ghost use Prim.Native.Nat.{_<_};
+ghost use lib.ListN.{length, getD, set};
+ghost use Rattle.rules.specs.State.{new-mark};
+ghost use Rattle.rules.specs.Dispatcher.{with-marks};
+ghost use Rattle.layout.specs.Layout.{decode, put};
+ghost use Rattle.layout.specs.Fields.{dispatcher-nth, set-dispatcher, with-complete};
+ghost use Rattle.layout.specs.Placed.{Dispatcher-in};
+
+// The number of marks of dispatcher `d`.
+pub fn mark_count(store: &[u64], e: usize, d: usize) -> usize
+    requires { ⌜ Dispatcher-in e (now store) d ⌝ }
+    ensures { λ r. ⌜ r ≡ length (dispatcher-nth (decode (now (store .entry))) d .marks) ⌝ }
+{
+    let at = dispatcher_at(e, d);
+    word(store, at + 175 + 3 * e)
+}
+
+// Dispatcher `d`, which has `n` marks and room, gains a new one at their end: the words there are 0
+// already.
+pub fn raise_marks(store: &mut [u64], e: usize, d: usize, n: usize)
+    requires { ⌜ Dispatcher-in e (now store) d × (n ≡ length (dispatcher-nth (decode (now store)) d .marks)) × (n < e) ⌝ }
+    ensures { λ _. ⌜ now (store .exit) ≡ put (now (store .entry)) (set-dispatcher (decode (now (store .entry))) d (with-marks (dispatcher-nth (decode (now (store .entry))) d) (dispatcher-nth (decode (now (store .entry))) d .marks ++ new-mark ∷ []) (dispatcher-nth (decode (now (store .entry))) d .outside))) ⌝ }
+{
+    let at = dispatcher_at(e, d);
+    store[at + 175 + 3 * e] = (n + 1) as u64;
+}
+
+// Mark `k` of dispatcher `d` becomes complete.
+pub fn complete_mark(store: &mut [u64], e: usize, d: usize, k: usize)
+    requires { ⌜ Dispatcher-in e (now store) d × (k < length (dispatcher-nth (decode (now store)) d .marks)) ⌝ }
+    ensures { λ _. ⌜ now (store .exit) ≡ put (now (store .entry)) (set-dispatcher (decode (now (store .entry))) d (with-marks (dispatcher-nth (decode (now (store .entry))) d) (set (dispatcher-nth (decode (now (store .entry))) d .marks) k (with-complete (getD (dispatcher-nth (decode (now (store .entry))) d .marks) k new-mark) true)) (dispatcher-nth (decode (now (store .entry))) d .outside))) ⌝ }
+{
+    let at = dispatcher_at(e, d);
+    store[at + 176 + 3 * e + k * 6] = 1;
+}

@@ -1,0 +1,21 @@
+-- `ledger::topic::message_count` meets its contract: the word at its offset.
+use mathlib.Core.Path.{_∙_}
+use Rattle.ledger.proofs.Positions.{count-here}
+use borrow.Author.Needs.{needs}
+use Rattle.ledger.proofs.topic.message_count.Statement.{statement}
+use Rattle.ledger.proofs.topic.message_count.Tie as tie
+
+topic-at-requires : tie.Need-topic-at-requires
+topic-at-requires c κs = search needs
+
+add-word : tie.Need-add-word
+add-word c = search needs
+
+word-requires : tie.Need-word-requires
+word-requires c κs = search needs
+
+returns : tie.Need-returns
+returns c = c .word .ensures ∙ count-here (c .before .before .before .args .t) (c .before .topic-at .result) (c .before .before .before .pre) (c .before .topic-at .ensures)
+
+pub message-count-spec : {M : Type 1} → statement M
+message-count-spec = tie.close (tie.spec topic-at-requires add-word word-requires returns)
