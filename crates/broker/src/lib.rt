@@ -1,8 +1,18 @@
 // The exports for C: what makers' firmware links. Each takes the store as a slice of words, a
 // pointer and a length, and answers value × 256 + number, the number 0 when done. No export
 // requires anything; the contracts are one equation for the answer and one for every lent slice.
+// Every call but opening first checks that the words spell a state, and answers 1 where they do not.
+use commands::append::append;
+use commands::command::Seek;
+use commands::command::Target;
+use commands::flow::flow;
+use commands::seek::seek;
+use store::check::spells;
 ghost use mathlib.Core.Path.{_≡_};
-ghost use Rattle.layout.specs.Calls.{open-answer, open-after};
+ghost use Rattle.rules.specs.Calls.Call.{Append, Flow, Seek as Seek-call};
+ghost use Rattle.layout.specs.Calls.{answer, after, open-answer, open-after};
+ghost use Rattle.ledger.specs.Ids.{message-of};
+ghost use Rattle.broker.specs.Exports.{target-from};
 
 // Opens a store for `entries` entries per topic; the two switches are off at 0, else on.
 #[no_mangle]
@@ -11,4 +21,68 @@ pub extern "C" fn broker_open(store: &mut [u64], entries: u64, leak: u64, noop: 
     ensures words { λ _. ⌜ now (store .exit) ≡ open-after (now (store .entry)) entries leak noop ⌝ }
 {
     store::open::open(store, entries, leak, noop)
+}
+
+// Appends a message of a batch size to a topic's ledger.
+#[no_mangle]
+pub extern "C" fn broker_append(
+    store: &mut [u64],
+    topic: u8,
+    ledger: u64,
+    entry: u64,
+    handle: u64,
+    batch: u64,
+) -> u64
+    ensures answer { λ r. ⌜ r ≡ answer (now (store .entry)) (Append topic (message-of ledger entry handle batch)) ⌝ }
+    ensures words { λ _. ⌜ now (store .exit) ≡ after (now (store .entry)) (Append topic (message-of ledger entry handle batch)) ⌝ }
+{
+    if !spells(store) {
+        return 1;
+    }
+    append(store, topic, ledger, entry, handle, batch)
+}
+
+// Grants permits to a consumer. The value is its permits after, signed.
+#[no_mangle]
+pub extern "C" fn broker_flow(store: &mut [u64], consumer: u64, grant: u32) -> u64
+    ensures answer { λ r. ⌜ r ≡ answer (now (store .entry)) (Flow consumer grant) ⌝ }
+    ensures words { λ _. ⌜ now (store .exit) ≡ after (now (store .entry)) (Flow consumer grant) ⌝ }
+{
+    if !spells(store) {
+        return 1;
+    }
+    flow(store, consumer, grant)
+}
+
+// Moves a consumer's cursor: target 0 is the start, else the id. The value is the cursor.
+#[no_mangle]
+pub extern "C" fn broker_seek(
+    store: &mut [u64],
+    consumer: u64,
+    target: u64,
+    ledger: u64,
+    entry: u64,
+) -> u64
+    ensures answer { λ r. ⌜ r ≡ answer (now (store .entry)) (Seek-call consumer (target-from target ledger entry)) ⌝ }
+    ensures words { λ _. ⌜ now (store .exit) ≡ after (now (store .entry)) (Seek-call consumer (target-from target ledger entry)) ⌝ }
+{
+    if !spells(store) {
+        return 1;
+    }
+    if target == 0 {
+        return seek(
+            store,
+            Seek {
+                consumer: consumer,
+                target: Target::Start,
+            },
+        );
+    }
+    seek(
+        store,
+        Seek {
+            consumer: consumer,
+            target: Target::Id(ledger, entry),
+        },
+    )
 }

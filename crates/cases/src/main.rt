@@ -6,6 +6,8 @@ use libc::STDOUT_FILENO;
 fn main() {
     bit_readings();
     open_readings();
+    append_readings();
+    consumer_readings();
 }
 
 // K1 to K4 as far as they concern bits, and the largest batch.
@@ -41,6 +43,49 @@ fn open_readings() {
 // One opening, with both switches off.
 fn open_reading(label: &[u8], store: &mut [u64], entries: u64) {
     show_answer(label, broker::broker_open(store, entries, 0, 0));
+}
+
+// Appends to the runner's store, opened for two entries: words that spell no state, each refusal that
+// one topic can show, and a word changed past the needed ones and among them.
+fn append_readings() {
+    let mut store = [0u64; 8192];
+    append_reading(b"append, words all 0", &mut store, 0, 1);
+    broker::broker_open(&mut store, 2, 0, 0);
+    append_reading(b"append (0,0)", &mut store, 0, 1);
+    append_reading(b"append (0,0) again", &mut store, 0, 1);
+    append_reading(b"append (0,0), batch 257", &mut store, 0, 257);
+    append_reading(b"append (0,1), batch 256", &mut store, 1, 256);
+    append_reading(b"append a third, E 2", &mut store, 2, 1);
+    store[4352] = 1;
+    append_reading(
+        b"append (0,0), a word past the needed ones 1",
+        &mut store,
+        0,
+        1,
+    );
+    store[4351] = 1;
+    append_reading(b"append (0,0), the last needed word 1", &mut store, 0, 1);
+}
+
+// One append to topic 1, in ledger 0, with handle 500.
+fn append_reading(label: &[u8], store: &mut [u64], entry: u64, batch: u64) {
+    show_answer(label, broker::broker_append(store, 1, 0, entry, 500, batch));
+}
+
+// Flow and seek of a consumer that is not live, before and after the store is opened.
+fn consumer_readings() {
+    let mut store = [0u64; 8192];
+    show_answer(b"flow, words all 0", broker::broker_flow(&mut store, 7, 1));
+    show_answer(
+        b"seek, words all 0",
+        broker::broker_seek(&mut store, 7, 0, 0, 0),
+    );
+    broker::broker_open(&mut store, 32, 0, 0);
+    show_answer(b"flow, 7 not live", broker::broker_flow(&mut store, 7, 1));
+    show_answer(
+        b"seek, 7 not live",
+        broker::broker_seek(&mut store, 7, 0, 0, 0),
+    );
 }
 
 // A line: the label, the four words, how many bits are set, and whether none is.

@@ -1,0 +1,13 @@
+-- Words that spell no state: a call answers 1 and leaves them.
+use mathlib.Core.Path.{_≡_, refl}
+use mathlib.Core.Bool.{false}
+use mathlib.Core.List.{List}
+use Prim.Native.Nat.{ℕ}
+use Rattle.rules.specs.Calls.{Call, answer-word}
+use Rattle.layout.specs.Layout.{spells}
+use Rattle.layout.specs.Calls.{outcome, words-after, answer, after}
+
+-- the answer and the words
+pub unspelt : (ws : List ℕ) (x : Call) → spells ws ≡ false → (1 ≡ answer ws x) × (ws ≡ after ws x)
+unfolding answer after outcome words-after answer-word
+unspelt ws x e = rw e (refl, refl)
