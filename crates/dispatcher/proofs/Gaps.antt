@@ -2,17 +2,18 @@
 use mathlib.Core.Path.{_≡_, ap₂, _∙_}
 use mathlib.Core.Bool.{true}
 use mathlib.Core.List.{List, [], _∷_, _++_}
-use Prim.Native.Nat.{ℕ, _+_, _-_, _*_, _<_}
+use Prim.Native.Nat.{ℕ, suc, _+_, _-_, _*_, _^_, _<_, min}
 use native.Mathlib.Omega.{arith}
 use lib.ListN.{length, getD, set, take, drop}
 use Rattle.words.specs.Act.{down, close, clear, both, past}
 use Rattle.rules.specs.State.{new-mark}
-use Rattle.rules.specs.Dispatcher.{with-marks}
+use Rattle.rules.specs.Dispatcher.{with-marks, mark-at}
+use Rattle.rules.specs.Commands.{raised}
 use Rattle.layout.specs.Layout.{decode, put}
 use Rattle.layout.specs.Offsets.{dispatcher-at, outside-id-in, marks-in, mark-in}
-use Rattle.layout.specs.Fields.{zero-id, dispatcher-nth, set-dispatcher, with-complete}
+use Rattle.layout.specs.Fields.{zero-id, dispatcher-nth, set-dispatcher, with-complete, with-count}
 use Rattle.layout.specs.Placed.{Dispatcher-in}
-use Rattle.layout.proofs.GetsDispatcher.{read-outside-count, read-outside-ledger, read-outside-entry, read-mark-count}
+use Rattle.layout.proofs.GetsDispatcher.{read-outside-count, read-outside-ledger, read-outside-entry, read-mark-count, read-redelivery-count}
 use Rattle.layout.proofs.SetsDispatcher as layout
 use Rattle.ledger.specs.Ids.{id-of, id-at}
 
@@ -65,3 +66,13 @@ module _ {e : ℕ} {ws : List ℕ} (d at : ℕ) (h : Dispatcher-in e ws d) (a : 
   completed-mark k l =
       let to : at + 176 + 3 * e + k * 6 ≡ dispatcher-at e d + mark-in e k = omega arith in
       rw to (layout.write-mark-complete (h .canon) d (h .there) k l true)
+
+  -- the redelivery count of mark k raised
+  pub raised-count : (k n : ℕ) → k < length (dispatcher-nth (decode ws) d .marks) → n ≡ min (suc (getD ws (at + 177 + 3 * e + k * 6) 0)) (2 ^ 32 - 1)
+      → set ws (at + 177 + 3 * e + k * 6) n ≡ put ws (set-dispatcher (decode ws) d (with-marks (dispatcher-nth (decode ws) d)
+      (set (dispatcher-nth (decode ws) d .marks) k (raised (mark-at (dispatcher-nth (decode ws) d) k))) (dispatcher-nth (decode ws) d .outside)))
+  unfolding raised mark-at with-count
+  raised-count k n l c =
+      let to : at + 177 + 3 * e + k * 6 ≡ dispatcher-at e d + mark-in e k + 1 = omega arith in
+      let m : n ≡ min (suc (getD (dispatcher-nth (decode ws) d .marks) k new-mark .redelivery-count)) (2 ^ 32 - 1) = c ∙ rw (to, read-redelivery-count (h .canon) d (h .there) k l) in
+      rw (to, m) (layout.write-redelivery-count (h .canon) d (h .there) k l (min (suc (getD (dispatcher-nth (decode ws) d .marks) k new-mark .redelivery-count)) (2 ^ 32 - 1)))

@@ -1,5 +1,9 @@
 // The dispatcher of a shared subscription in a store.
+pub mod flight;
+pub mod head;
 pub mod marks;
 pub mod outside;
+pub mod queue;
+pub mod ring;
 pub mod stretch;
 pub mod total;

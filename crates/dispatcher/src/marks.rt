@@ -4,10 +4,11 @@ use store::stretch::word;
 ghost use mathlib.Core.Path.{_≡_};
 ghost use mathlib.Core.Bool.{true};
 ghost use mathlib.Core.List.{_++_, _∷_, []};
-ghost use Prim.Native.Nat.{_<_};
+ghost use Prim.Native.Nat.{suc, _-_, _^_, _<_, min};
 ghost use lib.ListN.{length, getD, set};
 ghost use Rattle.rules.specs.State.{new-mark};
-ghost use Rattle.rules.specs.Dispatcher.{with-marks};
+ghost use Rattle.rules.specs.Dispatcher.{with-marks, mark-at};
+ghost use Rattle.rules.specs.Commands.{raised};
 ghost use Rattle.layout.specs.Layout.{decode, put};
 ghost use Rattle.layout.specs.Fields.{dispatcher-nth, set-dispatcher, with-complete};
 ghost use Rattle.layout.specs.Placed.{Dispatcher-in};
@@ -38,4 +39,25 @@ pub fn complete_mark(store: &mut [u64], e: usize, d: usize, k: usize)
 {
     let at = dispatcher_at(e, d);
     store[at + 176 + 3 * e + k * 6] = 1;
+}
+
+// One more than a redelivery count, stopping at 2^32 - 1.
+fn one_more(count: u64) -> u64
+    ensures { λ r. ⌜ r ≡ min (suc count) (2 ^ 32 - 1) ⌝ }
+{
+    if count < 4294967295 {
+        count + 1
+    } else {
+        4294967295
+    }
+}
+
+// The redelivery count of mark `k` of dispatcher `d` goes up by 1, stopping at 2^32 - 1.
+pub fn raise_count(store: &mut [u64], e: usize, d: usize, k: usize)
+    requires { ⌜ Dispatcher-in e (now store) d × (k < length (dispatcher-nth (decode (now store)) d .marks)) ⌝ }
+    ensures { λ _. ⌜ now (store .exit) ≡ put (now (store .entry)) (set-dispatcher (decode (now (store .entry))) d (with-marks (dispatcher-nth (decode (now (store .entry))) d) (set (dispatcher-nth (decode (now (store .entry))) d .marks) k (raised (mark-at (dispatcher-nth (decode (now (store .entry))) d) k))) (dispatcher-nth (decode (now (store .entry))) d .outside))) ⌝ }
+{
+    let at = dispatcher_at(e, d);
+    let count = at + 177 + 3 * e + k * 6;
+    store[count] = one_more(store[count]);
 }

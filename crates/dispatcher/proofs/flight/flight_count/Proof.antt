@@ -1,0 +1,25 @@
+-- `dispatcher::flight::flight_count` meets its contract: the word at its offset.
+use mathlib.Core.Path.{_∙_}
+use Rattle.dispatcher.proofs.Places.{flight-counted}
+use borrow.Author.Needs.{needs}
+use Rattle.dispatcher.proofs.flight.flight_count.Statement.{statement}
+use Rattle.dispatcher.proofs.flight.flight_count.Tie as tie
+
+dispatcher-at-requires : tie.Need-dispatcher-at-requires
+dispatcher-at-requires c κs = search needs
+
+add-word : tie.Need-add-word
+add-word c = search needs
+
+add-word-2 : tie.Need-add-word-2
+add-word-2 c = search needs
+
+word-requires : tie.Need-word-requires
+word-requires c κs = search needs
+
+returns : tie.Need-returns
+returns c = c .word .ensures ∙ flight-counted (c .before .before .before .args .d) (c .before .dispatcher-at .result) (c .before .before .before .pre) (c .before .dispatcher-at .ensures)
+
+pub flight-count-spec : {M : Type 1} → statement M
+flight-count-spec =
+    tie.close (tie.spec dispatcher-at-requires add-word add-word-2 word-requires returns)

@@ -1,0 +1,21 @@
+-- `dispatcher::queue::queue_count` meets its contract: the word at its offset.
+use mathlib.Core.Path.{_∙_}
+use Rattle.dispatcher.proofs.Places.{queue-counted}
+use borrow.Author.Needs.{needs}
+use Rattle.dispatcher.proofs.queue.queue_count.Statement.{statement}
+use Rattle.dispatcher.proofs.queue.queue_count.Tie as tie
+
+dispatcher-at-requires : tie.Need-dispatcher-at-requires
+dispatcher-at-requires c κs = search needs
+
+add-word : tie.Need-add-word
+add-word c = search needs
+
+word-requires : tie.Need-word-requires
+word-requires c κs = search needs
+
+returns : tie.Need-returns
+returns c = c .word .ensures ∙ queue-counted (c .before .before .before .args .d) (c .before .dispatcher-at .result) (c .before .before .before .pre) (c .before .dispatcher-at .ensures)
+
+pub queue-count-spec : {M : Type 1} → statement M
+queue-count-spec = tie.close (tie.spec dispatcher-at-requires add-word word-requires returns)

@@ -1,0 +1,95 @@
+// The entries of a dispatcher that its consumers hold, in dispatch order. Each has two words, its
+// holder and its position.
+use super::stretch::close_gap;
+use super::stretch::is_word;
+use store::offsets::dispatcher_at;
+use store::stretch::word;
+ghost use mathlib.Core.Path.{_≡_};
+ghost use mathlib.Core.List.{_++_, _∷_, []};
+ghost use Prim.Native.Nat.{_+_, _<_};
+ghost use lib.ListN.{length, take, drop};
+ghost use Rattle.rules.specs.Dispatcher.{with-places, is-hold};
+ghost use Rattle.layout.specs.Layout.{decode, put};
+ghost use Rattle.layout.specs.Fields.{dispatcher-nth, set-dispatcher};
+ghost use Rattle.layout.specs.Placed.{Dispatcher-in};
+ghost use Rattle.store.specs.Find.{slot};
+ghost use Rattle.dispatcher.specs.Held.{held-of, held-at, by-hold, by-holder};
+
+// The number of entries in flight of dispatcher `d`.
+pub fn flight_count(store: &[u64], e: usize, d: usize) -> usize
+    requires { ⌜ Dispatcher-in e (now store) d ⌝ }
+    ensures { λ r. ⌜ r ≡ length (dispatcher-nth (decode (now (store .entry))) d .in-flight) ⌝ }
+{
+    let at = dispatcher_at(e, d);
+    word(store, at + 174 + e)
+}
+
+// Whether the entry in flight at an offset is `id`'s hold on position `k`.
+fn same_hold(store: &[u64], at: usize, id: u64, k: usize) -> bool
+    requires { ⌜ at + 1 < length (now store) ⌝ }
+    ensures { λ r. ⌜ r ≡ is-hold id k (held-at (now (store .entry)) at) ⌝ }
+{
+    if id == store[at] {
+        k as u64 == store[at + 1]
+    } else {
+        false
+    }
+}
+
+// The slot of `id`'s hold on position `k` of dispatcher `d`; the number in flight if there is none.
+pub fn find_hold(store: &[u64], e: usize, d: usize, id: u64, k: usize) -> usize
+    requires { ⌜ Dispatcher-in e (now store) d ⌝ }
+    ensures { λ r. ⌜ r ≡ slot by-hold (held-of id k) (dispatcher-nth (decode (now (store .entry))) d .in-flight) ⌝ }
+{
+    let at = dispatcher_at(e, d);
+    let n = word(store, at + 174 + e);
+    let mut j = 0;
+    while j < n {
+        if same_hold(store, at + 175 + e + j * 2, id, k) {
+            return j;
+        }
+        j += 1;
+    }
+    j
+}
+
+// The slot of the first entry of dispatcher `d` held by `id`; the number in flight if none is.
+pub fn find_holder(store: &[u64], e: usize, d: usize, id: u64) -> usize
+    requires { ⌜ Dispatcher-in e (now store) d ⌝ }
+    ensures { λ r. ⌜ r ≡ slot by-holder id (dispatcher-nth (decode (now (store .entry))) d .in-flight) ⌝ }
+{
+    let at = dispatcher_at(e, d);
+    let n = word(store, at + 174 + e);
+    let mut j = 0;
+    while j < n {
+        if is_word(store, at + 175 + e + j * 2, id) {
+            return j;
+        }
+        j += 1;
+    }
+    j
+}
+
+// Entry `j` in flight of dispatcher `d` is left out; those after it keep their order.
+pub fn remove_flight(store: &mut [u64], e: usize, d: usize, j: usize)
+    requires { ⌜ Dispatcher-in e (now store) d × (j < length (dispatcher-nth (decode (now store)) d .in-flight)) ⌝ }
+    ensures { λ _. ⌜ now (store .exit) ≡ put (now (store .entry)) (set-dispatcher (decode (now (store .entry))) d (with-places (dispatcher-nth (decode (now (store .entry))) d) (dispatcher-nth (decode (now (store .entry))) d .redelivery) (take j (dispatcher-nth (decode (now (store .entry))) d .in-flight) ++ drop (j + 1) (dispatcher-nth (decode (now (store .entry))) d .in-flight)))) ⌝ }
+{
+    let at = dispatcher_at(e, d);
+    let n = word(store, at + 174 + e);
+    close_gap(store, at + 175 + e + j * 2, 2, (n - (j + 1)) * 2);
+    store[at + 174 + e] = (n - 1) as u64;
+}
+
+// `id` holds position `k` of dispatcher `d`, after all that is in flight.
+pub fn append_flight(store: &mut [u64], e: usize, d: usize, id: u64, k: usize)
+    requires { ⌜ Dispatcher-in e (now store) d × (length (dispatcher-nth (decode (now store)) d .in-flight) < e) ⌝ }
+    ensures { λ _. ⌜ now (store .exit) ≡ put (now (store .entry)) (set-dispatcher (decode (now (store .entry))) d (with-places (dispatcher-nth (decode (now (store .entry))) d) (dispatcher-nth (decode (now (store .entry))) d .redelivery) (dispatcher-nth (decode (now (store .entry))) d .in-flight ++ held-of id k ∷ []))) ⌝ }
+{
+    let at = dispatcher_at(e, d);
+    let n = word(store, at + 174 + e);
+    let free = at + 175 + e + n * 2;
+    store[free] = id;
+    store[free + 1] = k as u64;
+    store[at + 174 + e] = (n + 1) as u64;
+}

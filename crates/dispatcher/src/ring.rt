@@ -1,0 +1,63 @@
+// The ids of the consumers that are attached to a dispatcher, in attach order. Each has one word.
+use super::stretch::close_gap;
+use super::stretch::is_word;
+use store::offsets::dispatcher_at;
+use store::stretch::word;
+ghost use mathlib.Core.Path.{_≡_};
+ghost use mathlib.Core.List.{_++_, _∷_, []};
+ghost use Prim.Native.Nat.{_+_, _<_};
+ghost use lib.ListN.{length, take, drop};
+ghost use Rattle.rules.specs.Dispatcher.{with-attached};
+ghost use Rattle.layout.specs.Layout.{decode, put};
+ghost use Rattle.layout.specs.Fields.{dispatcher-nth, set-dispatcher};
+ghost use Rattle.layout.specs.Placed.{Dispatcher-in};
+ghost use Rattle.store.specs.Find.{slot};
+ghost use Rattle.dispatcher.specs.Held.{by-value};
+
+// The number of ring ids of dispatcher `d`.
+pub fn ring_count(store: &[u64], e: usize, d: usize) -> usize
+    requires { ⌜ Dispatcher-in e (now store) d ⌝ }
+    ensures { λ r. ⌜ r ≡ length (dispatcher-nth (decode (now (store .entry))) d .attached) ⌝ }
+{
+    let at = dispatcher_at(e, d);
+    word(store, at + 11)
+}
+
+// The slot of `id` in the ring of dispatcher `d`; the number of ring ids where it is not there.
+pub fn find_ring(store: &[u64], e: usize, d: usize, id: u64) -> usize
+    requires { ⌜ Dispatcher-in e (now store) d ⌝ }
+    ensures { λ r. ⌜ r ≡ slot by-value id (dispatcher-nth (decode (now (store .entry))) d .attached) ⌝ }
+{
+    let at = dispatcher_at(e, d);
+    let n = word(store, at + 11);
+    let mut j = 0;
+    while j < n {
+        if is_word(store, at + 12 + j, id) {
+            return j;
+        }
+        j += 1;
+    }
+    j
+}
+
+// Ring id `j` of dispatcher `d` is left out; those after it keep their order.
+pub fn remove_ring(store: &mut [u64], e: usize, d: usize, j: usize)
+    requires { ⌜ Dispatcher-in e (now store) d × (j < length (dispatcher-nth (decode (now store)) d .attached)) ⌝ }
+    ensures { λ _. ⌜ now (store .exit) ≡ put (now (store .entry)) (set-dispatcher (decode (now (store .entry))) d (with-attached (dispatcher-nth (decode (now (store .entry))) d) (take j (dispatcher-nth (decode (now (store .entry))) d .attached) ++ drop (j + 1) (dispatcher-nth (decode (now (store .entry))) d .attached)))) ⌝ }
+{
+    let at = dispatcher_at(e, d);
+    let n = word(store, at + 11);
+    close_gap(store, at + 12 + j, 1, n - (j + 1));
+    store[at + 11] = (n - 1) as u64;
+}
+
+// `id` goes to the end of the ring of dispatcher `d`.
+pub fn append_ring(store: &mut [u64], e: usize, d: usize, id: u64)
+    requires { ⌜ Dispatcher-in e (now store) d × (length (dispatcher-nth (decode (now store)) d .attached) < 32) ⌝ }
+    ensures { λ _. ⌜ now (store .exit) ≡ put (now (store .entry)) (set-dispatcher (decode (now (store .entry))) d (with-attached (dispatcher-nth (decode (now (store .entry))) d) (dispatcher-nth (decode (now (store .entry))) d .attached ++ id ∷ []))) ⌝ }
+{
+    let at = dispatcher_at(e, d);
+    let n = word(store, at + 11);
+    store[at + 12 + n] = id;
+    store[at + 11] = (n + 1) as u64;
+}
