@@ -1,2 +1,3 @@
+pub mod Balances
 pub mod Gaps
 pub mod Places

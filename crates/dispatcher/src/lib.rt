@@ -1,4 +1,5 @@
 // The dispatcher of a shared subscription in a store.
+pub mod balance;
 pub mod flight;
 pub mod head;
 pub mod marks;

@@ -6,7 +6,7 @@ use Rattle.layout.specs.Layout.{decode}
 use Rattle.rules.specs.Calls.Call.{Flow}
 use Rattle.layout.specs.Calls.{answer, after}
 use Rattle.frame.proofs.Frame.{canon-of, refused-with, consumer-found-id}
-use Rattle.commands.proofs.Found.{found-live, found-missing}
+use Rattle.frame.proofs.Looked.{found-live, found-missing}
 use Rattle.commands.proofs.Grants.{flow-missing}
 use borrow.Author.Needs.{needs}
 use Rattle.commands.proofs.flow.flow.Statement.{statement}

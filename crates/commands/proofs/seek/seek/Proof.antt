@@ -5,7 +5,7 @@ use Rattle.layout.specs.Layout.{decode}
 use Rattle.layout.specs.Calls.{answer, after}
 use Rattle.commands.specs.Targets.{target-of, seek-to}
 use Rattle.frame.proofs.Frame.{canon-of, refused-with, consumer-found-id}
-use Rattle.commands.proofs.Found.{found-live, found-missing}
+use Rattle.frame.proofs.Looked.{found-live, found-missing}
 use Rattle.commands.proofs.Seeks.{seek-missing}
 use borrow.Author.Needs.{needs}
 use Rattle.commands.proofs.seek.seek.Statement.{statement}

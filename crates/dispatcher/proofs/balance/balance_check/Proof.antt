@@ -1,0 +1,140 @@
+-- `dispatcher::balance::balance_check` meets its contract. The loop's invariant: the sum so far, with what is left of the ring,
+-- is the whole; and the sum is in the range of as many consumers.
+use mathlib.Core.Path.{_≡_, refl, sym, ap, _∙_}
+use Prim.Native.Nat.{ℕ, _+_, _-_, _≤_, _<_}
+use native.Mathlib.Omega.{arith}
+use lib.ListN.{length, getD, drop}
+use borrow.Author.Needs.{needs}
+use Rattle.rules.specs.State.{consumer-of}
+use Rattle.rules.specs.Dispatcher.{add-permits, sum-permits, balance-check}
+use Rattle.layout.specs.Layout.{decode}
+use Rattle.layout.specs.Fields.{dispatcher-nth}
+use Rattle.frame.proofs.Frame.{valid-now}
+use Rattle.dispatcher.proofs.Places.{ring-here}
+use Rattle.dispatcher.proofs.Balances.{In-range, range-on, found-range, sum-on, sum-end}
+use Rattle.dispatcher.proofs.balance.balance_check.Statement.{statement}
+use Rattle.dispatcher.proofs.balance.balance_check.Tie as tie
+use Rattle.dispatcher.proofs.balance.balance_check.Reads as reads
+use Rattle.dispatcher.proofs.balance.balance_check.Lts as lts
+use Rattle.dispatcher.proofs.balance.add_permits.Reads as add-permits-reads
+use Rattle.dispatcher.proofs.ring.ring_count.Reads as ring-count-reads
+use Rattle.store.proofs.offsets.dispatcher_at.Reads as dispatcher-at-reads
+
+abbrev Inv-loop : tie.InvT-loop
+Inv-loop store e d n first sum₀ j₀ sum j =
+    (j ≤ n)
+    × (sum-permits (decode store) (dispatcher-nth (decode store) d .pair) sum (drop j (dispatcher-nth (decode store) d .attached)) ≡ balance-check (decode store) (dispatcher-nth (decode store) d))
+    × In-range sum j
+
+abbrev μ-loop : tie.MeasureT-loop
+μ-loop store e d n first sum₀ j₀ sum j = n - j
+
+-- src/balance.rt:56:9
+ring-count-requires : tie.Need-ring-count-requires Inv-loop μ-loop
+ring-count-requires c κs = search needs
+
+-- src/balance.rt:57:17
+dispatcher-at-requires : tie.Need-dispatcher-at-requires Inv-loop μ-loop
+dispatcher-at-requires c κs = search needs
+
+-- src/balance.rt:57:17
+add-first : tie.Need-add-first Inv-loop μ-loop
+add-first c = search needs
+
+-- src/balance.rt:60:5
+loop-holds : tie.Need-loop-holds Inv-loop μ-loop
+unfolding balance-check
+loop-holds c = (search needs, refl, record { from = omega arith; to = omega arith })
+
+-- the place of a turn is one of the ring's, of which there are at most 32
+here : (c : tie.In-loop Inv-loop μ-loop) → c .before .loop .j < length (dispatcher-nth (decode (c .before .before .before .before .before .args .store .now)) (c .before .before .before .before .before .args .d) .attached)
+here c = let n = c .before .before .before .ring-count .ensures in omega arith
+
+few : (c : tie.In-loop Inv-loop μ-loop) → c .before .loop .j < 32
+few c = let h = here c in let f = c .before .before .before .before .before .pre .0 .lists-fit .ring-fits in omega arith
+
+-- its word lies in the store
+inside : (c : tie.In-loop Inv-loop μ-loop) → c .before .before .dispatcher-at .result + 12 + c .before .loop .j + 1 ≤ length (c .before .before .before .before .before .args .store .now)
+inside c =
+    let h = few c in
+    let a = c .before .before .dispatcher-at .ensures in
+    let i = c .before .before .before .before .before .pre .0 .inside in
+    let l = c .before .before .before .before .before .pre .0 .canon .long in
+    omega arith
+
+-- the consumer of a turn is the ring's
+added : (c : tie.After-add-permits Inv-loop μ-loop) → c .add-permits .result
+    ≡ add-permits (dispatcher-nth (decode (c .before .before .before .before .before .before .before .args .store .now)) (c .before .before .before .before .before .before .before .args .d) .pair) (c .before .before .before .loop .sum) (consumer-of (decode (c .before .before .before .before .before .before .before .args .store .now)) (getD (dispatcher-nth (decode (c .before .before .before .before .before .before .before .args .store .now)) (c .before .before .before .before .before .before .before .args .d) .attached) (c .before .before .before .loop .j) 0))
+added c =
+    let ws = c .before .before .before .before .before .before .before .args .store .now in
+    let d = c .before .before .before .before .before .before .before .args .d in
+    c .add-permits .ensures
+    ∙ ap (λ (x : ℕ). add-permits (dispatcher-nth (decode ws) d .pair) (c .before .before .before .loop .sum) (consumer-of (decode ws) x))
+    (ring-here d (c .before .before .before .before .dispatcher-at .result) (c .before .before .before .before .before .before .before .pre .0) (c .before .before .before .before .dispatcher-at .ensures) (c .before .before .before .loop .j) (here (c .before .before)))
+
+-- src/balance.rt:61:46
+add-add-permits : tie.Need-add-add-permits Inv-loop μ-loop
+add-add-permits c = let k = inside c in omega arith
+
+-- src/balance.rt:61:40
+mul-add-permits : tie.Need-mul-add-permits Inv-loop μ-loop
+mul-add-permits c = let k = few c in let a = c .before .before .dispatcher-at .ensures in let t = c .before .before .before .before .before .pre .0 .canon .E-to in let f = c .before .before .before .before .before .pre .0 .few in search needs
+
+-- src/balance.rt:61:40
+shared-slice-read-add-permits : tie.Need-shared-slice-read-add-permits Inv-loop μ-loop
+shared-slice-read-add-permits c = let k = inside (c .before) in omega arith
+
+-- src/balance.rt:61:9
+add-permits-requires : tie.Need-add-permits-requires Inv-loop μ-loop
+add-permits-requires c κs =
+    let f = few (c .before) in
+    let x = c .before .before .loop .inv .2 .from in
+    let y = c .before .before .loop .inv .2 .to in
+    (c .before .before .before .before .before .before .pre .0, c .before .before .before .before .before .before .pre .1, omega arith, omega arith)
+
+-- src/balance.rt:62:9
+add-j : tie.Need-add-j Inv-loop μ-loop
+add-j c = search needs
+
+-- src/balance.rt:60:5
+loop-less : tie.Need-loop-less Inv-loop μ-loop
+loop-less c = search needs
+
+-- src/balance.rt:60:5
+loop-again : tie.Need-loop-again Inv-loop μ-loop
+loop-again c =
+    let s = decode (c .before .before .before .before .before .before .before .args .store .now) in
+    let d = dispatcher-nth s (c .before .before .before .before .before .before .before .args .d) in
+    let j = c .before .before .before .loop .j in
+    let id = getD (d .attached) j 0 in (
+      search needs,
+      rw (added c) (sym (sum-on s (d .pair) (c .before .before .before .loop .sum) (d .attached) j (here (c .before .before))) ∙ c .before .before .before .loop .inv .1),
+      rw (added c) (range-on (d .pair) (c .before .before .before .loop .sum) j (consumer-of s id) (λ x q. found-range s id x (valid-now (c .before .before .before .before .before .before .before .args .store .now) (c .before .before .before .before .before .before .before .pre .1)) q) (few (c .before .before)) (c .before .before .before .loop .inv .2)),
+    )
+
+-- src/balance.rt:52:1
+returns : tie.Need-returns Inv-loop μ-loop
+returns c =
+    let s = decode (c .before .before .before .before .before .args .store .now) in
+    let d = dispatcher-nth s (c .before .before .before .before .before .args .d) in
+    let n = c .before .before .before .ring-count .ensures in
+    sum-end s (d .pair) (c .before .loop .sum) (d .attached) (c .before .loop .j) (omega arith) ∙ c .before .loop .inv .1
+
+pub balance-check-spec : {M : Type 1} → statement M
+balance-check-spec =
+    tie.close
+    (tie.spec
+    Inv-loop
+    μ-loop
+    ring-count-requires
+    dispatcher-at-requires
+    add-first
+    loop-holds
+    add-add-permits
+    mul-add-permits
+    shared-slice-read-add-permits
+    add-permits-requires
+    add-j
+    loop-less
+    loop-again
+    returns)
