@@ -7,9 +7,10 @@ use commands::command::Seek;
 use commands::command::Target;
 use commands::flow::flow;
 use commands::seek::seek;
+use membership::close::close;
 use store::check::spells;
 ghost use mathlib.Core.Path.{_≡_};
-ghost use Rattle.rules.specs.Calls.Call.{Append, Flow, Seek as Seek-call};
+ghost use Rattle.rules.specs.Calls.Call.{Append, Flow, Close, Seek as Seek-call};
 ghost use Rattle.layout.specs.Calls.{answer, after, open-answer, open-after};
 ghost use Rattle.ledger.specs.Ids.{message-of};
 ghost use Rattle.broker.specs.Exports.{target-from};
@@ -85,4 +86,16 @@ pub extern "C" fn broker_seek(
             target: Target::Id(ledger, entry),
         },
     )
+}
+
+// Closes a consumer. The value is 1 if one was live, else 0.
+#[no_mangle]
+pub extern "C" fn broker_close(store: &mut [u64], consumer: u64) -> u64
+    ensures answer { λ r. ⌜ r ≡ answer (now (store .entry)) (Close consumer) ⌝ }
+    ensures words { λ _. ⌜ now (store .exit) ≡ after (now (store .entry)) (Close consumer) ⌝ }
+{
+    if !spells(store) {
+        return 1;
+    }
+    close(store, consumer)
 }

@@ -72,7 +72,7 @@ fn append_reading(label: &[u8], store: &mut [u64], entry: u64, batch: u64) {
     show_answer(label, broker::broker_append(store, 1, 0, entry, 500, batch));
 }
 
-// Flow and seek of a consumer that is not live, before and after the store is opened.
+// Flow, seek and close of a consumer that is not live, before and after the store is opened.
 fn consumer_readings() {
     let mut store = [0u64; 8192];
     show_answer(b"flow, words all 0", broker::broker_flow(&mut store, 7, 1));

@@ -1,0 +1,50 @@
+-- `membership::close::close_live` meets its contract: a shared consumer, or a plain one that goes.
+use mathlib.Core.Path.{refl, sym, _∙_}
+use Rattle.layout.specs.Layout.{decode}
+use Rattle.frame.proofs.Frame.{done-with}
+use Rattle.commands.proofs.Records.{flag-shared, flag-plain}
+use Rattle.commands.proofs.Found.{live-in, live-valid, live-slot}
+use Rattle.membership.proofs.Closes.{value-closed, close-plain, slot-of}
+use borrow.Author.Needs.{needs}
+use Rattle.membership.proofs.close.close_live.Statement.{statement}
+use Rattle.membership.proofs.close.close_live.Tie as tie
+
+is-shared-requires : tie.Need-is-shared-requires
+is-shared-requires c κs = live-in (c .before .before .pre .0)
+
+close-shared-requires : tie.Need-close-shared-requires
+close-shared-requires c κs = (c .before .before .before .before .before .pre .0, c .before .before .before .before .before .pre .1, flag-shared _ (sym (c .before .before .is-shared .ensures) ∙ c .before .if1 .taken))
+
+same-length : tie.Need-same-length
+same-length c = search needs
+
+returns : tie.Need-returns
+returns c = search needs
+
+remove-consumer-requires : tie.Need-remove-consumer-requires
+remove-consumer-requires c κs = live-in (c .before .before .before .before .before .pre .0)
+
+same-length-2 : tie.Need-same-length-2
+same-length-2 c = search needs
+
+returns-2 : tie.Need-returns-2
+returns-2 c =
+    let a = c .before .before .before .before .before .before .before .before .args in
+    let h = c .before .before .before .before .before .before .before .before .pre .0 in
+    let s = decode (a .store .now) in
+    let k = flag-plain _ (sym (c .before .before .before .before .before .is-shared .ensures) ∙ c .before .before .before .before .if1 .left) in
+    done-with (a .store .now) _ (h .spelt) 1 256
+    (close-plain s (a .i) (a .id) (slot-of s (a .i) (a .id) (live-slot h) (c .before .before .before .before .before .before .before .before .pre .1)) (c .before .before .before .before .before .before .before .before .pre .1) (live-valid h) (h .there) k)
+    value-closed refl (c .before .before .remove-consumer .ensures)
+
+pub close-live-spec : {M : Type 1} → statement M
+close-live-spec =
+    tie.close
+    (tie.spec
+    is-shared-requires
+    close-shared-requires
+    same-length
+    returns
+    remove-consumer-requires
+    same-length-2
+    returns-2)

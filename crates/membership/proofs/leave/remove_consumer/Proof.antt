@@ -1,0 +1,72 @@
+-- `membership::leave::remove_consumer` meets its contract: the gap is closed, then the count lowered.
+use mathlib.Core.Path.{_≡_, _∙_}
+use Prim.Native.Nat.{_≤_, _<_}
+use native.Mathlib.Omega.{arith}
+use lib.ListN.{length}
+use Rattle.layout.specs.Layout.{decode}
+use Rattle.layout.proofs.Gets.{read-consumer-count}
+use Rattle.membership.proofs.Removed.{removed-consumer}
+use borrow.Author.Needs.{needs}
+use Rattle.membership.proofs.leave.remove_consumer.Statement.{statement}
+use Rattle.membership.proofs.leave.remove_consumer.Tie as tie
+
+-- the count is the number of consumers
+counted : (c : tie.After-word) → c .word .result ≡ length (decode (c .before .before .before .args .store .now) .consumers)
+counted c = c .word .ensures ∙ read-consumer-count (c .before .before .before .pre .canon)
+
+-- the consumer is one of them, and there are at most 32
+there : (c : tie.After-word) → (c .before .before .before .args .i < c .word .result) × (c .word .result ≤ 32)
+there c =
+    let n = counted c in
+    let h = c .before .before .before .pre .there in
+    let f = c .before .before .before .pre .canon .shaped .consumers-fit in
+    (omega arith, omega arith)
+
+word-requires : tie.Need-word-requires
+word-requires c κs = search needs
+
+consumer-at-requires : tie.Need-consumer-at-requires
+consumer-at-requires c κs = search needs
+
+add-close-gap : tie.Need-add-close-gap
+add-close-gap c = search needs
+
+sub-close-gap : tie.Need-sub-close-gap
+sub-close-gap c = let t = there (c .before .before) in omega (arith, t .0)
+
+mul-close-gap : tie.Need-mul-close-gap
+mul-close-gap c = let t = there (c .before .before) in omega (arith, t .0, t .1)
+
+close-gap-requires : tie.Need-close-gap-requires
+close-gap-requires c κs =
+    let t = there (c .before .before) in
+    let a = c .before .consumer-at .ensures in
+    let l = c .before .before .before .before .before .pre .canon .long in
+    omega (arith, t .0, t .1)
+
+sub-store : tie.Need-sub-store
+sub-store c = let t = there (c .before .before .before .before .before) in omega (arith, t .0)
+
+slice-write-store : tie.Need-slice-write-store
+slice-write-store c = search needs
+
+same-length : tie.Need-same-length
+same-length c = search needs
+
+returns : tie.Need-returns
+returns c = removed-consumer (c .before .before .before .before .before .before .before .before .args .i) (c .before .before .before .before .consumer-at .result) (c .before .before .before .before .before .word .result) (c .before .before .before .before .before .before .before .before .pre) (c .before .before .before .before .consumer-at .ensures) (counted (c .before .before .before .before .before)) (c .before .before .close-gap .ensures)
+
+pub remove-consumer-spec : {M : Type 1} → statement M
+remove-consumer-spec =
+    tie.close
+    (tie.spec
+    word-requires
+    consumer-at-requires
+    add-close-gap
+    sub-close-gap
+    mul-close-gap
+    close-gap-requires
+    sub-store
+    slice-write-store
+    same-length
+    returns)

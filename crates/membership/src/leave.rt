@@ -1,0 +1,101 @@
+// What goes when a consumer closes: its record, and its place in a dispatcher. The entries that it holds go
+// back to the end of the queue.
+use dispatcher::flight::find_holder;
+use dispatcher::flight::flight_count;
+use dispatcher::flight::remove_flight;
+use dispatcher::head::next;
+use dispatcher::head::set_next;
+use dispatcher::queue::append_queue;
+use dispatcher::ring::find_ring;
+use dispatcher::ring::remove_ring;
+use dispatcher::ring::ring_count;
+use dispatcher::stretch::close_gap;
+use dispatcher::total::set_total_available_permits;
+use store::offsets::consumer_at;
+use store::offsets::dispatcher_at;
+use store::stretch::word;
+ghost use mathlib.Core.Path.{_≡_};
+ghost use mathlib.Core.List.{_++_};
+ghost use Prim.Native.Nat.{_+_, _<_, _≤_};
+ghost use lib.ListN.{length, getD, take, drop};
+ghost use Rattle.rules.specs.State.{with-consumers};
+ghost use Rattle.rules.specs.Commands.{left-by};
+ghost use Rattle.layout.specs.Layout.{decode, put};
+ghost use Rattle.layout.specs.Fields.{zero-held, dispatcher-nth, set-dispatcher};
+ghost use Rattle.layout.specs.Placed.{Consumer-in, Dispatcher-in};
+ghost use Rattle.membership.specs.Leaving.{one-back, all-back, next-of, out-of-ring, Member-of};
+
+// Consumer `i` is left out; those after it keep their order.
+pub fn remove_consumer(store: &mut [u64], e: usize, i: usize)
+    requires { ⌜ Consumer-in e (now store) i ⌝ }
+    ensures { λ _. ⌜ now (store .exit) ≡ put (now (store .entry)) (with-consumers (decode (now (store .entry))) (take i (decode (now (store .entry)) .consumers) ++ drop (i + 1) (decode (now (store .entry)) .consumers))) ⌝ }
+{
+    let n = word(store, 16);
+    let at = consumer_at(i);
+    close_gap(store, at, 72, (n - (i + 1)) * 72);
+    store[16] = (n - 1) as u64;
+}
+
+// The position of entry `j` in flight of dispatcher `d`.
+fn held_position(store: &[u64], e: usize, d: usize, j: usize) -> usize
+    requires { ⌜ Dispatcher-in e (now store) d × (j < length (dispatcher-nth (decode (now store)) d .in-flight)) ⌝ }
+    ensures { λ r. ⌜ r ≡ getD (dispatcher-nth (decode (now (store .entry))) d .in-flight) j zero-held .position ⌝ }
+{
+    let at = dispatcher_at(e, d);
+    word(store, at + 176 + e + j * 2)
+}
+
+// Entry `j` in flight of dispatcher `d` goes to the end of the queue.
+fn return_one(store: &mut [u64], e: usize, d: usize, j: usize)
+    requires { ⌜ Dispatcher-in e (now store) d × (j < length (dispatcher-nth (decode (now store)) d .in-flight)) × (length (dispatcher-nth (decode (now store)) d .redelivery) < e) ⌝ }
+    ensures { λ _. ⌜ now (store .exit) ≡ put (now (store .entry)) (set-dispatcher (decode (now (store .entry))) d (one-back j (dispatcher-nth (decode (now (store .entry))) d))) ⌝ }
+{
+    let k = held_position(store, e, d, j);
+    append_queue(store, e, d, k);
+    remove_flight(store, e, d, j);
+}
+
+// What `id` holds of dispatcher `d` goes to the end of the queue, in the order in which it was dispatched.
+pub fn return_held(store: &mut [u64], e: usize, d: usize, id: u64)
+    requires { ⌜ Dispatcher-in e (now store) d × (length (dispatcher-nth (decode (now store)) d .redelivery) + length (dispatcher-nth (decode (now store)) d .in-flight) ≤ e) ⌝ }
+    ensures { λ _. ⌜ now (store .exit) ≡ put (now (store .entry)) (set-dispatcher (decode (now (store .entry))) d (all-back id (dispatcher-nth (decode (now (store .entry))) d))) ⌝ }
+{
+    let mut n = flight_count(store, e, d);
+    let mut j = find_holder(store, e, d, id);
+    while j < n {
+        return_one(store, e, d, j);
+        n -= 1;
+        j = find_holder(store, e, d, id);
+    }
+}
+
+// The next slot in a ring that has `n` ids left.
+fn next_of(next: usize, n: usize) -> usize
+    ensures { λ r. ⌜ r ≡ next-of next n ⌝ }
+{
+    if n == 0 {
+        return 0;
+    }
+    next % n
+}
+
+// `id` leaves the ring of dispatcher `d`, and next stays in what is left of it.
+fn leave_ring(store: &mut [u64], e: usize, d: usize, id: u64)
+    requires { ⌜ Dispatcher-in e (now store) d × Member-of id (dispatcher-nth (decode (now store)) d) ⌝ }
+    ensures { λ _. ⌜ now (store .exit) ≡ put (now (store .entry)) (set-dispatcher (decode (now (store .entry))) d (out-of-ring id (dispatcher-nth (decode (now (store .entry))) d))) ⌝ }
+{
+    let j = find_ring(store, e, d, id);
+    let to = next_of(next(store, e, d), ring_count(store, e, d) - 1);
+    remove_ring(store, e, d, j);
+    set_next(store, e, d, to);
+}
+
+// `id` leaves dispatcher `d`, which then has the permits `total`.
+pub fn leave(store: &mut [u64], e: usize, d: usize, id: u64, total: u64)
+    requires { ⌜ Dispatcher-in e (now store) d × Member-of id (dispatcher-nth (decode (now store)) d) × (length (dispatcher-nth (decode (now store)) d .redelivery) + length (dispatcher-nth (decode (now store)) d .in-flight) ≤ e) ⌝ }
+    ensures { λ _. ⌜ now (store .exit) ≡ put (now (store .entry)) (set-dispatcher (decode (now (store .entry))) d (left-by id total (dispatcher-nth (decode (now (store .entry))) d))) ⌝ }
+{
+    return_held(store, e, d, id);
+    leave_ring(store, e, d, id);
+    set_total_available_permits(store, e, d, total);
+}
