@@ -80,12 +80,14 @@ fn consumer_readings() {
         b"seek, words all 0",
         broker::broker_seek(&mut store, 7, 0, 0, 0),
     );
+    show_answer(b"close, words all 0", broker::broker_close(&mut store, 7));
     broker::broker_open(&mut store, 32, 0, 0);
     show_answer(b"flow, 7 not live", broker::broker_flow(&mut store, 7, 1));
     show_answer(
         b"seek, 7 not live",
         broker::broker_seek(&mut store, 7, 0, 0, 0),
     );
+    show_answer(b"close, 7 not live", broker::broker_close(&mut store, 7));
 }
 
 // A line: the label, the four words, how many bits are set, and whether none is.
