@@ -1,0 +1,42 @@
+-- `receipts::nacked::found_here` meets its contract: the position lies in the ledger, or not.
+use mathlib.Core.Path.{_≡_, refl, sym, ap, _∙_}
+use native.Mathlib.Omega.{arith}
+use Prim.Native.Nat.{ℕ, _+_, _-_, _≤_, _<_}
+use mathlib.Core.List.{List, [], _∷_}
+use lib.ListN.{length}
+use Rattle.layout.specs.Layout.{decode}
+use Rattle.rules.specs.State.{ledger-of}
+use Rattle.rules.specs.Commands.{found-positions}
+use Rattle.groups.specs.Walk.{Stands, group-at, groups-from, end-at}
+use Rattle.receipts.proofs.Finds.{found-one, found-none, found-first, found-first-count, found-few}
+use borrow.Author.Needs.{needs}
+use Rattle.receipts.proofs.nacked.found_here.Statement.{statement}
+use Rattle.receipts.proofs.nacked.found_here.Tie as tie
+use Rattle.receipts.proofs.nacked.found_here.Reads as reads
+use Rattle.receipts.proofs.nacked.found_here.Lts as lts
+use Rattle.receipts.proofs.position.position_here.Reads as position-here-reads
+use Rattle.store.proofs.find.ledger_length.Reads as ledger-length-reads
+
+-- src/nacked.rt:34:9
+position-here-requires : tie.Need-position-here-requires
+position-here-requires c κs = search needs
+
+-- src/nacked.rt:35:12
+ledger-length-requires : tie.Need-ledger-length-requires
+ledger-length-requires c κs = search needs
+
+-- src/nacked.rt:30:1
+returns : tie.Need-returns
+returns c =
+    let a = c .before .before .before .before .before .args in
+    rw (found-one (ledger-of (decode (a .store .now)) (a .topic)) (group-at (a .list .now) (a .at)) (c .before .before .position-here .result) (c .before .ledger-length .result) (c .before .before .position-here .ensures) (c .before .ledger-length .ensures) (c .if1 .taken))
+
+-- src/nacked.rt:30:1
+returns-2 : tie.Need-returns-2
+returns-2 c =
+    let a = c .before .before .before .before .before .args in
+    rw (found-none (ledger-of (decode (a .store .now)) (a .topic)) (group-at (a .list .now) (a .at)) (c .before .before .position-here .result) (c .before .ledger-length .result) (c .before .before .position-here .ensures) (c .before .ledger-length .ensures) (let t = c .if1 .left in omega arith))
+
+pub found-here-spec : {M : Type 1} → statement M
+found-here-spec =
+    tie.close (tie.spec position-here-requires ledger-length-requires returns returns-2)

@@ -1,0 +1,54 @@
+-- `receipts::position::position_in` meets its contract: the topic exists, or its ledger is empty.
+use mathlib.Core.Path.{_≡_, refl, sym, ap, _∙_}
+use native.Mathlib.Omega.{arith}
+use Prim.Native.Nat.{ℕ, _+_, _-_, _≤_, _<_}
+use mathlib.Core.List.{List, [], _∷_}
+use lib.ListN.{length}
+use Rattle.layout.specs.Layout.{decode}
+use Rattle.layout.proofs.Gets.{read-topic-count}
+use Rattle.layout.proofs.Placed.{topic-in}
+use Rattle.ledger.specs.Ids.{id-of}
+use Rattle.receipts.proofs.Finds.{position-there, position-none}
+use borrow.Author.Needs.{needs}
+use Rattle.receipts.proofs.position.position_in.Statement.{statement}
+use Rattle.receipts.proofs.position.position_in.Tie as tie
+use Rattle.receipts.proofs.position.position_in.Reads as reads
+use Rattle.receipts.proofs.position.position_in.Lts as lts
+use Rattle.ledger.proofs.find.position_of.Reads as position-of-reads
+use Rattle.store.proofs.find.find_topic.Reads as find-topic-reads
+use Rattle.store.proofs.stretch.word.Reads as word-reads
+
+-- the slot that was found lies in the table
+here : (c : tie.Then1) → c .before .before .find-topic .result < length (decode (c .before .before .before .before .args .store .now) .topics)
+here c = let n = c .before .word .ensures ∙ read-topic-count (c .before .before .before .before .pre) in let t = c .if1 .taken in omega arith
+
+-- src/position.rt:19:9
+find-topic-requires : tie.Need-find-topic-requires
+find-topic-requires c κs = search needs
+
+-- src/position.rt:20:12
+word-requires : tie.Need-word-requires
+word-requires c κs = search needs
+
+-- src/position.rt:21:9
+position-of-requires : tie.Need-position-of-requires
+position-of-requires c κs = topic-in (c .before .before .before .before .pre) (c .before .before .find-topic .result) (here c)
+
+-- src/position.rt:15:1
+returns : tie.Need-returns
+returns c =
+    let a = c .before .before .before .before .before .args in
+    position-there (decode (a .store .now)) (c .before .before .before .find-topic .result) (a .topic) (c .position-of .result) (id-of (a .ledger) (a .entry))
+    (c .before .before .before .find-topic .ensures) (here (c .before)) (c .position-of .ensures)
+
+-- src/position.rt:15:1
+returns-2 : tie.Need-returns-2
+returns-2 c =
+    let a = c .before .before .before .before .args in
+    let n = c .before .word .ensures ∙ read-topic-count (c .before .before .before .before .pre) in
+    let t = c .if1 .left in
+    position-none (decode (a .store .now)) (c .before .before .find-topic .result) (a .topic) (id-of (a .ledger) (a .entry)) (c .before .before .find-topic .ensures) (omega arith)
+
+pub position-in-spec : {M : Type 1} → statement M
+position-in-spec =
+    tie.close (tie.spec find-topic-requires word-requires position-of-requires returns returns-2)
