@@ -8,12 +8,15 @@ use commands::command::Target;
 use commands::flow::flow;
 use commands::seek::seek;
 use membership::close::close;
+use membership::command::Kind;
+use membership::command::Subscribe;
+use membership::subscribe::subscribe;
 use store::check::spells;
 ghost use mathlib.Core.Path.{_≡_};
-ghost use Rattle.rules.specs.Calls.Call.{Append, Flow, Close, Seek as Seek-call};
+ghost use Rattle.rules.specs.Calls.Call.{Append, Flow, Close, Seek as Seek-call, Subscribe as Subscribe-call};
 ghost use Rattle.layout.specs.Calls.{answer, after, open-answer, open-after};
 ghost use Rattle.ledger.specs.Ids.{message-of};
-ghost use Rattle.broker.specs.Exports.{target-from};
+ghost use Rattle.broker.specs.Exports.{target-from, kind-from};
 
 // Opens a store for `entries` entries per topic; the two switches are off at 0, else on.
 #[no_mangle]
@@ -41,6 +44,43 @@ pub extern "C" fn broker_append(
         return 1;
     }
     append(store, topic, ledger, entry, handle, batch)
+}
+
+// Makes a consumer of a topic's subscription, or replaces a live one: kind 0 is plain, else shared.
+#[no_mangle]
+pub extern "C" fn broker_subscribe(
+    store: &mut [u64],
+    consumer: u64,
+    kind: u64,
+    topic: u8,
+    subscription: u8,
+) -> u64
+    ensures answer { λ r. ⌜ r ≡ answer (now (store .entry)) (Subscribe-call consumer (kind-from kind) (record { topic = topic; subscription = subscription })) ⌝ }
+    ensures words { λ _. ⌜ now (store .exit) ≡ after (now (store .entry)) (Subscribe-call consumer (kind-from kind) (record { topic = topic; subscription = subscription })) ⌝ }
+{
+    if !spells(store) {
+        return 1;
+    }
+    if kind == 0 {
+        return subscribe(
+            store,
+            Subscribe {
+                consumer: consumer,
+                kind: Kind::Plain,
+                topic: topic,
+                subscription: subscription,
+            },
+        );
+    }
+    subscribe(
+        store,
+        Subscribe {
+            consumer: consumer,
+            kind: Kind::Shared,
+            topic: topic,
+            subscription: subscription,
+        },
+    )
 }
 
 // Grants permits to a consumer. The value is its permits after, signed.

@@ -1,5 +1,11 @@
-pub mod Returns
+pub mod Closes
+pub mod Entering
+pub mod Joining
+pub mod Making
+pub mod Openings
 pub mod Removed
+pub mod Returns
 pub mod Rings
 pub mod Room
-pub mod Closes
+pub mod Seating
+pub mod Subscribing

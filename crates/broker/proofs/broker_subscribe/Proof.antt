@@ -1,0 +1,47 @@
+-- `broker::broker_subscribe` meets its contract: the words are checked, then the subscribe runs with the kind that the number names.
+use Rattle.store.proofs.Spelt.{answered-no, answered-yes}
+use Rattle.broker.proofs.Unspelt.{unspelt}
+use borrow.Author.Needs.{needs}
+use borrow.Author.Tests.{eq-eqb, ne-eqb}
+use Rattle.membership.specs.Commanded.{kind-of}
+use Rattle.broker.specs.Exports.{kind-from}
+use Rattle.broker.proofs.broker_subscribe.Statement.{statement}
+use Rattle.broker.proofs.broker_subscribe.Tie as tie
+use Rattle.broker.proofs.broker_subscribe.Reads as reads
+use Rattle.broker.proofs.broker_subscribe.Lts as lts
+use Rattle.membership.proofs.subscribe.subscribe.Reads as subscribe-reads
+use Rattle.store.proofs.check.spells.Reads as spells-reads
+
+spells-requires : tie.Need-spells-requires
+spells-requires c κs = search needs
+
+same-length : tie.Need-same-length
+same-length c = search needs
+
+returns : tie.Need-returns
+returns c = unspelt _ _ (answered-no (c .before .spells .ensures) (c .if1 .taken))
+
+subscribe-requires : tie.Need-subscribe-requires
+subscribe-requires c κs = answered-yes (c .before .before .before .spells .ensures) (c .before .before .if1 .left)
+
+same-length-2 : tie.Need-same-length-2
+same-length-2 c = search needs
+
+returns-2 : tie.Need-returns-2
+unfolding kind-from kind-of
+returns-2 c = rw (eq-eqb (c .before .before .before .before .before .before .before .before .before .args .kind) 0 (c .before .before .before .before .if2 .taken)) (c .before .before .subscribe .ensures)
+
+subscribe-requires-2 : tie.Need-subscribe-requires-2
+subscribe-requires-2 c κs = answered-yes (c .before .before .before .spells .ensures) (c .before .before .if1 .left)
+
+same-length-3 : tie.Need-same-length-3
+same-length-3 c = search needs
+
+returns-3 : tie.Need-returns-3
+unfolding kind-from kind-of
+returns-3 c = rw (ne-eqb (c .before .before .before .before .before .before .before .before .before .args .kind) 0 (c .before .before .before .before .if2 .left)) (c .before .before .subscribe2 .ensures)
+
+pub broker-subscribe-spec : {M : Type 1} → statement M
+broker-subscribe-spec =
+    tie.close
+    (tie.spec spells-requires same-length returns subscribe-requires same-length-2 returns-2 subscribe-requires-2 same-length-3 returns-3)

@@ -1,0 +1,29 @@
+-- `membership::admit::is_live` meets its contract: the lookup says it.
+use mathlib.Core.Path.{sym, _∙_}
+use Rattle.layout.specs.Layout.{decode}
+use Rattle.frame.proofs.Looked.{found-live, found-missing}
+use Rattle.membership.proofs.Subscribing.{live-some, live-none}
+use borrow.Author.Needs.{needs}
+use Rattle.membership.proofs.admit.is_live.Statement.{statement}
+use Rattle.membership.proofs.admit.is_live.Tie as tie
+
+find-consumer-requires : tie.Need-find-consumer-requires
+find-consumer-requires c κs = search needs
+
+enum-told : tie.Need-enum-told
+enum-told c = search needs
+
+enum-told-2 : tie.Need-enum-told-2
+enum-told-2 c = search needs
+
+returns : tie.Need-returns
+returns c =
+    live-none (decode (c .before .before .before .before .args .store .now)) (c .before .before .before .before .args .id) (found-missing (c .before .before .before .before .args .id) (decode (c .before .before .before .before .args .store .now) .consumers) (sym (c .enum-told2 .given .1) ∙ c .before .before .find-consumer .ensures))
+
+returns-2 : tie.Need-returns-2
+returns-2 c =
+    let f = found-live (c .before .before .before .before .args .id) (decode (c .before .before .before .before .args .store .now) .consumers) (c .enum-told .given .0 .0) (sym (c .enum-told .given .1) ∙ c .before .before .find-consumer .ensures) in
+    live-some (decode (c .before .before .before .before .args .store .now)) (c .enum-told .given .0 .0) (c .before .before .before .before .args .id) (f .0) (f .1)
+
+pub is-live-spec : {M : Type 1} → statement M
+is-live-spec = tie.close (tie.spec find-consumer-requires enum-told enum-told-2 returns returns-2)

@@ -1,0 +1,23 @@
+-- `membership::subscribe::subscribe_plain` meets its contract: the consumer is put in the state.
+use native.Mathlib.Omega.{arith}
+use Rattle.membership.specs.Made.{kind-at}
+use Rattle.frame.proofs.Frame.{done-with-nothing}
+use Rattle.membership.proofs.Subscribing.{seats, subscribe-plain}
+use borrow.Author.Needs.{needs}
+use Rattle.membership.proofs.subscribe.subscribe_plain.Statement.{statement}
+use Rattle.membership.proofs.subscribe.subscribe_plain.Tie as tie
+
+seat-consumer-requires : tie.Need-seat-consumer-requires
+seat-consumer-requires c κs =
+    (seats (c .before .before .pre), omega arith)
+
+same-length : tie.Need-same-length
+same-length c = search needs
+
+returns : tie.Need-returns
+unfolding kind-at
+returns c =
+    done-with-nothing (c .before .before .before .before .before .args .store .now) _ (c .before .before .before .before .before .pre .spelt) (subscribe-plain (c .before .before .before .before .before .pre) (record { topic = c .before .before .before .before .before .args .topic; subscription = c .before .before .before .before .before .args .subscription })) (c .before .before .seat-consumer .ensures)
+
+pub subscribe-plain-spec : {M : Type 1} → statement M
+subscribe-plain-spec = tie.close (tie.spec seat-consumer-requires same-length returns)

@@ -1,0 +1,79 @@
+// The tests of a subscribe, each as the rules have it. None of them writes.
+use super::tables::consumer_count;
+use super::tables::dispatcher_count;
+use super::tables::is_noop;
+use dispatcher::ring::ring_count;
+use store::find::find_dispatcher;
+use store::find::in_ring;
+use store::lookup::Lookup;
+use store::lookup::find_consumer;
+ghost use mathlib.Core.Path.{_≡_};
+ghost use mathlib.Core.Bool.{not, _&&_};
+ghost use lib.Dec.{leb};
+ghost use lib.ListN.{length};
+ghost use Rattle.rules.specs.Table.{is-some, member};
+ghost use Rattle.rules.specs.State.{consumer-of, dispatcher-of, dispatcher};
+ghost use Rattle.layout.specs.Layout.{decode};
+ghost use Rattle.layout.specs.Canon.{Canon-store};
+
+// Whether an id is live.
+pub fn is_live(store: &[u64], e: usize, id: u64) -> bool
+    requires { ⌜ Canon-store e (now store) ⌝ }
+    ensures { λ r. ⌜ r ≡ is-some (consumer-of (decode (now (store .entry))) id) ⌝ }
+{
+    let Lookup::Live(_) = find_consumer(store, e, id) else {
+        return false;
+    };
+    true
+}
+
+// Whether there is nothing to do.
+pub fn is_idle(store: &[u64], e: usize, live: bool) -> bool
+    requires { ⌜ Canon-store e (now store) ⌝ }
+    ensures { λ r. ⌜ r ≡ live && decode (now (store .entry)) .live-id-subscribe-is-noop ⌝ }
+{
+    if live {
+        return is_noop(store, e);
+    }
+    false
+}
+
+// Whether a consumer would be new, and 32 are live.
+pub fn is_full(store: &[u64], e: usize, live: bool) -> bool
+    requires { ⌜ Canon-store e (now store) ⌝ }
+    ensures { λ r. ⌜ r ≡ not live && leb 32 (length (decode (now (store .entry)) .consumers)) ⌝ }
+{
+    if live {
+        return false;
+    }
+    32 <= consumer_count(store, e)
+}
+
+// Whether a pair would be new, and 8 exist.
+pub fn pairs_full(store: &[u64], e: usize, topic: u64, subscription: u64) -> bool
+    requires { ⌜ Canon-store e (now store) ⌝ }
+    ensures { λ r. ⌜ r ≡ not (is-some (dispatcher-of (decode (now (store .entry))) (record { topic = topic; subscription = subscription }))) && leb 8 (length (decode (now (store .entry)) .dispatchers)) ⌝ }
+{
+    let d = find_dispatcher(store, e, topic, subscription);
+    let n = dispatcher_count(store, e);
+    if d < n {
+        return false;
+    }
+    8 <= n
+}
+
+// Whether an id would be new in the ring of a pair, and that has 32.
+pub fn ring_full(store: &[u64], e: usize, topic: u64, subscription: u64, id: u64) -> bool
+    requires { ⌜ Canon-store e (now store) ⌝ }
+    ensures { λ r. ⌜ r ≡ not (member id (dispatcher (decode (now (store .entry))) (record { topic = topic; subscription = subscription }) .attached)) && leb 32 (length (dispatcher (decode (now (store .entry))) (record { topic = topic; subscription = subscription }) .attached)) ⌝ }
+{
+    if in_ring(store, e, topic, subscription, id) {
+        return false;
+    }
+    let d = find_dispatcher(store, e, topic, subscription);
+    let n = dispatcher_count(store, e);
+    if n <= d {
+        return false;
+    }
+    32 <= ring_count(store, e, d)
+}

@@ -1,0 +1,41 @@
+// A consumer put in the state as a subscribe makes it. It takes the place of the live one of its id,
+// or stands at its place among the others.
+use super::gap::open_consumer;
+use super::make::make_consumer;
+use super::tables::consumer_count;
+use super::tables::place_of;
+use store::lookup::Lookup;
+use store::lookup::find_consumer;
+ghost use mathlib.Core.Path.{_≡_};
+ghost use Prim.Native.Nat.{_≤_, _<_};
+ghost use lib.ListN.{length};
+ghost use Rattle.rules.specs.State.{by-id, put-consumer};
+ghost use Rattle.rules.specs.Commands.{new-consumer};
+ghost use Rattle.layout.specs.Layout.{decode, put};
+ghost use Rattle.layout.specs.Canon.{Canon-store};
+ghost use Rattle.store.specs.Find.{slot};
+ghost use Rattle.membership.specs.Made.{kind-at};
+ghost use Rattle.membership.specs.Seats.{Seats};
+
+// The consumer `id` is new in the state, or made anew.
+pub fn seat_consumer(store: &mut [u64], e: usize, id: u64, kind: u64, topic: u64, subscription: u64)
+    requires { ⌜ Seats e (now store) id × (kind ≤ 1) ⌝ }
+    ensures { λ _. ⌜ now (store .exit) ≡ put (now (store .entry)) (put-consumer (decode (now (store .entry))) (new-consumer id (kind-at kind) (record { topic = topic; subscription = subscription }))) ⌝ }
+{
+    let Lookup::Live(i) = find_consumer(store, e, id) else {
+        insert_consumer(store, e, id, kind, topic, subscription);
+        return;
+    };
+    make_consumer(store, e, i, id, kind, topic, subscription);
+}
+
+// The consumer `id`, which is not live, is made at its place.
+fn insert_consumer(store: &mut [u64], e: usize, id: u64, kind: u64, topic: u64, subscription: u64)
+    requires { ⌜ Canon-store e (now store) × (length (decode (now store) .consumers) ≤ slot by-id id (decode (now store) .consumers)) × (length (decode (now store) .consumers) < 32) × (kind ≤ 1) ⌝ }
+    ensures { λ _. ⌜ now (store .exit) ≡ put (now (store .entry)) (put-consumer (decode (now (store .entry))) (new-consumer id (kind-at kind) (record { topic = topic; subscription = subscription }))) ⌝ }
+{
+    let n = consumer_count(store, e);
+    let i = place_of(store, e, id);
+    open_consumer(store, e, i, n);
+    make_consumer(store, e, i, id, kind, topic, subscription);
+}
