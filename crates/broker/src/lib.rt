@@ -11,9 +11,10 @@ use membership::close::close;
 use membership::command::Kind;
 use membership::command::Subscribe;
 use membership::subscribe::subscribe;
+use receipts::redeliver::redeliver;
 use store::check::spells;
 ghost use mathlib.Core.Path.{_≡_};
-ghost use Rattle.rules.specs.Calls.Call.{Append, Flow, Close, Seek as Seek-call, Subscribe as Subscribe-call};
+ghost use Rattle.rules.specs.Calls.Call.{Append, Flow, Redeliver, Close, Seek as Seek-call, Subscribe as Subscribe-call};
 ghost use Rattle.layout.specs.Calls.{answer, after, open-answer, open-after};
 ghost use Rattle.ledger.specs.Ids.{message-of};
 ghost use Rattle.broker.specs.Exports.{target-from, kind-from};
@@ -126,6 +127,18 @@ pub extern "C" fn broker_seek(
             target: Target::Id(ledger, entry),
         },
     )
+}
+
+// Hands entries back: a list of groups of ledger, entry, n and n words, which are ignored.
+#[no_mangle]
+pub extern "C" fn broker_redeliver(store: &mut [u64], consumer: u64, list: &[u64]) -> u64
+    ensures answer { λ r. ⌜ r ≡ answer (now (store .entry)) (Redeliver consumer (now (list .entry))) ⌝ }
+    ensures words { λ _. ⌜ now (store .exit) ≡ after (now (store .entry)) (Redeliver consumer (now (list .entry))) ⌝ }
+{
+    if !spells(store) {
+        return 1;
+    }
+    redeliver(store, consumer, list)
 }
 
 // Closes a consumer. The value is 1 if one was live, else 0.

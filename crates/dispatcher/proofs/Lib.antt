@@ -1,3 +1,6 @@
 pub mod Balances
 pub mod Gaps
 pub mod Places
+pub mod Loads
+pub mod Keeping
+pub mod Completing

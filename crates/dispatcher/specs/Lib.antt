@@ -1,2 +1,4 @@
 pub mod Held
 pub mod Outside
+pub mod Values
+pub mod Completion

@@ -3,14 +3,15 @@
 use super::stretch::close_gap;
 use super::stretch::is_word;
 use store::offsets::dispatcher_at;
+use store::stretch::clear_words;
 use store::stretch::word;
 ghost use mathlib.Core.Path.{_≡_};
 ghost use mathlib.Core.List.{_++_, _∷_, []};
-ghost use Prim.Native.Nat.{_+_, _<_};
-ghost use lib.ListN.{length, take, drop};
+ghost use Prim.Native.Nat.{_+_, _≤_, _<_};
+ghost use lib.ListN.{length, getD, set, take, drop};
 ghost use Rattle.rules.specs.Dispatcher.{with-places, is-hold};
 ghost use Rattle.layout.specs.Layout.{decode, put};
-ghost use Rattle.layout.specs.Fields.{dispatcher-nth, set-dispatcher};
+ghost use Rattle.layout.specs.Fields.{zero-held, dispatcher-nth, set-dispatcher};
 ghost use Rattle.layout.specs.Placed.{Dispatcher-in};
 ghost use Rattle.store.specs.Find.{slot};
 ghost use Rattle.dispatcher.specs.Held.{held-of, held-at, by-hold, by-holder};
@@ -22,6 +23,12 @@ pub fn flight_count(store: &[u64], e: usize, d: usize) -> usize
 {
     let at = dispatcher_at(e, d);
     word(store, at + 174 + e)
+}
+
+// An entry in flight by value.
+pub struct Held {
+    pub holder: u64,
+    pub position: usize,
 }
 
 // Whether the entry in flight at an offset is `id`'s hold on position `k`.
@@ -92,4 +99,37 @@ pub fn append_flight(store: &mut [u64], e: usize, d: usize, id: u64, k: usize)
     store[free] = id;
     store[free + 1] = k as u64;
     store[at + 174 + e] = (n + 1) as u64;
+}
+
+// Entry `j` in flight of dispatcher `d`.
+pub fn load_held(store: &[u64], e: usize, d: usize, j: usize) -> Held
+    requires { ⌜ Dispatcher-in e (now store) d × (j < length (dispatcher-nth (decode (now store)) d .in-flight)) ⌝ }
+    ensures { λ r. ⌜ held-of (r .holder) (r .position) ≡ getD (dispatcher-nth (decode (now (store .entry))) d .in-flight) j zero-held ⌝ }
+{
+    let at = dispatcher_at(e, d) + 175 + e + j * 2;
+    Held {
+        holder: store[at],
+        position: word(store, at + 1),
+    }
+}
+
+// Dispatcher `d` gets another entry `j` in flight.
+pub fn save_held(store: &mut [u64], e: usize, d: usize, j: usize, held: Held)
+    requires { ⌜ Dispatcher-in e (now store) d × (j < length (dispatcher-nth (decode (now store)) d .in-flight)) ⌝ }
+    ensures { λ _. ⌜ now (store .exit) ≡ put (now (store .entry)) (set-dispatcher (decode (now (store .entry))) d (with-places (dispatcher-nth (decode (now (store .entry))) d) (dispatcher-nth (decode (now (store .entry))) d .redelivery) (set (dispatcher-nth (decode (now (store .entry))) d .in-flight) j (held-of (held .holder) (held .position))))) ⌝ }
+{
+    let at = dispatcher_at(e, d) + 175 + e + j * 2;
+    store[at] = held.holder;
+    store[at + 1] = held.position as u64;
+}
+
+// The first `n` entries in flight of dispatcher `d` stay, the others go.
+pub fn keep_flight(store: &mut [u64], e: usize, d: usize, n: usize)
+    requires { ⌜ Dispatcher-in e (now store) d × (n ≤ length (dispatcher-nth (decode (now store)) d .in-flight)) ⌝ }
+    ensures { λ _. ⌜ now (store .exit) ≡ put (now (store .entry)) (set-dispatcher (decode (now (store .entry))) d (with-places (dispatcher-nth (decode (now (store .entry))) d) (dispatcher-nth (decode (now (store .entry))) d .redelivery) (take n (dispatcher-nth (decode (now (store .entry))) d .in-flight)))) ⌝ }
+{
+    let at = dispatcher_at(e, d);
+    let count = word(store, at + 174 + e);
+    clear_words(store, at + 175 + e + n * 2, at + 175 + e + count * 2);
+    store[at + 174 + e] = n as u64;
 }

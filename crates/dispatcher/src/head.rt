@@ -1,4 +1,5 @@
-// The next slot, the cursor and the mark-delete of a dispatcher. Each has one word.
+// The next slot, the cursor and the mark-delete of a dispatcher, each by itself or with the total as
+// one record. Each has one word.
 use store::offsets::dispatcher_at;
 use store::stretch::word;
 ghost use mathlib.Core.Path.{_≡_};
@@ -6,6 +7,15 @@ ghost use Rattle.rules.specs.Dispatcher.{with-next, with-cursor, with-mark-dele
 ghost use Rattle.layout.specs.Layout.{decode, put};
 ghost use Rattle.layout.specs.Fields.{dispatcher-nth, set-dispatcher};
 ghost use Rattle.layout.specs.Placed.{Dispatcher-in};
+ghost use Rattle.dispatcher.specs.Values.{head-of, with-head};
+
+// The four numbers of a dispatcher that move together, by value.
+pub struct Head {
+    pub next: usize,
+    pub cursor: usize,
+    pub mark_delete: usize,
+    pub total_available_permits: u64,
+}
 
 // The next slot of dispatcher `d`.
 pub fn next(store: &[u64], e: usize, d: usize) -> usize
@@ -59,4 +69,30 @@ pub fn set_mark_delete(store: &mut [u64], e: usize, d: usize, to: usize)
 {
     let at = dispatcher_at(e, d);
     store[at + 4] = to as u64;
+}
+
+// The four numbers of dispatcher `d`.
+pub fn load_head(store: &[u64], e: usize, d: usize) -> Head
+    requires { ⌜ Dispatcher-in e (now store) d ⌝ }
+    ensures { λ r. ⌜ r ≡ head-of (dispatcher-nth (decode (now (store .entry))) d) ⌝ }
+{
+    let at = dispatcher_at(e, d);
+    Head {
+        next: word(store, at + 2),
+        cursor: word(store, at + 3),
+        mark_delete: word(store, at + 4),
+        total_available_permits: store[at + 5],
+    }
+}
+
+// Dispatcher `d` gets other four numbers.
+pub fn save_head(store: &mut [u64], e: usize, d: usize, head: Head)
+    requires { ⌜ Dispatcher-in e (now store) d ⌝ }
+    ensures { λ _. ⌜ now (store .exit) ≡ put (now (store .entry)) (set-dispatcher (decode (now (store .entry))) d (with-head (dispatcher-nth (decode (now (store .entry))) d) head)) ⌝ }
+{
+    let at = dispatcher_at(e, d);
+    store[at + 2] = head.next as u64;
+    store[at + 3] = head.cursor as u64;
+    store[at + 4] = head.mark_delete as u64;
+    store[at + 5] = head.total_available_permits;
 }

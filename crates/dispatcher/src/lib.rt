@@ -1,5 +1,6 @@
 // The dispatcher of a shared subscription in a store.
 pub mod balance;
+pub mod completion;
 pub mod flight;
 pub mod head;
 pub mod marks;

@@ -1,4 +1,5 @@
 // The marks of a dispatcher, one for each entry of its topic.
+use bits::UnackedBits;
 use store::offsets::dispatcher_at;
 use store::stretch::word;
 ghost use mathlib.Core.Path.{_≡_};
@@ -7,11 +8,19 @@ ghost use mathlib.Core.List.{_++_, _∷_, []};
 ghost use Prim.Native.Nat.{suc, _-_, _^_, _<_, min};
 ghost use lib.ListN.{length, getD, set};
 ghost use Rattle.rules.specs.State.{new-mark};
-ghost use Rattle.rules.specs.Dispatcher.{with-marks, mark-at};
+ghost use Rattle.rules.specs.Dispatcher.{with-marks, mark-at, complete-at};
 ghost use Rattle.rules.specs.Commands.{raised};
 ghost use Rattle.layout.specs.Layout.{decode, put};
 ghost use Rattle.layout.specs.Fields.{dispatcher-nth, set-dispatcher, with-complete};
 ghost use Rattle.layout.specs.Placed.{Dispatcher-in};
+ghost use Rattle.dispatcher.specs.Values.{mark-of};
+
+// A mark by value: whether its entry is complete, its redelivery count, its stored bits.
+pub struct Mark {
+    pub complete: bool,
+    pub redelivery_count: u64,
+    pub unacked: UnackedBits,
+}
 
 // The number of marks of dispatcher `d`.
 pub fn mark_count(store: &[u64], e: usize, d: usize) -> usize
@@ -60,4 +69,45 @@ pub fn raise_count(store: &mut [u64], e: usize, d: usize, k: usize)
     let at = dispatcher_at(e, d);
     let count = at + 177 + 3 * e + k * 6;
     store[count] = one_more(store[count]);
+}
+
+// Mark `k` of dispatcher `d`.
+pub fn load_mark(store: &[u64], e: usize, d: usize, k: usize) -> Mark
+    requires { ⌜ Dispatcher-in e (now store) d × (k < length (dispatcher-nth (decode (now store)) d .marks)) ⌝ }
+    ensures { λ r. ⌜ mark-of r ≡ mark-at (dispatcher-nth (decode (now (store .entry))) d) k ⌝ }
+{
+    let at = dispatcher_at(e, d) + 176 + 3 * e + k * 6;
+    Mark {
+        complete: store[at] == 1,
+        redelivery_count: store[at + 1],
+        unacked: UnackedBits {
+            w0: store[at + 2],
+            w1: store[at + 3],
+            w2: store[at + 4],
+            w3: store[at + 5],
+        },
+    }
+}
+
+// Whether mark `k` of dispatcher `d` is complete.
+pub fn is_complete(store: &[u64], e: usize, d: usize, k: usize) -> bool
+    requires { ⌜ Dispatcher-in e (now store) d × (k < length (dispatcher-nth (decode (now store)) d .marks)) ⌝ }
+    ensures { λ r. ⌜ r ≡ complete-at (dispatcher-nth (decode (now (store .entry))) d) k ⌝ }
+{
+    let at = dispatcher_at(e, d);
+    store[at + 176 + 3 * e + k * 6] == 1
+}
+
+// Dispatcher `d` gets another mark `k`.
+pub fn save_mark(store: &mut [u64], e: usize, d: usize, k: usize, mark: Mark)
+    requires { ⌜ Dispatcher-in e (now store) d × (k < length (dispatcher-nth (decode (now store)) d .marks)) ⌝ }
+    ensures { λ _. ⌜ now (store .exit) ≡ put (now (store .entry)) (set-dispatcher (decode (now (store .entry))) d (with-marks (dispatcher-nth (decode (now (store .entry))) d) (set (dispatcher-nth (decode (now (store .entry))) d .marks) k (mark-of mark)) (dispatcher-nth (decode (now (store .entry))) d .outside))) ⌝ }
+{
+    let at = dispatcher_at(e, d) + 176 + 3 * e + k * 6;
+    store[at] = mark.complete as u64;
+    store[at + 1] = mark.redelivery_count;
+    store[at + 2] = mark.unacked.w0;
+    store[at + 3] = mark.unacked.w1;
+    store[at + 4] = mark.unacked.w2;
+    store[at + 5] = mark.unacked.w3;
 }

@@ -4,7 +4,7 @@ use ledger::find::same_id;
 use store::offsets::dispatcher_at;
 use store::stretch::word;
 ghost use mathlib.Core.Path.{_≡_};
-ghost use mathlib.Core.List.{_++_};
+ghost use mathlib.Core.List.{_++_, _∷_, []};
 ghost use Prim.Native.Nat.{_+_, _<_};
 ghost use lib.ListN.{length, take, drop};
 ghost use Rattle.rules.specs.Dispatcher.{with-marks};
@@ -50,4 +50,17 @@ pub fn remove_outside(store: &mut [u64], e: usize, d: usize, j: usize)
     let n = word(store, at + 44);
     close_gap(store, at + 45 + j * 2, 2, (n - (j + 1)) * 2);
     store[at + 44] = (n - 1) as u64;
+}
+
+// An id becomes the last of the outside ids of dispatcher `d`, which has room.
+pub fn append_outside(store: &mut [u64], e: usize, d: usize, ledger: u64, entry: u64)
+    requires { ⌜ Dispatcher-in e (now store) d × (length (dispatcher-nth (decode (now store)) d .outside) < 64) ⌝ }
+    ensures { λ _. ⌜ now (store .exit) ≡ put (now (store .entry)) (set-dispatcher (decode (now (store .entry))) d (with-marks (dispatcher-nth (decode (now (store .entry))) d) (dispatcher-nth (decode (now (store .entry))) d .marks) (dispatcher-nth (decode (now (store .entry))) d .outside ++ id-of ledger entry ∷ []))) ⌝ }
+{
+    let at = dispatcher_at(e, d);
+    let n = word(store, at + 44);
+    let free = at + 45 + n * 2;
+    store[free] = ledger;
+    store[free + 1] = entry;
+    store[at + 44] = (n + 1) as u64;
 }

@@ -11,17 +11,17 @@ use lib.Seq.{drop-cons}
 use borrow.Author.Tests.{eq-eqb, ne-eqb, le-ltb}
 use Rattle.rules.specs.Table.{Key}
 use Rattle.rules.specs.State.{Id, same-id, StoredMessage}
-use Rattle.rules.specs.Ledger.{position-of, at-or-after, first-at-or-after, seek-position, appended, no-message}
+use Rattle.rules.specs.Ledger.{position-of, at-or-after, first-at-or-after, seek-position, appended, no-message, message-at}
 use Rattle.rules.proofs.Table.{by-test}
 use Rattle.words.specs.Act.{lay}
 use Rattle.layout.specs.Layout.{decode, put}
 use Rattle.layout.specs.Offsets.{topic-at, message-in}
 use Rattle.layout.specs.Fields.{topic-nth, set-topic}
 use Rattle.layout.specs.Placed.{Topic-in}
-use Rattle.layout.proofs.Gets.{read-message-count, read-message-ledger, read-message-entry}
+use Rattle.layout.proofs.Gets.{read-message-count, read-message-ledger, read-message-entry, read-message-handle, read-message-batch}
 use Rattle.layout.proofs.Sets.{append-message}
 use Rattle.store.specs.Find.{slot}
-use Rattle.ledger.specs.Ids.{id-of, id-at}
+use Rattle.ledger.specs.Ids.{id-of, id-at, message-of}
 
 -- messages are found by their ids
 abbrev pub by-message-id : Key StoredMessage Id
@@ -102,3 +102,22 @@ pub appended-words : {e : ℕ} {ws : List ℕ} (t at n : ℕ) (m : StoredMessage
 appended-words {e} {ws} t at n m h a c r =
     let to : at + 4 + n * 4 ≡ topic-at e t + message-in n = omega arith in
     rw (to, a, c) (append-message (h .canon) t (h .there) m r)
+
+-- the batch size of a message, where the code reads it
+pub batch-here : {e : ℕ} {ws : List ℕ} (t at k : ℕ) → Topic-in e ws t → at ≡ topic-at e t → k < length (topic-nth (decode ws) t .messages)
+    → getD ws (at + 7 + k * 4) 0 ≡ message-at (topic-nth (decode ws) t .messages) k .batch-size
+unfolding message-at
+batch-here {e} t at k h a l =
+    let n : at + 7 + k * 4 ≡ topic-at e t + message-in k + 3 = omega arith in
+    rw n (read-message-batch (h .canon) t (h .there) k l)
+
+-- a whole message, where the code reads it
+pub message-here : {e : ℕ} {ws : List ℕ} (t at k : ℕ) → Topic-in e ws t → at ≡ topic-at e t → k < length (topic-nth (decode ws) t .messages)
+    → message-of (getD ws (at + 4 + k * 4) 0) (getD ws (at + 4 + k * 4 + 1) 0) (getD ws (at + 4 + k * 4 + 2) 0) (getD ws (at + 4 + k * 4 + 3) 0)
+    ≡ message-at (topic-nth (decode ws) t .messages) k
+unfolding message-at
+message-here {e} t at k h a l =
+    let n : at + 4 + k * 4 ≡ topic-at e t + message-in k = omega arith in
+    rw n (
+    rw (read-message-ledger (h .canon) t (h .there) k l, read-message-entry (h .canon) t (h .there) k l,
+        read-message-handle (h .canon) t (h .there) k l, read-message-batch (h .canon) t (h .there) k l) refl)

@@ -2,4 +2,5 @@
 // at the end, make a topic. Nothing here knows of consumers or dispatchers.
 pub mod append;
 pub mod find;
+pub mod message;
 pub mod topic;

@@ -30,7 +30,7 @@ use Rattle.rules.proofs.Kept.Marks.{valid-raised, valid-set-mark}
 -- ---- shared
 
 -- a hold on a position stands there
-hold-position : (i k : ℕ) (h : Held) → is-hold i k h ≡ true → k ≡ h .position
+pub hold-position : (i k : ℕ) (h : Held) → is-hold i k h ≡ true → k ≡ h .position
 unfolding is-hold
 hold-position i k h e = eqb-true k (h .position) (and-eq-true-iff (eqb i (h .holder)) (eqb k (h .position)) .0 e .1)
 
@@ -53,7 +53,7 @@ handed-back i k ring cursor held queue p f =
     (λ t. let no-one = count-other n k t in omega arith))
 
 -- an id handed back
-redeliver-id-valid : (s : State) (ledger : List StoredMessage) (i : ℕ) (d : Dispatcher) (j : Id) → Valid-dispatcher s d → Valid-dispatcher s (redeliver-id ledger i d j)
+pub redeliver-id-valid : (s : State) (ledger : List StoredMessage) (i : ℕ) (d : Dispatcher) (j : Id) → Valid-dispatcher s d → Valid-dispatcher s (redeliver-id ledger i d j)
 unfolding redeliver-id mark-at with-places
 redeliver-id-valid s ledger i d j v =
     let k : ℕ = position-of j ledger in
@@ -69,7 +69,7 @@ redeliver-id-valid s ledger i d j v =
     (λ t. rw t v)
 
 -- its pair and its ring stay
-redeliver-id-pair : (ledger : List StoredMessage) (i : ℕ) (d : Dispatcher) (j : Id) → redeliver-id ledger i d j .pair ≡ d .pair
+pub redeliver-id-pair : (ledger : List StoredMessage) (i : ℕ) (d : Dispatcher) (j : Id) → redeliver-id ledger i d j .pair ≡ d .pair
 unfolding redeliver-id with-places with-marks
 redeliver-id-pair ledger i d j = by-test (any (is-hold i (position-of j ledger)) (d .in-flight)) (λ t. rw t) (λ t. rw t)
 
@@ -84,7 +84,7 @@ pub record Handed-back (s : State) (d e : Dispatcher) : Type 0 where
   pub same-ring : e .attached ≡ d .attached
 
 -- all of a list
-redeliver-groups-valid : (s : State) (ledger : List StoredMessage) (i : ℕ) (d : Dispatcher) (gs : List Group) → Valid-dispatcher s d
+pub redeliver-groups-valid : (s : State) (ledger : List StoredMessage) (i : ℕ) (d : Dispatcher) (gs : List Group) → Valid-dispatcher s d
     → Handed-back s d (redeliver-groups ledger i d gs)
 unfolding redeliver-groups
 redeliver-groups-valid s ledger i d [] v = record { still-valid = v; same-pair = refl; same-ring = refl }

@@ -1,0 +1,77 @@
+// What completion leads to in an ack: the acker drops its complete entries, in one pass over what is
+// in flight, and mark-delete advances.
+use super::flight::flight_count;
+use super::flight::keep_flight;
+use super::flight::load_held;
+use super::flight::save_held;
+use super::head::mark_delete;
+use super::head::set_mark_delete;
+use super::marks::is_complete;
+use super::marks::mark_count;
+ghost use mathlib.Core.Path.{_≡_};
+ghost use mathlib.Core.Bool.{not, _&&_};
+ghost use Prim.Native.Nat.{_+_, _<_};
+ghost use lib.Dec.{eqb};
+ghost use lib.ListN.{length, getD, drop};
+ghost use Rattle.rules.specs.Dispatcher.{drop-complete, leading-complete, advance-mark-delete, complete-at};
+ghost use Rattle.layout.specs.Layout.{decode, put};
+ghost use Rattle.layout.specs.Fields.{zero-held, dispatcher-nth, set-dispatcher};
+ghost use Rattle.layout.specs.Placed.{Dispatcher-in};
+ghost use Rattle.dispatcher.specs.Completion.{Marked};
+
+// Whether entry `j` in flight of dispatcher `d` stays when `id` drops its complete entries.
+fn stays(store: &[u64], e: usize, d: usize, id: u64, j: usize) -> bool
+    requires { ⌜ Dispatcher-in e (now store) d × (j < length (dispatcher-nth (decode (now store)) d .in-flight)) × (getD (dispatcher-nth (decode (now store)) d .in-flight) j zero-held .position < length (dispatcher-nth (decode (now store)) d .marks)) ⌝ }
+    ensures { λ r. ⌜ r ≡ not (eqb id (getD (dispatcher-nth (decode (now (store .entry))) d .in-flight) j zero-held .holder) && complete-at (dispatcher-nth (decode (now (store .entry))) d) (getD (dispatcher-nth (decode (now (store .entry))) d .in-flight) j zero-held .position)) ⌝ }
+{
+    let h = load_held(store, e, d, j);
+    if h.holder == id {
+        return !is_complete(store, e, d, h.position);
+    }
+    true
+}
+
+// The consumer `id` drops its complete entries of dispatcher `d`; no other holder does. Those that
+// stay move to the front in their order.
+pub fn drop_complete(store: &mut [u64], e: usize, d: usize, id: u64)
+    requires { ⌜ Dispatcher-in e (now store) d × Marked (dispatcher-nth (decode (now store)) d) ⌝ }
+    ensures { λ _. ⌜ now (store .exit) ≡ put (now (store .entry)) (set-dispatcher (decode (now (store .entry))) d (drop-complete id (dispatcher-nth (decode (now (store .entry))) d))) ⌝ }
+{
+    let n = flight_count(store, e, d);
+    let mut j = 0;
+    let mut kept = 0;
+    while j < n {
+        if stays(store, e, d, id, j) {
+            let h = load_held(store, e, d, j);
+            save_held(store, e, d, kept, h);
+            kept += 1;
+        }
+        j += 1;
+    }
+    keep_flight(store, e, d, kept);
+}
+
+// The first position from `from` on whose entry is not complete, in dispatcher `d`.
+fn first_incomplete(store: &[u64], e: usize, d: usize, from: usize) -> usize
+    requires { ⌜ Dispatcher-in e (now store) d ⌝ }
+    ensures { λ r. ⌜ r ≡ from + leading-complete (drop from (dispatcher-nth (decode (now (store .entry))) d .marks)) ⌝ }
+{
+    let n = mark_count(store, e, d);
+    let mut k = from;
+    while k < n {
+        if !is_complete(store, e, d, k) {
+            return k;
+        }
+        k += 1;
+    }
+    k
+}
+
+// The mark-delete of dispatcher `d` goes forward while the entry there is complete.
+pub fn advance_mark_delete(store: &mut [u64], e: usize, d: usize)
+    requires { ⌜ Dispatcher-in e (now store) d ⌝ }
+    ensures { λ _. ⌜ now (store .exit) ≡ put (now (store .entry)) (set-dispatcher (decode (now (store .entry))) d (advance-mark-delete (dispatcher-nth (decode (now (store .entry))) d))) ⌝ }
+{
+    let k = first_incomplete(store, e, d, mark_delete(store, e, d));
+    set_mark_delete(store, e, d, k);
+}

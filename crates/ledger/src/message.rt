@@ -1,0 +1,40 @@
+// A message of a ledger, read by value.
+use store::offsets::topic_at;
+ghost use mathlib.Core.Path.{_≡_};
+ghost use Prim.Native.Nat.{_<_};
+ghost use lib.ListN.{length};
+ghost use Rattle.rules.specs.Ledger.{message-at};
+ghost use Rattle.layout.specs.Layout.{decode};
+ghost use Rattle.layout.specs.Fields.{topic-nth};
+ghost use Rattle.layout.specs.Placed.{Topic-in};
+ghost use Rattle.ledger.specs.Ids.{message-of};
+
+pub struct StoredMessage {
+    pub ledger: u64,
+    pub entry: u64,
+    pub handle: u64,
+    pub batch_size: u64,
+}
+
+// Message `k` of topic `t`.
+pub fn load_message(store: &[u64], e: usize, t: usize, k: usize) -> StoredMessage
+    requires { ⌜ Topic-in e (now store) t × (k < length (topic-nth (decode (now store)) t .messages)) ⌝ }
+    ensures { λ r. ⌜ message-of (r .ledger) (r .entry) (r .handle) (r .«batch_size») ≡ message-at (topic-nth (decode (now (store .entry))) t .messages) k ⌝ }
+{
+    let at = topic_at(e, t) + 4 + k * 4;
+    StoredMessage {
+        ledger: store[at],
+        entry: store[at + 1],
+        handle: store[at + 2],
+        batch_size: store[at + 3],
+    }
+}
+
+// The batch size of message `k` of topic `t`.
+pub fn batch_size(store: &[u64], e: usize, t: usize, k: usize) -> u64
+    requires { ⌜ Topic-in e (now store) t × (k < length (topic-nth (decode (now store)) t .messages)) ⌝ }
+    ensures { λ r. ⌜ r ≡ message-at (topic-nth (decode (now (store .entry))) t .messages) k .batch-size ⌝ }
+{
+    let at = topic_at(e, t);
+    store[at + 7 + k * 4]
+}

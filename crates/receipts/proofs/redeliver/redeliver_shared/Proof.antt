@@ -1,0 +1,55 @@
+-- `receipts::redeliver::redeliver_shared` meets its contract: what it holds of the list is handed back.
+use mathlib.Core.Path.{refl, ap, _∙_}
+use Prim.Native.Nat.{ℕ, _<_}
+use lib.ListN.{length}
+use Rattle.rules.specs.State.{ledger-of}
+use Rattle.rules.specs.Commands.{redeliver-groups}
+use Rattle.layout.specs.Layout.{decode, put}
+use Rattle.layout.specs.Fields.{consumer-nth, dispatcher-nth, set-dispatcher}
+use Rattle.layout.proofs.Placed.{dispatcher-in}
+use Rattle.groups.specs.Walk.{groups-from}
+use Rattle.frame.proofs.Frame.{done-with-nothing, shared-found, dispatcher-found-valid}
+use Rattle.commands.proofs.Found.{live-canon, live-in, live-valid, live-slot, live-consumer}
+use Rattle.receipts.proofs.Shared.{shared-hands}
+use borrow.Author.Needs.{needs}
+use Rattle.receipts.proofs.redeliver.redeliver_shared.Statement.{statement}
+use Rattle.receipts.proofs.redeliver.redeliver_shared.Tie as tie
+
+-- the dispatcher of the shared consumer is there
+there : (c : tie.After-dispatcher-of) → c .dispatcher-of .result < length (decode (c .before .before .before .before .before .before .args .store .now) .dispatchers)
+there c =
+    let a = c .before .before .before .before .before .before .args in
+    let p = c .before .before .before .before .before .before .pre in
+    shared-found (decode (a .store .now)) (c .dispatcher-of .result) _ (c .dispatcher-of .ensures) (consumer-nth (decode (a .store .now)) (a .i)) (live-consumer (p .0)) (p .3) refl
+
+topic-requires : tie.Need-topic-requires
+topic-requires c κs = live-in (c .before .before .before .pre .0)
+
+dispatcher-of-requires : tie.Need-dispatcher-of-requires
+dispatcher-of-requires c κs = live-in (c .before .before .before .before .before .pre .0)
+
+hand-back-all-requires : tie.Need-hand-back-all-requires
+hand-back-all-requires c κs =
+    let a = c .before .before .before .before .before .before .before .args in
+    let p = c .before .before .before .before .before .before .before .pre in
+    let d = c .before .dispatcher-of in
+    let g = there (c .before) in
+    (dispatcher-in (live-canon (p .0)) (d .result) g, p .2, dispatcher-found-valid (decode (a .store .now)) (d .result) _ (d .ensures) (live-valid (p .0)) g)
+
+same-length : tie.Need-same-length
+same-length c = search needs
+
+returns : tie.Need-returns
+returns c =
+    let a = c .before .before .before .before .before .before .before .before .before .before .args in
+    let p = c .before .before .before .before .before .before .before .before .before .before .pre in
+    let h = p .0 in
+    let s = decode (a .store .now) in
+    let d = c .before .before .before .before .dispatcher-of in
+    done-with-nothing (a .store .now) _ (h .spelt)
+    (shared-hands s (a .i) (a .consumer) (a .list .now) (live-slot h ∙ rw (p .1)) (live-valid h) (h .there) (p .2) (p .3) (d .result) (d .ensures) (there (c .before .before .before .before)))
+    (c .before .before .hand-back-all .ensures
+    ∙ ap (λ (n : ℕ). put (a .store .now) (set-dispatcher s (d .result) (redeliver-groups (ledger-of s n) (a .consumer) (dispatcher-nth s (d .result)) (groups-from (a .list .now) 0)))) (c .before .before .before .before .before .before .topic .ensures))
+
+pub redeliver-shared-spec : {M : Type 1} → statement M
+redeliver-shared-spec = tie.close (tie.spec topic-requires dispatcher-of-requires hand-back-all-requires same-length returns)
