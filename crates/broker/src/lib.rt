@@ -2,6 +2,7 @@
 // pointer and a length, and answers value × 256 + number, the number 0 when done. No export
 // requires anything; the contracts are one equation for the answer and one for every lent slice.
 // Every call but opening first checks that the words spell a state, and answers 1 where they do not.
+use acks::ack::ack;
 use commands::append::append;
 use commands::command::Seek;
 use commands::command::Target;
@@ -14,7 +15,7 @@ use membership::subscribe::subscribe;
 use receipts::redeliver::redeliver;
 use store::check::spells;
 ghost use mathlib.Core.Path.{_≡_};
-ghost use Rattle.rules.specs.Calls.Call.{Append, Flow, Redeliver, Close, Seek as Seek-call, Subscribe as Subscribe-call};
+ghost use Rattle.rules.specs.Calls.Call.{Append, Flow, Ack, Redeliver, Close, Seek as Seek-call, Subscribe as Subscribe-call};
 ghost use Rattle.layout.specs.Calls.{answer, after, open-answer, open-after};
 ghost use Rattle.ledger.specs.Ids.{message-of};
 ghost use Rattle.broker.specs.Exports.{target-from, kind-from};
@@ -94,6 +95,19 @@ pub extern "C" fn broker_flow(store: &mut [u64], consumer: u64, grant: u32) -> u
         return 1;
     }
     flow(store, consumer, grant)
+}
+
+// Acknowledges entries: a list of groups of ledger, entry, n and n words of its ack set. The value is
+// mark-delete × 2, plus 1 if it moved; of a plain consumer 0.
+#[no_mangle]
+pub extern "C" fn broker_ack(store: &mut [u64], consumer: u64, list: &[u64]) -> u64
+    ensures answer { λ r. ⌜ r ≡ answer (now (store .entry)) (Ack consumer (now (list .entry))) ⌝ }
+    ensures words { λ _. ⌜ now (store .exit) ≡ after (now (store .entry)) (Ack consumer (now (list .entry))) ⌝ }
+{
+    if !spells(store) {
+        return 1;
+    }
+    ack(store, consumer, list)
 }
 
 // Moves a consumer's cursor: target 0 is the start, else the id. The value is the cursor.

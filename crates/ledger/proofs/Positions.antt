@@ -119,5 +119,9 @@ unfolding message-at
 message-here {e} t at k h a l =
     let n : at + 4 + k * 4 ≡ topic-at e t + message-in k = omega arith in
     rw n (
-    rw (read-message-ledger (h .canon) t (h .there) k l, read-message-entry (h .canon) t (h .there) k l,
-        read-message-handle (h .canon) t (h .there) k l, read-message-batch (h .canon) t (h .there) k l) refl)
+    rw (
+      read-message-ledger (h .canon) t (h .there) k l,
+      read-message-entry (h .canon) t (h .there) k l,
+      read-message-handle (h .canon) t (h .there) k l,
+      read-message-batch (h .canon) t (h .there) k l,
+    ) refl)

@@ -1,0 +1,60 @@
+-- `acks::ack_id::ack_entry` meets its contract: the mark is read, acknowledged and written.
+use mathlib.Core.Path.{_≡_, ap, _∙_}
+use Prim.Native.Nat.{ℕ}
+use native.Mathlib.Omega.{arith}
+use lib.ListN.{set}
+use Rattle.rules.specs.State.{Mark, ledger-of}
+use Rattle.rules.specs.Ledger.{message-at}
+use Rattle.rules.specs.Dispatcher.{with-marks, mark-at, ack-mark}
+use Rattle.layout.specs.Layout.{decode, put}
+use Rattle.layout.specs.Fields.{dispatcher-nth, set-dispatcher}
+use Rattle.groups.specs.Walk.{group-at}
+use Rattle.dispatcher.specs.Values.{mark-of}
+use borrow.Author.Needs.{needs}
+use Rattle.acks.proofs.ack_id.ack_entry.Statement.{statement}
+use Rattle.acks.proofs.ack_id.ack_entry.Tie as tie
+
+batch-size-of-requires : tie.Need-batch-size-of-requires
+batch-size-of-requires c κs = search needs
+
+load-mark-requires : tie.Need-load-mark-requires
+load-mark-requires c κs =
+    let p = c .before .before .before .before .before .pre in
+    let o = p .0 .one-each in
+    let k = p .1 in
+    (p .0 .within, omega arith)
+
+acked-mark-requires : tie.Need-acked-mark-requires
+acked-mark-requires c κs = let p = c .before .before .before .before .before .before .pre in (rw (c .before .before .batch-size-of .ensures) (p .0 .batches (c .before .before .before .before .before .before .args .k) (p .1)), p .2)
+
+save-mark-requires : tie.Need-save-mark-requires
+save-mark-requires c κs =
+    let p = c .before .before .before .before .before .before .before .before .pre in
+    let o = p .0 .one-each in
+    let k = p .1 in
+    (p .0 .within, omega arith)
+
+same-length : tie.Need-same-length
+same-length c = search needs
+
+returns : tie.Need-returns
+returns c =
+    let a = c .before .before .before .before .before .before .before .before .before .before .before .args in
+    let s = decode (a .store .now) in
+    let x = dispatcher-nth s (a .d) in
+    let m : mark-of (c .before .before .before .before .acked-mark .result) ≡ ack-mark (message-at (ledger-of s (a .topic)) (a .k) .batch-size) (group-at (a .list .now) (a .at) .words) (mark-at x (a .k)) =
+    c .before .before .before .before .acked-mark .ensures
+    ∙ ap (λ (n : ℕ). ack-mark n (group-at (a .list .now) (a .at) .words) (mark-of (c .before .before .before .before .before .load-mark .result))) (c .before .before .before .before .before .before .before .batch-size-of .ensures)
+    ∙ ap (λ (y : Mark). ack-mark (message-at (ledger-of s (a .topic)) (a .k) .batch-size) (group-at (a .list .now) (a .at) .words) y) (c .before .before .before .before .before .load-mark .ensures) in
+    c .before .before .save-mark .ensures ∙ ap (λ (y : Mark). put (a .store .now) (set-dispatcher s (a .d) (with-marks x (set (x .marks) (a .k) y) (x .outside)))) m
+
+pub ack-entry-spec : {M : Type 1} → statement M
+ack-entry-spec =
+    tie.close
+    (tie.spec
+    batch-size-of-requires
+    load-mark-requires
+    acked-mark-requires
+    save-mark-requires
+    same-length
+    returns)

@@ -1,0 +1,42 @@
+-- `acks::ack_id::ack_outside` meets its contract: the id joins the outside ids, or is among them already.
+use mathlib.Core.Path.{sym, _∙_}
+use borrow.Author.Tests.{not-true, not-false}
+use Rattle.layout.specs.Layout.{decode}
+use Rattle.layout.specs.Fields.{dispatcher-nth}
+use Rattle.ledger.specs.Ids.{id-of}
+use Rattle.acks.proofs.Marking.{last-room, unchanged}
+use borrow.Author.Needs.{needs}
+use Rattle.acks.proofs.ack_id.ack_outside.Statement.{statement}
+use Rattle.acks.proofs.ack_id.ack_outside.Tie as tie
+
+is-outside-requires : tie.Need-is-outside-requires
+is-outside-requires c κs = search needs
+
+append-outside-requires : tie.Need-append-outside-requires
+append-outside-requires c κs =
+    let a = c .before .before .before .before .before .args in
+    let n = sym (c .before .before .is-outside .ensures) ∙ not-true _ (c .before .if1 .taken) in
+    (c .before .before .before .before .before .pre .0, last-room (id-of (a .ledger) (a .entry)) (dispatcher-nth (decode (a .store .now)) (a .d)) n (c .before .before .before .before .before .pre .1))
+
+same-length : tie.Need-same-length
+same-length c = search needs
+
+returns : tie.Need-returns
+returns c = let n = sym (c .before .before .before .before .before .is-outside .ensures) ∙ not-true _ (c .before .before .before .before .if1 .taken) in rw n (c .before .before .append-outside .ensures)
+
+same-length-2 : tie.Need-same-length-2
+same-length-2 c = search needs
+
+returns-2 : tie.Need-returns-2
+returns-2 c = let n = sym (c .before .is-outside .ensures) ∙ not-false _ (c .if1 .left) in rw n (unchanged (c .before .before .before .before .args .d) (c .before .before .before .before .pre .0))
+
+pub ack-outside-spec : {M : Type 1} → statement M
+ack-outside-spec =
+    tie.close
+    (tie.spec
+    is-outside-requires
+    append-outside-requires
+    same-length
+    returns
+    same-length-2
+    returns-2)

@@ -1,0 +1,43 @@
+-- `acks::ack_id::acked_in_part` meets its contract: the entry was complete, or is if no bit is left.
+use mathlib.Core.Path.{_≡_, _∙_}
+use Rattle.bits.specs.Four.{words, four}
+use Rattle.rules.specs.Dispatcher.{bits-left}
+use Rattle.groups.specs.Walk.{group-at}
+use Rattle.acks.proofs.Marking.{bits-now, none-left, or-left, or-right, in-part}
+use borrow.Author.Needs.{needs}
+use Rattle.acks.proofs.ack_id.acked_in_part.Statement.{statement}
+use Rattle.acks.proofs.ack_id.acked_in_part.Tie as tie
+
+bits-or-fresh-requires : tie.Need-bits-or-fresh-requires
+bits-or-fresh-requires c κs = search needs
+
+and-group-requires : tie.Need-and-group-requires
+and-group-requires c κs = search needs
+
+bits-empty-requires : tie.Need-bits-empty-requires
+bits-empty-requires c κs = search needs
+
+-- the bits left
+left : (c : tie.After-and-group) → c .and-group .result ≡ four (bits-left (c .before .before .before .before .args .batch) (group-at (c .before .before .before .before .args .list .now) (c .before .before .before .before .args .at) .words) (c .before .before .before .before .args .mark .unacked))
+left c =
+    let a = c .before .before .before .before .args in
+    bits-now (a .mark .unacked) (c .before .bits-or-fresh .result) (c .and-group .result) (a .batch) (group-at (a .list .now) (a .at) .words) (c .before .bits-or-fresh .ensures) (c .and-group .ensures)
+
+returns : tie.Need-returns
+returns c =
+    let a = c .before .before .before .before .before .args in
+    let l = left (c .before) in
+    in-part (a .mark) (a .mark .complete) (c .before .and-group .result) (a .batch) (group-at (a .list .now) (a .at) .words) (or-left (a .mark .complete) _ (c .if1 .taken)) l
+
+returns-2 : tie.Need-returns-2
+returns-2 c =
+    let a = c .before .before .before .before .before .before .args in
+    let l = left (c .before .before) in
+    let n = none-left (a .mark .unacked) (c .before .before .and-group .result) (a .batch) (group-at (a .list .now) (a .at) .words) l in
+    in-part (a .mark) (c .bits-empty .result) (c .before .before .and-group .result) (a .batch) (group-at (a .list .now) (a .at) .words)
+    (or-right (a .mark .complete) _ (c .bits-empty .result) (c .before .if1 .left) (c .bits-empty .ensures ∙ n)) l
+
+pub acked-in-part-spec : {M : Type 1} → statement M
+acked-in-part-spec =
+    tie.close
+    (tie.spec bits-or-fresh-requires and-group-requires bits-empty-requires returns returns-2)

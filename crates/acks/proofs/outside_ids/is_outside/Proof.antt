@@ -1,0 +1,22 @@
+-- `acks::outside_ids::is_outside` meets its contract: the slot lies among the outside ids, or not.
+use Rattle.layout.specs.Layout.{decode}
+use Rattle.layout.specs.Fields.{dispatcher-nth}
+use Rattle.ledger.specs.Ids.{id-of}
+use Rattle.rules.specs.Dispatcher.{is-outside}
+use Rattle.acks.proofs.Counts.{slot-any}
+use borrow.Author.Needs.{needs}
+use Rattle.acks.proofs.outside_ids.is_outside.Statement.{statement}
+use Rattle.acks.proofs.outside_ids.is_outside.Tie as tie
+
+find-outside-requires : tie.Need-find-outside-requires
+find-outside-requires c κs = search needs
+
+outside-count-requires : tie.Need-outside-count-requires
+outside-count-requires c κs = search needs
+
+returns : tie.Need-returns
+unfolding is-outside
+returns c = let a = c .before .before .before .args in rw (c .before .find-outside .ensures, c .outside-count .ensures) (slot-any (id-of (a .ledger) (a .entry)) (dispatcher-nth (decode (a .store .now)) (a .d) .outside))
+
+pub is-outside-spec : {M : Type 1} → statement M
+is-outside-spec = tie.close (tie.spec find-outside-requires outside-count-requires returns)

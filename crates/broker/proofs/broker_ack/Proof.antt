@@ -1,0 +1,38 @@
+-- `broker::broker_ack` meets its contract: the words are checked, then the command runs.
+use Rattle.store.proofs.Spelt.{answered-no, answered-yes}
+use Rattle.broker.proofs.Unspelt.{unspelt}
+use borrow.Author.Needs.{needs}
+use Rattle.broker.proofs.broker_ack.Statement.{statement}
+use Rattle.broker.proofs.broker_ack.Tie as tie
+use Rattle.broker.proofs.broker_ack.Reads as reads
+use Rattle.broker.proofs.broker_ack.Lts as lts
+use Rattle.acks.proofs.ack.ack.Reads as ack-reads
+use Rattle.store.proofs.check.spells.Reads as spells-reads
+
+-- src/lib.rt:51:9
+spells-requires : tie.Need-spells-requires
+spells-requires c κs = search needs
+
+-- src/lib.rt:52:9
+same-length : tie.Need-same-length
+same-length c = search needs
+
+-- src/lib.rt:52:9
+returns : tie.Need-returns
+returns c = unspelt _ _ (answered-no (c .before .spells .ensures) (c .if1 .taken))
+
+-- src/lib.rt:54:5
+ack-requires : tie.Need-ack-requires
+ack-requires c κs = answered-yes (c .before .before .spells .ensures) (c .before .if1 .left)
+
+-- src/lib.rt:46:1
+same-length-2 : tie.Need-same-length-2
+same-length-2 c = search needs
+
+-- src/lib.rt:46:1
+returns-2 : tie.Need-returns-2
+returns-2 c = search needs
+
+pub broker-ack-spec : {M : Type 1} → statement M
+broker-ack-spec =
+    tie.close (tie.spec spells-requires same-length returns ack-requires same-length-2 returns-2)

@@ -1,0 +1,113 @@
+-- `turns::due::due_shared` meets its contract. The loop's invariant: what is ahead, with what was counted, is the whole.
+use mathlib.Core.Path.{_≡_, refl, _∙_}
+use Prim.Native.Nat.{_-_, _≤_, _<_}
+use native.Mathlib.Omega.{arith}
+use lib.ListN.{length}
+use Rattle.rules.specs.State.{by-number}
+use Rattle.layout.specs.Layout.{decode}
+use Rattle.layout.specs.Canon.{Canon-store}
+use Rattle.layout.specs.Fields.{dispatcher-nth}
+use Rattle.layout.proofs.Gets.{read-dispatcher-count}
+use Rattle.store.specs.Find.{slot}
+use Rattle.frame.proofs.Frame.{canon-of}
+use Rattle.turns.specs.Turns.{ledger-under}
+use Rattle.turns.proofs.Served.{serving-now, served-few}
+use Rattle.turns.proofs.Totals.{Carried, carried-start, carried-on, carried-end}
+use borrow.Author.Needs.{needs}
+use Rattle.turns.proofs.due.due_shared.Statement.{statement}
+use Rattle.turns.proofs.due.due_shared.Tie as tie
+
+abbrev Inv-loop : tie.InvT-loop
+Inv-loop store e permits₀ n count₀ d₀ permits count d = (d ≤ n) × (length permits ≡ length permits₀) × Carried (decode store) permits₀ permits d count
+
+abbrev μ-loop : tie.MeasureT-loop
+μ-loop store e permits₀ n count₀ d₀ permits count d = n - d
+
+-- the store is spelt as it should be
+canon : (c : tie.Start Inv-loop μ-loop) → Canon-store (c .args .e) (c .args .store .now)
+canon c = canon-of (c .args .e) (c .args .store .now) (c .pre .0) (c .pre .1)
+
+-- there are as many dispatchers as the count says
+counted : (c : tie.After-word Inv-loop μ-loop) → c .word .result ≡ length (decode (c .before .before .before .args .store .now) .dispatchers)
+counted c = c .word .ensures ∙ read-dispatcher-count (canon (c .before .before .before))
+
+-- the dispatcher of a turn is one of them
+here : (c : tie.In-loop Inv-loop μ-loop) → c .before .loop .d < length (decode (c .before .before .before .before .before .args .store .now) .dispatchers)
+here c = let n = counted (c .before .before) in let t = c .loop-test .taken in omega arith
+
+-- what it is due is small
+small : (c : tie.After-slice-known2 Inv-loop μ-loop) → c .before .before .due-of .result ≤ 8193
+small c =
+    let a = c .before .before .before .before .before .before .before .before .before .args in
+    let s = decode (a .store .now) in
+    let d = c .before .before .before .before .before .loop .d in
+    let v = serving-now (a .store .now) d (c .before .before .before .before .before .before .before .before .before .pre .0) (here (c .before .before .before .before)) (a .e) (slot by-number (dispatcher-nth s d .pair .topic) (s .topics)) (length (ledger-under s d)) (c .before .before .before .before .before .before .before .before .before .pre .1) refl refl in
+    let f = served-few (a .e) (a .store .now) d (slot by-number (dispatcher-nth s d .pair .topic) (s .topics)) (length (ledger-under s d)) (c .before .before .before .before .before .loop .permits) v in
+    let r = c .before .before .due-of .ensures .0 in
+    omega arith
+
+mul-word : tie.Need-mul-word Inv-loop μ-loop
+mul-word c = let e = canon (c .before .before) .E-to in omega arith
+
+add-word : tie.Need-add-word Inv-loop μ-loop
+add-word c = let e = canon (c .before .before) .E-to in omega arith
+
+word-requires : tie.Need-word-requires Inv-loop μ-loop
+word-requires c κs = let l = canon (c .before .before) .long in omega arith
+
+loop-holds : tie.Need-loop-holds Inv-loop μ-loop
+loop-holds c = (search needs, refl, carried-start (decode (c .before .before .before .args .store .now)) (c .before .before .before .args .permits .now))
+
+due-of-requires : tie.Need-due-of-requires Inv-loop μ-loop
+due-of-requires c κs = let p = c .before .before .before .before .before .before .pre in (p .0, p .1, here (c .before))
+
+add-count : tie.Need-add-count Inv-loop μ-loop
+add-count c =
+    let f = c .before .before .before .before .before .loop .inv .2 .few in
+    let r = small c in
+    let h = here (c .before .before .before .before) in
+    let t = canon (c .before .before .before .before .before .before .before .before .before) .shaped .dispatchers-fit in
+    omega arith
+
+add-d : tie.Need-add-d Inv-loop μ-loop
+add-d c = search needs
+
+loop-less : tie.Need-loop-less Inv-loop μ-loop
+loop-less c = search needs
+
+loop-again : tie.Need-loop-again Inv-loop μ-loop
+loop-again c =
+    let a = c .before .before .before .before .before .before .before .before .before .args in (
+      search needs,
+      search needs,
+      carried-on (decode (a .store .now)) (a .permits .now) (c .before .before .before .before .before .loop .permits) (c .before .before .before .before .before .loop .d) (c .before .before .before .before .before .loop .count) (c .before .before .before .before .before .loop .inv .2)
+          (c .before .before .due-of .last .1 .1 .1 .0) (c .before .before .due-of .result) (here (c .before .before .before .before)) (c .before .before .due-of .ensures .0) (c .before .before .due-of .ensures .1) (small c),
+    )
+
+same-length : tie.Need-same-length Inv-loop μ-loop
+same-length c = search needs
+
+returns : tie.Need-returns Inv-loop μ-loop
+returns c =
+    let a = c .before .before .before .before .before .args in
+    let n = counted (c .before .before) in
+    let t = c .loop-test .left in
+    carried-end (decode (a .store .now)) (a .permits .now) (c .before .loop .permits) (c .before .loop .d) (c .before .loop .count) (c .before .loop .inv .2) (omega arith)
+
+pub due-shared-spec : {M : Type 1} → statement M
+due-shared-spec =
+    tie.close
+    (tie.spec
+    Inv-loop
+    μ-loop
+    mul-word
+    add-word
+    word-requires
+    loop-holds
+    due-of-requires
+    add-count
+    add-d
+    loop-less
+    loop-again
+    same-length
+    returns)

@@ -1,0 +1,88 @@
+// How many dispatches a push is due from the dispatchers, one after the other, the permits carried from
+// each to the next.
+use super::ring::ring_slots;
+use super::turn::Turn;
+use super::turn::take_turn;
+use dispatcher::head::load_head;
+use dispatcher::ring::ring_count;
+use store::find::find_topic;
+use store::find::ledger_length;
+use store::offsets::dispatcher_at;
+use store::stretch::word;
+ghost use mathlib.Core.Path.{_≡_};
+ghost use mathlib.Core.Bool.{true};
+ghost use Prim.Native.Nat.{_≤_, _<_};
+ghost use lib.ListN.{length};
+ghost use Rattle.layout.specs.Layout.{decode, spells};
+ghost use Rattle.layout.specs.Fields.{dispatcher-nth};
+ghost use Rattle.push.specs.Local.{fixed-of, served};
+ghost use Rattle.push.specs.Shared.{services, permits-left, all-service-records};
+ghost use Rattle.turns.specs.Turns.{Serving};
+
+// How many dispatches dispatcher `d` is due, by turns; the permits are left as its service leaves them.
+fn due_turns(
+    store: &[u64],
+    e: usize,
+    d: usize,
+    t: usize,
+    n: usize,
+    ring: &[usize],
+    permits: &mut [u64],
+) -> usize
+    requires { ⌜ Serving e (now store) d t n × (now ring ≡ fixed-of (decode (now store)) (dispatcher-nth (decode (now store)) d) .ring) × (dispatcher-nth (decode (now store)) d .next ≤ length (now ring)) ⌝ }
+    ensures count { λ r. ⌜ r ≡ length (served (decode (now (store .entry))) (dispatcher-nth (decode (now (store .entry))) d) (now (permits .entry)) .made) ⌝ }
+    ensures permits { λ _. ⌜ now (permits .exit) ≡ served (decode (now (store .entry))) (dispatcher-nth (decode (now (store .entry))) d) (now (permits .entry)) .after .permits ⌝ }
+{
+    let mut head = load_head(store, e, d);
+    let mut taken = 0;
+    let mut count = 0;
+    loop {
+        let turn = take_turn(store, e, d, t, n, ring, permits, head, taken);
+        let Turn::Move(_, h, k) = turn else {
+            return count;
+        };
+        head = h;
+        taken = k;
+        count += 1;
+    }
+}
+
+// The same, of a dispatcher whose ring is to be written to `ring`, a list of its length.
+fn due_with(store: &[u64], e: usize, d: usize, ring: &mut [usize], permits: &mut [u64]) -> usize
+    requires { ⌜ (spells (now store) ≡ true) × (e ≡ decode (now store) .entries) × (d < length (decode (now store) .dispatchers)) × (length (now ring) ≡ length (dispatcher-nth (decode (now store)) d .attached)) ⌝ }
+    ensures count { λ r. ⌜ r ≡ length (served (decode (now (store .entry))) (dispatcher-nth (decode (now (store .entry))) d) (now (permits .entry)) .made) ⌝ }
+    ensures permits { λ _. ⌜ now (permits .exit) ≡ served (decode (now (store .entry))) (dispatcher-nth (decode (now (store .entry))) d) (now (permits .entry)) .after .permits ⌝ }
+{
+    let number = store[dispatcher_at(e, d)];
+    let t = find_topic(store, e, number);
+    let n = ledger_length(store, e, number);
+    ring_slots(store, e, d, ring);
+    due_turns(store, e, d, t, n, ring, permits)
+}
+
+// How many dispatches dispatcher `d` is due; the permits are left as its service leaves them.
+pub fn due_of(store: &[u64], e: usize, d: usize, permits: &mut [u64]) -> usize
+    requires { ⌜ (spells (now store) ≡ true) × (e ≡ decode (now store) .entries) × (d < length (decode (now store) .dispatchers)) ⌝ }
+    ensures count { λ r. ⌜ r ≡ length (served (decode (now (store .entry))) (dispatcher-nth (decode (now (store .entry))) d) (now (permits .entry)) .made) ⌝ }
+    ensures permits { λ _. ⌜ now (permits .exit) ≡ served (decode (now (store .entry))) (dispatcher-nth (decode (now (store .entry))) d) (now (permits .entry)) .after .permits ⌝ }
+{
+    let size = ring_count(store, e, d);
+    let mut ring = [0usize; 32];
+    due_with(store, e, d, &mut ring[..size], permits)
+}
+
+// How many dispatches all dispatchers are due; the permits are left as the last service leaves them.
+pub fn due_shared(store: &[u64], e: usize, permits: &mut [u64]) -> usize
+    requires { ⌜ (spells (now store) ≡ true) × (e ≡ decode (now store) .entries) ⌝ }
+    ensures count { λ r. ⌜ r ≡ length (all-service-records (decode (now (store .entry))) (services (decode (now (store .entry))) (decode (now (store .entry)) .dispatchers) (now (permits .entry)))) ⌝ }
+    ensures permits { λ _. ⌜ now (permits .exit) ≡ permits-left (now (permits .entry)) (services (decode (now (store .entry))) (decode (now (store .entry)) .dispatchers) (now (permits .entry))) ⌝ }
+{
+    let n = word(store, 2354 + 32 * e);
+    let mut count = 0;
+    let mut d = 0;
+    while d < n {
+        count += due_of(store, e, d, permits);
+        d += 1;
+    }
+    count
+}

@@ -1,0 +1,40 @@
+// The ring of a dispatcher as slots of the table of consumers.
+use store::lookup::Lookup;
+use store::lookup::find_consumer;
+use store::offsets::dispatcher_at;
+use store::stretch::word;
+ghost use mathlib.Core.Path.{_≡_};
+ghost use mathlib.Core.List.{map};
+ghost use Prim.Native.Nat.{_<_};
+ghost use lib.ListN.{length, getD};
+ghost use Rattle.rules.specs.State.{by-id};
+ghost use Rattle.layout.specs.Layout.{decode};
+ghost use Rattle.layout.specs.Canon.{Canon-store};
+ghost use Rattle.layout.specs.Fields.{dispatcher-nth};
+ghost use Rattle.layout.specs.Placed.{Dispatcher-in};
+ghost use Rattle.store.specs.Find.{slot};
+ghost use Rattle.push.specs.Local.{fixed-of};
+
+// The slot of the consumer with an id; the number of consumers if it is not live.
+fn slot_of(store: &[u64], e: usize, id: u64) -> usize
+    requires { ⌜ Canon-store e (now store) ⌝ }
+    ensures { λ r. ⌜ r ≡ slot by-id id (decode (now (store .entry)) .consumers) ⌝ }
+{
+    let Lookup::Live(i) = find_consumer(store, e, id) else {
+        return word(store, 16);
+    };
+    i
+}
+
+// The ring of dispatcher `d` as slots, in a list of its length.
+pub fn ring_slots(store: &[u64], e: usize, d: usize, ring: &mut [usize])
+    requires { ⌜ Dispatcher-in e (now store) d × (length (now ring) ≡ length (dispatcher-nth (decode (now store)) d .attached)) ⌝ }
+    ensures { λ _. ⌜ now (ring .exit) ≡ fixed-of (decode (now (store .entry))) (dispatcher-nth (decode (now (store .entry))) d) .ring ⌝ }
+{
+    let at = dispatcher_at(e, d);
+    let mut j = 0;
+    while j < ring.len() {
+        ring[j] = slot_of(store, e, store[at + 12 + j]);
+        j += 1;
+    }
+}
