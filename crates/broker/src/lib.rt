@@ -12,11 +12,14 @@ use membership::close::close;
 use membership::command::Kind;
 use membership::command::Subscribe;
 use membership::subscribe::subscribe;
+use pending::command::push;
 use receipts::redeliver::redeliver;
 use store::check::spells;
 ghost use mathlib.Core.Path.{_≡_};
-ghost use Rattle.rules.specs.Calls.Call.{Append, Flow, Ack, Redeliver, Close, Seek as Seek-call, Subscribe as Subscribe-call};
-ghost use Rattle.layout.specs.Calls.{answer, after, open-answer, open-after};
+ghost use Prim.Native.Nat.{_/_};
+ghost use lib.ListN.{length};
+ghost use Rattle.rules.specs.Calls.Call.{Append, Flow, Ack, Redeliver, Close, Push, Seek as Seek-call, Subscribe as Subscribe-call};
+ghost use Rattle.layout.specs.Calls.{outcome, answer, after, list-after, open-answer, open-after};
 ghost use Rattle.ledger.specs.Ids.{message-of};
 ghost use Rattle.broker.specs.Exports.{target-from, kind-from};
 
@@ -165,4 +168,18 @@ pub extern "C" fn broker_close(store: &mut [u64], consumer: u64) -> u64
         return 1;
     }
     close(store, consumer)
+}
+
+// Hands out all that is due. The list is filled with records of 13 words; the value is how many. With 15
+// the value is how many are due, and neither store nor list changes.
+#[no_mangle]
+pub extern "C" fn broker_push(store: &mut [u64], list: &mut [u64]) -> u64
+    ensures answer { λ r. ⌜ r ≡ answer (now (store .entry)) (Push (length (now (list .entry)) / 13)) ⌝ }
+    ensures words { λ _. ⌜ now (store .exit) ≡ after (now (store .entry)) (Push (length (now (list .entry)) / 13)) ⌝ }
+    ensures records { λ _. ⌜ now (list .exit) ≡ list-after (now (list .entry)) (outcome (now (store .entry)) (Push (length (now (list .entry)) / 13))) ⌝ }
+{
+    if !spells(store) {
+        return 1;
+    }
+    push(store, list)
 }

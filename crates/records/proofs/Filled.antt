@@ -1,10 +1,10 @@
 -- Records written one after the other: some and then others, the length that stays, and all of them from the start on.
 use mathlib.Core.Path.{_≡_, refl, sym, ap, _∙_}
 use mathlib.Core.List.{List, [], _∷_, _++_, append-assoc}
-use Prim.Native.Nat.{ℕ, zero, suc, _+_, _-_, _*_, _%_, _^_, _≤_}
+use Prim.Native.Nat.{ℕ, suc, _+_, _-_, _*_, _%_, _^_, _≤_}
 use native.Mathlib.Nat.{add-zero}
 use native.Mathlib.Omega.{arith}
-use lib.ListN.{length, set, take, drop, length-append, length-drop}
+use lib.ListN.{length, set, drop, length-append, length-drop}
 use lib.Seq.{sets-eq, drop-drop}
 use Rattle.words.specs.Act.{lay}
 use Rattle.rules.specs.Outcome.{Dispatch}

@@ -1,3 +1,3 @@
-// Dispatch records as push hands them out: by value, and in the flat words of the list that the
+// Dispatch records as push hands them out: by value, and as flat words in the list that the
 // caller lends.
 pub mod record;

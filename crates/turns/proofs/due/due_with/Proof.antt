@@ -53,7 +53,7 @@ due-turns-requires c κs =
     let r = c .before .before .before .before .ring-slots .ensures in
     let n = ap (λ (l : List ℕ). length l) r in
     let m = ring-length s (dispatcher-nth s (a .d)) in
-    let x = next-in-ring ws (a .d) (p .0) (p .2) in
+    let x = next-in-ring ws (a .d) (p .0) (p .2) (a .e) (p .1) in
     (v, r, omega arith)
 
 same-length : tie.Need-same-length

@@ -1,0 +1,227 @@
+-- A whole push: the shared part written, then the plain part, is the push by plain numbers, which is the rules' push.
+use mathlib.Core.Path.{_≡_, refl, sym, ap, ap₂, _∙_, subst}
+use mathlib.Core.Bool.{true, false, cond}
+use mathlib.Core.List.{List, [], _∷_, _++_, map}
+use Prim.Native.Nat.{ℕ, zero, suc, _+_, _-_, _*_, _/_, _%_, _^_, _≤_, _<_}
+use native.Mathlib.Nat.{le-of-suc-le-suc, not-suc-le-zero}
+use native.Mathlib.Omega.{arith}
+use lib.ListN.{length, getD, drop, length-append, length-map}
+use Rattle.words.specs.Codec.{All}
+use Rattle.rules.specs.State.{Consumer, Dispatcher, State, ledger-of, with-consumers, with-dispatchers}
+use Rattle.rules.specs.Commands.{with-permits}
+use Rattle.rules.specs.Outcome.{Dispatch}
+use Rattle.layout.specs.Layout.{decode, put, spells}
+use Rattle.layout.specs.Canon.{Canon-store}
+use Rattle.layout.specs.Whole.{Shaped, Shaped-dispatcher}
+use Rattle.layout.specs.Fields.{zero-consumer, consumer-nth}
+use Rattle.layout.proofs.Valid.{ledger-fits}
+use Rattle.frame.proofs.Frame.{canon-of, canon-after, decode-after, then-write, valid-now}
+use Rattle.push.specs.Local.{Step, fixed-of, local-of, turns-of, served}
+use Rattle.push.specs.Applied.{with-each, record-of}
+use Rattle.push.specs.Shared.{Service, services, permits-left, service-records, all-service-records, served-dispatcher}
+use Rattle.push.specs.Plain.{plain-due, plain-records as recorded, ledger-for, plain-served, all-plain-records}
+use Rattle.push.specs.Whole.{permits-now, services-of, charged-consumers, local-push}
+use Rattle.push.proofs.Each.{length-each}
+use Rattle.records.specs.Flat.{filled}
+use Rattle.records.proofs.Filled.{filled-append}
+use Rattle.turns.proofs.Left.{made-few}
+use Rattle.pending.proofs.Sharing.{served-sized}
+use Rattle.plain.specs.Reading.{Readable}
+use Rattle.plain.proofs.Entries.{due-waiting, length-records}
+use Rattle.plain.proofs.Same.{readable-now, readable-same, all-served-same, all-records-same}
+
+-- one number of permits for each consumer
+pub length-permits : (s : State) → length (permits-now s) ≡ length (s .consumers)
+unfolding permits-now
+length-permits s = length-map (s .consumers) (λ (c : Consumer). c .permits)
+
+-- which are its own
+pub permits-nth : (s : State) (i : ℕ) → i < length (s .consumers) → getD (permits-now s) i 0 ≡ consumer-nth s i .permits
+unfolding permits-now
+permits-nth s i h = go (s .consumers) i h
+  where
+    go : (l : List Consumer) (i : ℕ) → i < length l → getD (map (λ (c : Consumer). c .permits) l) i 0 ≡ getD l i zero-consumer .permits
+    go [] i h = absurd (not-suc-le-zero h)
+    go (c ∷ l) zero h = refl
+    go (c ∷ l) (suc i) h = go l i (le-of-suc-le-suc h)
+
+-- a service for each dispatcher
+length-services : (s : State) (ds : List Dispatcher) (ps : List ℕ) → length (services s ds ps) ≡ length ds
+unfolding services
+length-services s [] ps = refl
+length-services s (d ∷ ds) ps = ap suc (length-services s ds (served s d ps .after .permits))
+
+-- the services keep the number of permits
+length-left : (s : State) (ds : List Dispatcher) (ps : List ℕ) → length (permits-left ps (services s ds ps)) ≡ length ps
+unfolding services permits-left
+length-left s [] ps = refl
+length-left s (d ∷ ds) ps = length-left s ds (served s d ps .after .permits) ∙ served-sized s d ps
+
+module _ (s : State) where
+  -- the permits that the services leave
+  abbrev pub left : List ℕ
+  left = permits-left (permits-now s) (services s (s .dispatchers) (permits-now s))
+
+  -- one number for each consumer
+  pub left-sized : length left ≡ length (s .consumers)
+  left-sized = length-left s (s .dispatchers) (permits-now s) ∙ length-permits s
+
+  -- the records of the shared part, and of the plain part
+  abbrev pub shared-records : List Dispatch
+  shared-records = all-service-records s (services s (s .dispatchers) (permits-now s))
+
+  abbrev pub plain-records : List Dispatch
+  plain-records = all-plain-records s (with-each (s .consumers) left)
+
+  -- all records
+  pub all-records : shared-records ++ plain-records ≡ local-push s .dispatched
+  unfolding local-push services-of charged-consumers
+  all-records = refl
+
+  -- their number
+  pub all-counted : length shared-records + length plain-records ≡ length (local-push s .dispatched)
+  all-counted = sym (length-append shared-records plain-records) ∙ ap length all-records
+
+  -- the dispatchers after it
+  abbrev pub served-rows : List Dispatcher
+  served-rows = map (served-dispatcher s) (services s (s .dispatchers) (permits-now s))
+
+-- ---- how many there can be
+
+-- a service has at most a step for each entry that can be queued and each of the ledger, and one turn more
+served-small : (s : State) (d : Dispatcher) (ps : List ℕ) → length (d .redelivery) ≤ 4096 → length (ledger-of s (d .pair .topic)) ≤ 4096
+    → length (served s d ps .made) ≤ 8193
+unfolding served turns-of
+served-small s d ps a b = let f = made-few (turns-of s d) (fixed-of s d) (local-of d ps) in omega (arith, f, a, b)
+
+-- all services
+shared-few : (s : State) (ds : List Dispatcher) (ps : List ℕ) → ((topic : ℕ) → length (ledger-of s topic) ≤ 4096)
+    → All (λ (d : Dispatcher). length (d .redelivery) ≤ 4096) ds → length (all-service-records s (services s ds ps)) ≤ length ds * 8193
+unfolding services all-service-records service-records
+shared-few s [] ps a b = omega arith
+shared-few s (d ∷ ds) ps a b =
+    let v : List Step = served s d ps .made in
+    let rest : List Dispatch = all-service-records s (services s ds (served s d ps .after .permits)) in
+    let one = served-small s d ps (b .0) (a (d .pair .topic)) in
+    let more = shared-few s ds (served s d ps .after .permits) a (b .1) in
+    let parts = length-append (map (record-of s (fixed-of s d)) v) rest in
+    let mapped = length-map v (record-of s (fixed-of s d)) in
+    omega (arith, one, more, parts, mapped)
+
+-- the parts of plain consumers
+plain-few : (s : State) (l : List Consumer) → ((topic : ℕ) → length (ledger-of s topic) ≤ 4096) → All (λ (c : Consumer). length (c .nacked) ≤ 64) l
+    → length (all-plain-records s l) ≤ length l * 4160
+unfolding all-plain-records
+plain-few s [] a b = omega arith
+plain-few s (c ∷ l) a b =
+    let n : ℕ = plain-due (ledger-for s c) c in
+    let one : n ≤ length (c .nacked) + (length (ledger-for s c) - c .cursor) = due-waiting (ledger-for s c) c in
+    let ledger = a (c .pair .topic) in
+    let nacked = b .0 in
+    let more = plain-few s l a (b .1) in
+    let parts = length-append (recorded (ledger-for s c) c n) (all-plain-records s l) in
+    let counted = length-records (ledger-for s c) c n in
+    omega (arith, one, ledger, nacked, more, parts, counted)
+
+-- each of a list, by another fact of each
+all-by : {A : Type 0} {P Q : A → Type 0} (l : List A) → ((a : A) → P a → Q a) → All P l → All Q l
+all-by [] f h = h
+all-by (a ∷ l) f h = (f a (h .0), all-by l f (h .1))
+
+-- other permits leave what is nacked alone
+nacked-each : (l : List Consumer) (ps : List ℕ) → All (λ (c : Consumer). length (c .nacked) ≤ 64) l → All (λ (c : Consumer). length (c .nacked) ≤ 64) (with-each l ps)
+unfolding with-each with-permits
+nacked-each [] ps h = h
+nacked-each (c ∷ l) ps h = (h .0, nacked-each l (drop 1 ps) (h .1))
+
+-- the number due is small
+pub due-small : (s : State) → Shaped s → length (local-push s .dispatched) ≤ 198664
+due-small s h =
+    let e = h .E-most in
+    let ledgers : (topic : ℕ) → length (ledger-of s topic) ≤ 4096 = λ n. let f = ledger-fits s n (h .each-topic) in omega (arith, f, e) in
+    let a = shared-few s (s .dispatchers) (permits-now s) ledgers (all-by (s .dispatchers) (λ d k. let f = k .queue-fits in omega (arith, f, e)) (h .each-dispatcher)) in
+    let b = plain-few s (with-each (s .consumers) (left s)) ledgers (nacked-each (s .consumers) (left s) (h .each-consumer)) in
+    let c = length-each (s .consumers) (left s) in
+    let d = h .consumers-fit in
+    let f = h .dispatchers-fit in
+    let g = all-counted s in
+    omega (arith, a, b, c, d, f, g)
+
+module _ {e : ℕ} (ws : List ℕ) (spelt : spells ws ≡ true) (E : e ≡ decode ws .entries) (fit : All (Shaped-dispatcher e) (served-rows (decode ws))) where
+  abbrev s : State
+  s = decode ws
+
+  -- the state after the shared part
+  abbrev T : State
+  T = with-dispatchers s (served-rows s)
+
+  shaped : Shaped T
+  unfolding with-dispatchers
+  shaped =
+      let h = canon-of e ws spelt E .shaped in
+      record {
+        E-least = h .E-least;
+        E-most = h .E-most;
+        consumers-fit = h .consumers-fit;
+        topics-fit = h .topics-fit;
+        dispatchers-fit = rw (length-map (services s (s .dispatchers) (permits-now s)) (served-dispatcher s), length-services s (s .dispatchers) (permits-now s)) (h .dispatchers-fit);
+        each-consumer = h .each-consumer;
+        each-topic = h .each-topic;
+        each-dispatcher = subst (λ (n : ℕ). All (Shaped-dispatcher n) (served-rows s)) E fit;
+      }
+
+  module _ {us : List ℕ} (a : us ≡ put ws T) where
+    state-now : decode us ≡ T
+    state-now = decode-after ws T shaped a
+
+    pub canon-now : Canon-store e us
+    unfolding with-dispatchers
+    canon-now = canon-after ws T shaped (sym E) a
+
+    consumers-now : decode us .consumers ≡ s .consumers
+    unfolding with-dispatchers
+    consumers-now = ap (λ (t : State). t .consumers) state-now
+
+    topics-now : decode us .topics ≡ s .topics
+    unfolding with-dispatchers
+    topics-now = ap (λ (t : State). t .topics) state-now
+
+    -- what the plain part needs of the store
+    pub readable-on : Readable (decode us)
+    readable-on = readable-same s (decode us) topics-now consumers-now (readable-now ws spelt)
+
+    module _ {qs : List ℕ} (b : qs ≡ left s) where
+      pub permits-on : length qs ≡ length (decode us .consumers)
+      permits-on = ap length b ∙ left-sized s ∙ sym (ap length consumers-now)
+
+      -- its records
+      records-now : all-plain-records (decode us) (with-each (decode us .consumers) qs) ≡ plain-records s
+      records-now =
+          ap₂ {A = List Consumer} {B = List ℕ} {C = List Dispatch} (λ l q. all-plain-records (decode us) (with-each l q)) consumers-now b
+          ∙ all-records-same s (decode us) topics-now (with-each (s .consumers) (left s))
+
+      pub room-on : {m n : ℕ} → m ≡ length (shared-records s) → length (local-push s .dispatched) * 13 ≤ n
+          → (m + length (all-plain-records (decode us) (with-each (decode us .consumers) qs))) * 13 ≤ n
+      room-on {m} {n} q r = let c = all-counted s in rw records-now (omega (arith, c, q, r))
+
+      -- the store at the end
+      pub pushed-words : {vs : List ℕ} → vs ≡ put us (with-consumers (decode us) (map (plain-served (decode us)) (with-each (decode us .consumers) qs)))
+          → vs ≡ put ws (local-push s .state)
+      unfolding local-push services-of charged-consumers with-consumers with-dispatchers
+      pushed-words {vs} v =
+          let f : State → State = λ t. with-consumers t (map (plain-served s) (with-each (s .consumers) (left s))) in
+          let same : map (plain-served (decode us)) (with-each (decode us .consumers) qs) ≡ map (plain-served s) (with-each (s .consumers) (left s)) =
+          ap₂ {A = List Consumer} {B = List ℕ} {C = List Consumer} (λ l q. map (plain-served (decode us)) (with-each l q)) consumers-now b
+          ∙ all-served-same s (decode us) topics-now (with-each (s .consumers) (left s)) in
+          then-write ws T f shaped refl a (v ∙ ap (λ (l : List Consumer). put us (with-consumers (decode us) l)) same)
+
+      -- the list at the end
+      pub pushed-records : {ks ns : List ℕ} (ls : List ℕ) (m : ℕ) → m ≡ length (shared-records s) → ks ≡ filled ls 0 (shared-records s)
+          → ns ≡ filled ks m (all-plain-records (decode us) (with-each (decode us .consumers) qs))
+          → ns ≡ filled ls 0 (local-push s .dispatched)
+      pushed-records ls m q k v =
+          let zero-first : 0 + length (shared-records s) ≡ m = omega (arith, q) in
+          v ∙ ap₂ {A = List ℕ} {B = List Dispatch} {C = List ℕ} (λ r x. filled r m x) k records-now
+          ∙ ap (λ (j : ℕ). filled (filled ls 0 (shared-records s)) j (plain-records s)) (sym zero-first)
+          ∙ sym (filled-append ls 0 (shared-records s) (plain-records s))
+          ∙ ap (λ (x : List Dispatch). filled ls 0 x) (all-records s)

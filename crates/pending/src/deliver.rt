@@ -1,0 +1,89 @@
+// One dispatch written: its record in the lent list, its entry at the end of what is in flight.
+use bits::UnackedBits;
+use dispatcher::flight::append_flight;
+use dispatcher::marks::load_mark;
+use ledger::message::load_message;
+use records::record::Dispatch;
+use records::record::write_record;
+use store::offsets::consumer_at;
+use turns::turn::Step;
+ghost use mathlib.Core.Path.{_≡_};
+ghost use mathlib.Core.Bool.{cond};
+ghost use mathlib.Core.List.{_++_, _∷_, []};
+ghost use Prim.Native.Nat.{_+_, _*_, _≤_, _<_};
+ghost use lib.ListN.{length};
+ghost use Rattle.bits.specs.Bits.{bits-empty, word-count};
+ghost use Rattle.bits.specs.Four.{words};
+ghost use Rattle.rules.specs.Dispatcher.{with-places};
+ghost use Rattle.layout.specs.Layout.{decode, put};
+ghost use Rattle.layout.specs.Canon.{Canon-store};
+ghost use Rattle.layout.specs.Fields.{consumer-nth, dispatcher-nth, set-dispatcher};
+ghost use Rattle.push.specs.Local.{fixed-of};
+ghost use Rattle.push.specs.Applied.{record-to, record-of, held-of};
+ghost use Rattle.records.specs.Flat.{filled, dispatch-of};
+ghost use Rattle.turns.specs.Turns.{step-of, Serving};
+
+// The number of words of an entry's ack set: as many as its batch takes, none without stored bits.
+fn ack_set_words(bits: UnackedBits, batch: u64) -> u64
+    requires { ⌜ batch ≤ 256 ⌝ }
+    ensures { λ r. ⌜ r ≡ cond (bits-empty (words bits)) 0 (word-count batch) ⌝ }
+{
+    if bits.bits_empty() {
+        return 0;
+    }
+    (batch + 63) / 64
+}
+
+// The record of a step of dispatcher `d`, to the consumer `id`.
+fn record_to(store: &[u64], e: usize, d: usize, t: usize, n: usize, id: u64, step: Step) -> Dispatch
+    requires { ⌜ Serving e (now store) d t n × (step .position < n) ⌝ }
+    ensures { λ r. ⌜ dispatch-of r ≡ record-to id (fixed-of (decode (now (store .entry))) (dispatcher-nth (decode (now (store .entry))) d)) (step-of step) ⌝ }
+{
+    let message = load_message(store, e, t, step.position);
+    let mark = load_mark(store, e, d, step.position);
+    let bits = mark.unacked;
+    let words = ack_set_words(bits, message.batch_size);
+    Dispatch {
+        consumer: id,
+        ledger: message.ledger,
+        entry: message.entry,
+        handle: message.handle,
+        batch_size: message.batch_size,
+        ack_set_words: words,
+        ack_set: bits,
+        redelivery_count: mark.redelivery_count,
+        cost: step.price,
+        permits: step.permits,
+    }
+}
+
+// The id of consumer `c`.
+fn consumer_id(store: &[u64], e: usize, c: usize) -> u64
+    requires { ⌜ Canon-store e (now store) × (c < length (decode (now store) .consumers)) ⌝ }
+    ensures { λ r. ⌜ r ≡ consumer-nth (decode (now (store .entry))) c .id ⌝ }
+{
+    let at = consumer_at(c);
+    store[at]
+}
+
+// Record `m` of the list is that of a step of dispatcher `d`, and its entry is in flight.
+pub fn deliver(
+    store: &mut [u64],
+    e: usize,
+    d: usize,
+    t: usize,
+    n: usize,
+    list: &mut [u64],
+    m: usize,
+    step: Step,
+)
+    requires { ⌜ Serving e (now store) d t n × (step .position < n) × (step .consumer < length (decode (now store) .consumers)) × (length (dispatcher-nth (decode (now store)) d .in-flight) < e) × (m * 13 + 13 ≤ length (now list)) ⌝ }
+    ensures words { λ _. ⌜ now (store .exit) ≡ put (now (store .entry)) (set-dispatcher (decode (now (store .entry))) d (with-places (dispatcher-nth (decode (now (store .entry))) d) (dispatcher-nth (decode (now (store .entry))) d .redelivery) (dispatcher-nth (decode (now (store .entry))) d .in-flight ++ held-of (decode (now (store .entry))) (step-of step) ∷ []))) ⌝ }
+    ensures records { λ _. ⌜ now (list .exit) ≡ filled (now (list .entry)) m (record-of (decode (now (store .entry))) (fixed-of (decode (now (store .entry))) (dispatcher-nth (decode (now (store .entry))) d)) (step-of step) ∷ []) ⌝ }
+{
+    let id = consumer_id(store, e, step.consumer);
+    let k = step.position;
+    let record = record_to(store, e, d, t, n, id, step);
+    write_record(list, m, record);
+    append_flight(store, e, d, id, k);
+}

@@ -1,0 +1,128 @@
+// A dispatcher served: its turns on local numbers again, each written as it is made; then what was taken
+// leaves the queue at once, and the numbers are stored.
+use super::deliver::deliver;
+use dispatcher::head::Head;
+use dispatcher::head::load_head;
+use dispatcher::head::mark_delete;
+use dispatcher::head::save_head;
+use dispatcher::queue::drop_queue;
+use dispatcher::ring::ring_count;
+use store::find::find_topic;
+use store::find::ledger_length;
+use store::offsets::dispatcher_at;
+use turns::ring::ring_slots;
+use turns::turn::Turn;
+use turns::turn::take_turn;
+ghost use mathlib.Core.Path.{_≡_};
+ghost use mathlib.Core.List.{[]};
+ghost use Prim.Native.Nat.{_+_, _-_, _*_, _≤_};
+ghost use lib.ListN.{length};
+ghost use Rattle.layout.specs.Layout.{decode, put};
+ghost use Rattle.layout.specs.Whole.{Shaped-dispatcher};
+ghost use Rattle.layout.specs.Fields.{dispatcher-nth, set-dispatcher};
+ghost use Rattle.layout.specs.Placed.{Dispatcher-in};
+ghost use Rattle.push.specs.Local.{fixed-of, served};
+ghost use Rattle.push.specs.Applied.{applied-dispatcher};
+ghost use Rattle.push.specs.Shared.{service-records, served-dispatcher};
+ghost use Rattle.records.specs.Flat.{filled};
+ghost use Rattle.turns.specs.Turns.{local-from, Serving};
+ghost use Rattle.pending.specs.Service.{service-of, Ready};
+
+// Dispatcher `d` after its turns: the first `taken` positions leave its queue, and its numbers are those of `head`.
+fn finish(store: &mut [u64], e: usize, d: usize, head: Head, taken: usize)
+    requires { ⌜ Dispatcher-in e (now store) d × (taken ≤ length (dispatcher-nth (decode (now store)) d .redelivery)) ⌝ }
+    ensures { λ _. ⌜ now (store .exit) ≡ put (now (store .entry)) (set-dispatcher (decode (now (store .entry))) d (applied-dispatcher (dispatcher-nth (decode (now (store .entry))) d) (local-from [] head taken) [])) ⌝ }
+{
+    drop_queue(store, e, d, taken);
+    let kept = Head {
+        next: head.next,
+        cursor: head.cursor,
+        mark_delete: mark_delete(store, e, d),
+        total_available_permits: head.total_available_permits,
+    };
+    save_head(store, e, d, kept);
+}
+
+// Serves dispatcher `d`, whose ring is `ring`, and whose ledger of `n` entries is that of topic `t`. Records are
+// written from record `from` on; the answer is the number of the record after the last.
+fn serve_turns(
+    store: &mut [u64],
+    e: usize,
+    d: usize,
+    t: usize,
+    n: usize,
+    ring: &[usize],
+    permits: &mut [u64],
+    list: &mut [u64],
+    from: usize,
+) -> usize
+    requires { ⌜ Serving e (now store) d t n × (now ring ≡ fixed-of (decode (now store)) (dispatcher-nth (decode (now store)) d) .ring) × (dispatcher-nth (decode (now store)) d .next ≤ length (now ring)) × (length (now permits) ≡ length (decode (now store) .consumers)) × (length (dispatcher-nth (decode (now store)) d .in-flight) + (length (dispatcher-nth (decode (now store)) d .redelivery) + (n - dispatcher-nth (decode (now store)) d .cursor)) ≤ e) × ((from + length (served (decode (now store)) (dispatcher-nth (decode (now store)) d) (now permits) .made)) * 13 ≤ length (now list)) ⌝ }
+    ensures value { λ r. ⌜ r ≡ from + length (served (decode (now (store .entry))) (dispatcher-nth (decode (now (store .entry))) d) (now (permits .entry)) .made) ⌝ }
+    ensures words { λ _. ⌜ now (store .exit) ≡ put (now (store .entry)) (set-dispatcher (decode (now (store .entry))) d (served-dispatcher (decode (now (store .entry))) (service-of (decode (now (store .entry))) d (now (permits .entry))))) ⌝ }
+    ensures permits { λ _. ⌜ now (permits .exit) ≡ served (decode (now (store .entry))) (dispatcher-nth (decode (now (store .entry))) d) (now (permits .entry)) .after .permits ⌝ }
+    ensures records { λ _. ⌜ now (list .exit) ≡ filled (now (list .entry)) from (service-records (decode (now (store .entry))) (service-of (decode (now (store .entry))) d (now (permits .entry)))) ⌝ }
+    ensures fits { λ _. ⌜ Shaped-dispatcher e (served-dispatcher (decode (now (store .entry))) (service-of (decode (now (store .entry))) d (now (permits .entry)))) ⌝ }
+{
+    let mut head = load_head(store, e, d);
+    let mut taken = 0;
+    let mut m = from;
+    loop {
+        match take_turn(store, e, d, t, n, ring, permits, head, taken) {
+            Turn::Stop(last, count) => {
+                finish(store, e, d, last, count);
+                return m;
+            }
+            Turn::Move(step, moved, count) => {
+                deliver(store, e, d, t, n, list, m, step);
+                head = moved;
+                taken = count;
+                m += 1;
+            }
+        }
+    }
+}
+
+// Serves dispatcher `d`; its ring is to be written to `ring`, a list of its length.
+fn serve_with(
+    store: &mut [u64],
+    e: usize,
+    d: usize,
+    ring: &mut [usize],
+    permits: &mut [u64],
+    list: &mut [u64],
+    from: usize,
+) -> usize
+    requires { ⌜ Ready e (now store) d × (length (now ring) ≡ length (dispatcher-nth (decode (now store)) d .attached)) × (length (now permits) ≡ length (decode (now store) .consumers)) × ((from + length (served (decode (now store)) (dispatcher-nth (decode (now store)) d) (now permits) .made)) * 13 ≤ length (now list)) ⌝ }
+    ensures value { λ r. ⌜ r ≡ from + length (served (decode (now (store .entry))) (dispatcher-nth (decode (now (store .entry))) d) (now (permits .entry)) .made) ⌝ }
+    ensures words { λ _. ⌜ now (store .exit) ≡ put (now (store .entry)) (set-dispatcher (decode (now (store .entry))) d (served-dispatcher (decode (now (store .entry))) (service-of (decode (now (store .entry))) d (now (permits .entry))))) ⌝ }
+    ensures permits { λ _. ⌜ now (permits .exit) ≡ served (decode (now (store .entry))) (dispatcher-nth (decode (now (store .entry))) d) (now (permits .entry)) .after .permits ⌝ }
+    ensures records { λ _. ⌜ now (list .exit) ≡ filled (now (list .entry)) from (service-records (decode (now (store .entry))) (service-of (decode (now (store .entry))) d (now (permits .entry)))) ⌝ }
+    ensures fits { λ _. ⌜ Shaped-dispatcher e (served-dispatcher (decode (now (store .entry))) (service-of (decode (now (store .entry))) d (now (permits .entry)))) ⌝ }
+{
+    let number = store[dispatcher_at(e, d)];
+    let t = find_topic(store, e, number);
+    let n = ledger_length(store, e, number);
+    ring_slots(store, e, d, ring);
+    serve_turns(store, e, d, t, n, ring, permits, list, from)
+}
+
+// Serves dispatcher `d`, with records from record `from` on; the answer is the number of the record after the last.
+pub fn serve_dispatcher(
+    store: &mut [u64],
+    e: usize,
+    d: usize,
+    permits: &mut [u64],
+    list: &mut [u64],
+    from: usize,
+) -> usize
+    requires { ⌜ Ready e (now store) d × (length (now permits) ≡ length (decode (now store) .consumers)) × ((from + length (served (decode (now store)) (dispatcher-nth (decode (now store)) d) (now permits) .made)) * 13 ≤ length (now list)) ⌝ }
+    ensures value { λ r. ⌜ r ≡ from + length (served (decode (now (store .entry))) (dispatcher-nth (decode (now (store .entry))) d) (now (permits .entry)) .made) ⌝ }
+    ensures words { λ _. ⌜ now (store .exit) ≡ put (now (store .entry)) (set-dispatcher (decode (now (store .entry))) d (served-dispatcher (decode (now (store .entry))) (service-of (decode (now (store .entry))) d (now (permits .entry))))) ⌝ }
+    ensures permits { λ _. ⌜ now (permits .exit) ≡ served (decode (now (store .entry))) (dispatcher-nth (decode (now (store .entry))) d) (now (permits .entry)) .after .permits ⌝ }
+    ensures records { λ _. ⌜ now (list .exit) ≡ filled (now (list .entry)) from (service-records (decode (now (store .entry))) (service-of (decode (now (store .entry))) d (now (permits .entry)))) ⌝ }
+    ensures fits { λ _. ⌜ Shaped-dispatcher e (served-dispatcher (decode (now (store .entry))) (service-of (decode (now (store .entry))) d (now (permits .entry)))) ⌝ }
+{
+    let size = ring_count(store, e, d);
+    let mut ring = [0usize; 32];
+    serve_with(store, e, d, &mut ring[..size], permits, list, from)
+}

@@ -1,0 +1,39 @@
+// The dispatchers served in the order in which they were made, the permits carried from each to the next:
+// `push_pending_shared` in broker.rs.
+use super::serve::serve_dispatcher;
+use store::stretch::word;
+ghost use mathlib.Core.Path.{_≡_};
+ghost use mathlib.Core.Bool.{true};
+ghost use mathlib.Core.List.{map};
+ghost use Prim.Native.Nat.{_*_, _≤_};
+ghost use lib.ListN.{length};
+ghost use Rattle.rules.specs.State.{with-dispatchers};
+ghost use Rattle.words.specs.Codec.{All};
+ghost use Rattle.layout.specs.Layout.{decode, put, spells};
+ghost use Rattle.layout.specs.Whole.{Shaped-dispatcher};
+ghost use Rattle.push.specs.Shared.{services, permits-left, all-service-records, served-dispatcher};
+ghost use Rattle.records.specs.Flat.{filled};
+
+// Serves every dispatcher, with records from the first on; the answer is how many were written.
+pub fn push_pending_shared(
+    store: &mut [u64],
+    e: usize,
+    permits: &mut [u64],
+    list: &mut [u64],
+) -> usize
+    requires { ⌜ (spells (now store) ≡ true) × (e ≡ decode (now store) .entries) × (length (now permits) ≡ length (decode (now store) .consumers)) × (length (all-service-records (decode (now store)) (services (decode (now store)) (decode (now store) .dispatchers) (now permits))) * 13 ≤ length (now list)) ⌝ }
+    ensures value { λ r. ⌜ r ≡ length (all-service-records (decode (now (store .entry))) (services (decode (now (store .entry))) (decode (now (store .entry)) .dispatchers) (now (permits .entry)))) ⌝ }
+    ensures words { λ _. ⌜ now (store .exit) ≡ put (now (store .entry)) (with-dispatchers (decode (now (store .entry))) (map (served-dispatcher (decode (now (store .entry)))) (services (decode (now (store .entry))) (decode (now (store .entry)) .dispatchers) (now (permits .entry))))) ⌝ }
+    ensures permits { λ _. ⌜ now (permits .exit) ≡ permits-left (now (permits .entry)) (services (decode (now (store .entry))) (decode (now (store .entry)) .dispatchers) (now (permits .entry))) ⌝ }
+    ensures records { λ _. ⌜ now (list .exit) ≡ filled (now (list .entry)) 0 (all-service-records (decode (now (store .entry))) (services (decode (now (store .entry))) (decode (now (store .entry)) .dispatchers) (now (permits .entry)))) ⌝ }
+    ensures fits { λ _. ⌜ All (Shaped-dispatcher e) (map (served-dispatcher (decode (now (store .entry)))) (services (decode (now (store .entry))) (decode (now (store .entry)) .dispatchers) (now (permits .entry)))) ⌝ }
+{
+    let n = word(store, 2354 + 32 * e);
+    let mut m = 0;
+    let mut d = 0;
+    while d < n {
+        m = serve_dispatcher(store, e, d, permits, list, m);
+        d += 1;
+    }
+    m
+}

@@ -1,0 +1,69 @@
+-- `plain::due::waiting` meets its contract. What is past the end of the ledger does not wait, also where the cursor is.
+use mathlib.Core.Path.{_≡_, ap, _∙_}
+use Prim.Native.Nat.{ℕ, _+_, _-_, min}
+use native.Mathlib.Omega.{arith}
+use lib.ListN.{length}
+use Rattle.rules.specs.State.{ledger-of}
+use Rattle.layout.specs.Layout.{decode}
+use Rattle.layout.specs.Fields.{consumer-nth}
+use Rattle.store.proofs.LedgerWords.{ledger-fits}
+use Rattle.push.specs.Plain.{ledger-for}
+use borrow.Author.Needs.{needs}
+use Rattle.plain.proofs.due.waiting.Statement.{statement}
+use Rattle.plain.proofs.due.waiting.Tie as tie
+
+-- the length of the consumer's ledger
+entries-are : (c : tie.After-ledger-length)
+    → c .ledger-length .result ≡ length (ledger-for (decode (c .before .before .before .args .store .now)) (consumer-nth (decode (c .before .before .before .args .store .now)) (c .before .before .before .args .i)))
+entries-are c = c .ledger-length .ensures ∙ ap (λ (t : ℕ). length (ledger-of (decode (c .before .before .before .args .store .now)) t)) (c .before .topic .ensures)
+
+-- in numbers
+wait : (l g k : ℕ) {l′ g′ k′ s : ℕ} → l′ ≡ l → g′ ≡ g → k′ ≡ k → s ≡ min k′ g′ → l′ + (g′ - s) ≡ l + (g - k)
+wait l g k {l′} {g′} {k′} {s} a b c d = let e : g′ - s ≡ g - k = omega arith in omega arith
+
+topic-requires : tie.Need-topic-requires
+topic-requires c κs = search needs
+
+ledger-length-requires : tie.Need-ledger-length-requires
+ledger-length-requires c κs = search needs
+
+cursor-requires : tie.Need-cursor-requires
+cursor-requires c κs = search needs
+
+smaller-requires : tie.Need-smaller-requires
+smaller-requires c κs = search needs
+
+nacked-count-requires : tie.Need-nacked-count-requires
+nacked-count-requires c κs = search needs
+
+sub-result : tie.Need-sub-result
+sub-result c = search needs
+
+add-result : tie.Need-add-result
+add-result c =
+    let a = c .before .before .before .before .before .before .args in
+    let n = entries-are (c .before .before .before) in
+    let k = c .nacked-count .ensures in
+    let f = c .before .before .before .before .before .before .pre .nacked-fit in
+    let g = ledger-fits (c .before .before .before .before .before .before .pre .canon) (consumer-nth (decode (a .store .now)) (a .i) .pair .topic) in
+    let m = c .before .before .before .before .before .before .pre .canon .E-to in
+    omega arith
+
+returns : tie.Need-returns
+returns c =
+    let a = c .before .before .before .before .before .before .args in
+    let x = consumer-nth (decode (a .store .now)) (a .i) in
+    wait (length (x .nacked)) (length (ledger-for (decode (a .store .now)) x)) (x .cursor) (c .nacked-count .ensures) (entries-are (c .before .before .before)) (c .before .before .cursor .ensures) (c .before .smaller .ensures)
+
+pub waiting-spec : {M : Type 1} → statement M
+waiting-spec =
+    tie.close
+    (tie.spec
+    topic-requires
+    ledger-length-requires
+    cursor-requires
+    smaller-requires
+    nacked-count-requires
+    sub-result
+    add-result
+    returns)

@@ -1,0 +1,21 @@
+-- `plain::reader::cursor` meets its contract: the word at its offset.
+use mathlib.Core.Path.{_∙_}
+use Rattle.layout.proofs.Gets.{read-consumer-cursor}
+use borrow.Author.Needs.{needs}
+use Rattle.plain.proofs.reader.cursor.Statement.{statement}
+use Rattle.plain.proofs.reader.cursor.Tie as tie
+
+consumer-at-requires : tie.Need-consumer-at-requires
+consumer-at-requires c κs = search needs
+
+add-word : tie.Need-add-word
+add-word c = search needs
+
+word-requires : tie.Need-word-requires
+word-requires c κs = search needs
+
+returns : tie.Need-returns
+returns c = c .word .ensures ∙ rw (c .before .consumer-at .ensures) (read-consumer-cursor (c .before .before .before .pre .canon) (c .before .before .before .args .i) (c .before .before .before .pre .there))
+
+pub cursor-spec : {M : Type 1} → statement M
+cursor-spec = tie.close (tie.spec consumer-at-requires add-word word-requires returns)

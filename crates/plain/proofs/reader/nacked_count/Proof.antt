@@ -1,0 +1,21 @@
+-- `plain::reader::nacked_count` meets its contract: the word at its offset.
+use mathlib.Core.Path.{_∙_}
+use Rattle.layout.proofs.Gets.{read-nacked-count}
+use borrow.Author.Needs.{needs}
+use Rattle.plain.proofs.reader.nacked_count.Statement.{statement}
+use Rattle.plain.proofs.reader.nacked_count.Tie as tie
+
+consumer-at-requires : tie.Need-consumer-at-requires
+consumer-at-requires c κs = search needs
+
+add-word : tie.Need-add-word
+add-word c = search needs
+
+word-requires : tie.Need-word-requires
+word-requires c κs = search needs
+
+returns : tie.Need-returns
+returns c = c .word .ensures ∙ rw (c .before .consumer-at .ensures) (read-nacked-count (c .before .before .before .pre .canon) (c .before .before .before .args .i) (c .before .before .before .pre .there))
+
+pub nacked-count-spec : {M : Type 1} → statement M
+nacked-count-spec = tie.close (tie.spec consumer-at-requires add-word word-requires returns)

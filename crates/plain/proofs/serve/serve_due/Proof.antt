@@ -1,0 +1,52 @@
+-- `plain::serve::serve_due` meets its contract: nothing where nothing is due; else the topic exists, for its ledger has an entry.
+use mathlib.Core.Path.{ap, _∙_}
+use Prim.Native.Nat.{ℕ}
+use Rattle.rules.specs.State.{by-number}
+use Rattle.rules.specs.Commands.{with-permits}
+use Rattle.layout.specs.Layout.{decode}
+use Rattle.layout.specs.Fields.{consumer-nth}
+use Rattle.store.specs.Find.{slot}
+use Rattle.push.specs.Plain.{ledger-for}
+use Rattle.plain.proofs.Entries.{fill-none}
+use Rattle.plain.proofs.Topics.{above, sendable}
+use borrow.Author.Needs.{needs}
+use Rattle.plain.proofs.serve.serve_due.Statement.{statement}
+use Rattle.plain.proofs.serve.serve_due.Tie as tie
+
+returns : tie.Need-returns
+returns c =
+    let a = c .before .before .before .args in
+    let s = decode (a .store .now) in
+    let x = consumer-nth s (a .i) in
+    fill-none (ledger-for s x) (with-permits x (a .permits)) (a .list .now) (a .m) (a .n) (c .if1 .taken)
+
+topic-requires : tie.Need-topic-requires
+topic-requires c κs = search needs
+
+find-topic-requires : tie.Need-find-topic-requires
+find-topic-requires c κs = search needs
+
+serve-records-requires : tie.Need-serve-records-requires
+serve-records-requires c κs =
+    let a = c .before .before .before .before .before .before .args in
+    let p = c .before .before .before .before .before .before .pre in
+    let s = decode (a .store .now) in
+    let e = c .before .find-topic .ensures ∙ ap (λ (t : ℕ). slot by-number t (s .topics)) (c .before .before .topic .ensures) in
+    (sendable (a .i) (c .before .find-topic .result) (a .permits) (a .n) (p .0) (p .1) (p .2) (above (a .n) (c .before .before .before .if1 .left)) e, p .3)
+
+same-length : tie.Need-same-length
+same-length c = search needs
+
+returns-2 : tie.Need-returns-2
+returns-2 c = search needs
+
+pub serve-due-spec : {M : Type 1} → statement M
+serve-due-spec =
+    tie.close
+    (tie.spec
+    returns
+    topic-requires
+    find-topic-requires
+    serve-records-requires
+    same-length
+    returns-2)

@@ -1,0 +1,89 @@
+-- `plain::serve::serve_records` meets its contract. The loop's invariant: the list with what is left is the list with all.
+use mathlib.Core.Path.{_≡_, refl, sym, ap, _∙_}
+use mathlib.Core.List.{List}
+use Prim.Native.Nat.{ℕ, _+_, _-_, _*_, _≤_, _<_}
+use native.Mathlib.Omega.{arith}
+use lib.ListN.{length}
+use Rattle.words.specs.Act.{lay}
+use Rattle.rules.specs.Commands.{with-permits}
+use Rattle.rules.specs.Push.{flat}
+use Rattle.layout.specs.Layout.{decode}
+use Rattle.layout.specs.Fields.{consumer-nth}
+use Rattle.push.specs.Plain.{plain-records, after-entries, ledger-for}
+use Rattle.records.specs.Flat.{filled}
+use Rattle.plain.specs.Reading.{entry-record}
+use Rattle.plain.proofs.Entries.{fill-start, fill-turn, fill-end}
+use Rattle.plain.proofs.Topics.{sendable-fewer}
+use borrow.Author.Needs.{needs}
+use Rattle.plain.proofs.serve.serve_records.Statement.{statement}
+use Rattle.plain.proofs.serve.serve_records.Tie as tie
+
+abbrev Inv-loop : tie.InvT-loop
+Inv-loop store e i t permits n list₀ m j₀ list j = (j ≤ n) × (length list ≡ length list₀) × (filled list (m + j) (plain-records (ledger-for (decode store) (consumer-nth (decode store) i)) (after-entries (with-permits (consumer-nth (decode store) i) permits) j) (n - j)) ≡ filled list₀ m (plain-records (ledger-for (decode store) (consumer-nth (decode store) i)) (with-permits (consumer-nth (decode store) i) permits) n))
+
+abbrev μ-loop : tie.MeasureT-loop
+μ-loop store e i t permits n list₀ m j₀ list j = n - j
+
+loop-holds : tie.Need-loop-holds Inv-loop μ-loop
+loop-holds c =
+    let a = c .before .before .args in
+    let s = decode (a .store .now) in
+    let x = consumer-nth s (a .i) in
+    (search needs, refl, fill-start (ledger-for s x) (with-permits x (a .permits)) (a .list .now) (a .m) (a .n))
+
+add-send-entry : tie.Need-add-send-entry Inv-loop μ-loop
+add-send-entry c = let p = c .before .before .before .before .before .pre .1 in search needs
+
+send-entry-requires : tie.Need-send-entry-requires Inv-loop μ-loop
+send-entry-requires c κs =
+    let p = c .before .before .before .before .before .pre .1 in
+    let v = c .before .before .loop .inv .1 in
+    (sendable-fewer (c .before .before .before .before .before .pre .0) (c .before .before .loop .j + 1) (search needs), omega arith)
+
+add-j : tie.Need-add-j Inv-loop μ-loop
+add-j c = search needs
+
+loop-less : tie.Need-loop-less Inv-loop μ-loop
+loop-less c = search needs
+
+loop-again : tie.Need-loop-again Inv-loop μ-loop
+loop-again c =
+    let a = c .before .before .before .before .before .before .before .before .args in
+    let s = decode (a .store .now) in
+    let x = consumer-nth s (a .i) in
+    let j = c .before .before .before .before .before .loop .j in
+    let d = flat (entry-record (ledger-for s x) (with-permits x (a .permits)) j) in
+    let h : j < a .n = search needs in
+    let w = c .before .before .send-entry .ensures in (
+      search needs,
+      ap (λ (l : List ℕ). length l) w ∙ lay d .even ((a .m + j) * 13) (c .before .before .before .before .before .loop .list) ∙ c .before .before .before .before .before .loop .inv .1,
+      ap (λ (l : List ℕ). filled l (a .m + (j + 1)) (plain-records (ledger-for s x) (after-entries (with-permits x (a .permits)) (j + 1)) (a .n - (j + 1)))) w
+          ∙ sym (fill-turn (ledger-for s x) (with-permits x (a .permits)) (c .before .before .before .before .before .loop .list) (a .m) (a .n) j h)
+          ∙ c .before .before .before .before .before .loop .inv .2,
+    )
+
+same-length : tie.Need-same-length Inv-loop μ-loop
+same-length c = search needs
+
+returns : tie.Need-returns Inv-loop μ-loop
+returns c =
+    let a = c .before .before .before .before .args in
+    let s = decode (a .store .now) in
+    let x = consumer-nth s (a .i) in
+    let e : c .before .loop .j ≡ a .n = omega arith in
+    fill-end (ledger-for s x) (after-entries (with-permits x (a .permits)) (c .before .loop .j)) (c .before .loop .list) (a .m) (a .n) (c .before .loop .j) e ∙ c .before .loop .inv .2
+
+pub serve-records-spec : {M : Type 1} → statement M
+serve-records-spec =
+    tie.close
+    (tie.spec
+    Inv-loop
+    μ-loop
+    loop-holds
+    add-send-entry
+    send-entry-requires
+    add-j
+    loop-less
+    loop-again
+    same-length
+    returns)

@@ -1,0 +1,90 @@
+// What a plain consumer is to read: its nacked entries, then its ledger from the cursor on.
+use commands::consumer::set_cursor;
+use dispatcher::stretch::close_gap;
+use store::offsets::consumer_at;
+use store::stretch::word;
+ghost use mathlib.Core.Path.{_≡_};
+ghost use Prim.Native.Nat.{_+_, _-_, _≤_, _<_, min};
+ghost use lib.ListN.{length, getD, drop};
+ghost use Rattle.rules.specs.Commands.{with-reading};
+ghost use Rattle.layout.specs.Layout.{decode, put};
+ghost use Rattle.layout.specs.Fields.{consumer-nth, set-consumer};
+ghost use Rattle.layout.specs.Placed.{Consumer-in};
+ghost use Rattle.plain.specs.Reading.{position-at};
+
+// The id of consumer `i`.
+pub fn consumer_id(store: &[u64], e: usize, i: usize) -> u64
+    requires { ⌜ Consumer-in e (now store) i ⌝ }
+    ensures { λ r. ⌜ r ≡ consumer-nth (decode (now (store .entry))) i .id ⌝ }
+{
+    let at = consumer_at(i);
+    store[at]
+}
+
+// The cursor of consumer `i`.
+pub fn cursor(store: &[u64], e: usize, i: usize) -> usize
+    requires { ⌜ Consumer-in e (now store) i ⌝ }
+    ensures { λ r. ⌜ r ≡ consumer-nth (decode (now (store .entry))) i .cursor ⌝ }
+{
+    let at = consumer_at(i);
+    word(store, at + 5)
+}
+
+// The number of nacked entries of consumer `i`.
+pub fn nacked_count(store: &[u64], e: usize, i: usize) -> usize
+    requires { ⌜ Consumer-in e (now store) i ⌝ }
+    ensures { λ r. ⌜ r ≡ length (consumer-nth (decode (now (store .entry))) i .nacked) ⌝ }
+{
+    let at = consumer_at(i);
+    word(store, at + 6)
+}
+
+// Nacked position `j` of consumer `i`.
+pub fn nacked(store: &[u64], e: usize, i: usize, j: usize) -> usize
+    requires { ⌜ Consumer-in e (now store) i × (j < length (consumer-nth (decode (now store)) i .nacked)) ⌝ }
+    ensures { λ r. ⌜ r ≡ getD (consumer-nth (decode (now (store .entry))) i .nacked) j 0 ⌝ }
+{
+    let at = consumer_at(i);
+    word(store, at + 7 + j)
+}
+
+// The position of entry `j` of those that wait for consumer `i`.
+pub fn position(store: &[u64], e: usize, i: usize, j: usize) -> usize
+    requires { ⌜ Consumer-in e (now store) i × (consumer-nth (decode (now store)) i .cursor ≤ 4096) × (j ≤ 8192) ⌝ }
+    ensures { λ r. ⌜ r ≡ position-at (consumer-nth (decode (now (store .entry))) i) j ⌝ }
+{
+    let n = nacked_count(store, e, i);
+    if j < n {
+        return nacked(store, e, i, j);
+    }
+    cursor(store, e, i) + (j - n)
+}
+
+// The first `n` nacked positions of consumer `i` are taken out.
+pub fn drop_nacked(store: &mut [u64], e: usize, i: usize, n: usize)
+    requires { ⌜ Consumer-in e (now store) i × (n ≤ length (consumer-nth (decode (now store)) i .nacked)) ⌝ }
+    ensures { λ _. ⌜ now (store .exit) ≡ put (now (store .entry)) (set-consumer (decode (now (store .entry))) i (with-reading (consumer-nth (decode (now (store .entry))) i) (consumer-nth (decode (now (store .entry))) i .cursor) (drop n (consumer-nth (decode (now (store .entry))) i .nacked)))) ⌝ }
+{
+    let at = consumer_at(i);
+    let count = word(store, at + 6);
+    close_gap(store, at + 7, n, count - n);
+    store[at + 6] = (count - n) as u64;
+}
+
+// The smaller of two numbers.
+pub fn smaller(a: usize, b: usize) -> usize
+    ensures { λ r. ⌜ r ≡ min a b ⌝ }
+{
+    if a < b { a } else { b }
+}
+
+// Consumer `i` reads `n` entries: nacked ones are taken out, and the cursor moves on by the others.
+pub fn read_on(store: &mut [u64], e: usize, i: usize, n: usize)
+    requires { ⌜ Consumer-in e (now store) i × (consumer-nth (decode (now store)) i .cursor ≤ 4096) × (n ≤ 4160) ⌝ }
+    ensures { λ _. ⌜ now (store .exit) ≡ put (now (store .entry)) (set-consumer (decode (now (store .entry))) i (with-reading (consumer-nth (decode (now (store .entry))) i) (consumer-nth (decode (now (store .entry))) i .cursor + (n - length (consumer-nth (decode (now (store .entry))) i .nacked))) (drop n (consumer-nth (decode (now (store .entry))) i .nacked)))) ⌝ }
+{
+    let taken = smaller(n, nacked_count(store, e, i));
+    let from = cursor(store, e, i);
+    set_cursor(store, e, i, from + (n - taken));
+    drop_nacked(store, e, i, taken);
+}
