@@ -3,12 +3,14 @@
 //! calls are left out. Slices cross as pointer and length.
 //!
 //! Beside the answer this watches what the exports promise about the lent words: those
-//! past the needed length never change, a refused call changes none, and push leaves the
-//! list past its records alone.
+//! past the needed length never change, a refused call changes none, a list that is only
+//! read stays as it is, and push leaves the list past its records alone. Lists that are
+//! too short, or cut, are tried first: they have to be refused and to change nothing.
 
-use crate::call::{Call, Kind, OPERATIONS, Outcome, Record, Side, Target, list};
+use crate::call::{Call, Group, Kind, OPERATIONS, Outcome, Record, Side, Target, list};
 use crate::generator::Allowed;
 use crate::state::State;
+use crate::words::needed;
 
 macro_rules! export {
     ($has:ident $get:ident $name:ident($($arg:ty),*)) => {
@@ -58,6 +60,7 @@ pub fn missing() -> Vec<&'static str> {
     both.filter(|(_, there)| !there).map(|(name, _)| *name).collect()
 }
 
+const THERE: &str = "calls of missing operations are left out";
 /// What lent words hold before a call that has not written them.
 const FILL: u64 = 0xa5a5_5a5a_0f0f_f0f0;
 /// Words lent past the needed length, and past the records of a push list.
@@ -65,20 +68,27 @@ const SPARE: usize = 19;
 /// More dispatches than any state has due.
 const MOST_DUE: usize = 1 << 20;
 
+/// Ack and redeliver.
+type ListCall = unsafe extern "C" fn(*mut u64, usize, u64, *const u64, usize) -> u64;
+
 pub struct CSide {
     store: Vec<u64>,
+    /// The store as it was before the present call.
+    before: Vec<u64>,
     needed: usize,
+    /// How many pushes there were, so that their lists are of many lengths.
+    pushes: usize,
 }
 
 impl CSide {
     pub fn new() -> Self {
-        CSide { store: Vec::new(), needed: 0 }
+        CSide { store: Vec::new(), before: Vec::new(), needed: 0, pushes: 0 }
     }
 
     /// A store of the right length; one that was used before stays as it is, since opening
     /// has to take any words.
     fn lend(&mut self, entries: u64) {
-        self.needed = 4096 + 128 * entries as usize;
+        self.needed = needed(entries);
         if self.store.len() != self.needed + SPARE {
             self.store = vec![FILL; self.needed + SPARE];
         }
@@ -86,7 +96,6 @@ impl CSide {
 
     fn answer(&mut self, call: &Call) -> u64 {
         let (store, len) = (self.store.as_mut_ptr(), self.store.len());
-        const THERE: &str = "calls of missing operations are left out";
         // Each pointer is to a vector that outlives the call, with its length beside it.
         unsafe {
             match call {
@@ -103,14 +112,6 @@ impl CSide {
                 Call::Flow { consumer, grant } => {
                     flow().expect(THERE)(store, len, *consumer, *grant)
                 }
-                Call::Ack { consumer, groups } => {
-                    let words = list(groups);
-                    ack().expect(THERE)(store, len, *consumer, words.as_ptr(), words.len())
-                }
-                Call::Redeliver { consumer, groups } => {
-                    let words = list(groups);
-                    redeliver().expect(THERE)(store, len, *consumer, words.as_ptr(), words.len())
-                }
                 Call::Seek { consumer, target } => {
                     let (kind, ledger, entry) = match target {
                         Target::Start => (0, 0, 0),
@@ -119,18 +120,48 @@ impl CSide {
                     seek().expect(THERE)(store, len, *consumer, kind, ledger, entry)
                 }
                 Call::Close { consumer } => close().expect(THERE)(store, len, *consumer),
-                Call::Push => unreachable!("push has its own function"),
+                Call::Ack { .. } | Call::Redeliver { .. } | Call::Push => {
+                    unreachable!("calls with a list have their own functions")
+                }
             }
         }
     }
 
-    /// First with an empty list, to learn the number due by 15, then with a list that is
-    /// one word short, then with just enough room. With nothing due the first call is the
-    /// push.
+    /// First with the list cut by its last word, which 10 or 4 has to refuse, then whole.
+    fn with_list(&mut self, call: ListCall, consumer: u64, groups: &[Group]) -> Outcome {
+        let words = list(groups);
+        let mut lent = words.clone();
+        let mut answer = |store: &mut [u64], m: usize| {
+            // Each pointer is to a vector that outlives the call, with a length within it.
+            let answer =
+                unsafe { call(store.as_mut_ptr(), store.len(), consumer, lent.as_mut_ptr(), m) };
+            apart(answer)
+        };
+        let shorter = words.len().checked_sub(1);
+        let cut = shorter.map(|m| (answer(&mut self.store, m), self.store == self.before));
+        let outcome = answer(&mut self.store, words.len());
+        if lent != words {
+            return broken("a list that is only read changed");
+        }
+        let due = if outcome.number == 4 { 4 } else { 10 };
+        match cut {
+            Some((cut, same)) if cut != Outcome::refused(due) || !same => {
+                broken("a cut list was not refused, or changed something")
+            }
+            _ => outcome,
+        }
+    }
+
+    /// First with a list for no record, to learn the number due by 15, then with a list that
+    /// is one word short, then with just enough room, or with some words or a record more.
+    /// With nothing due the first call is the push.
     fn push(&mut self) -> Outcome {
-        let before = self.store.clone();
-        let mut words: Vec<u64> = Vec::new();
+        self.pushes += 1;
+        let mut words: Vec<u64> = vec![FILL; self.pushes % 13];
         let mut answer = self.push_into(&mut words);
+        if answer != 0 && (self.store != self.before || words.iter().any(|w| *w != FILL)) {
+            return broken("push refused by 15 changed something");
+        }
         if answer % 256 == 15 && answer / 256 > 0 {
             let due = (answer / 256) as usize;
             if due > MOST_DUE {
@@ -138,10 +169,10 @@ impl CSide {
             }
             let mut short = vec![FILL; 13 * due - 1];
             let again = self.push_into(&mut short);
-            if self.store != before || again != answer || short.iter().any(|w| *w != FILL) {
+            if self.store != self.before || again != answer || short.iter().any(|w| *w != FILL) {
                 return broken("push refused by 15 changed something, or by another number due");
             }
-            words = vec![FILL; 13 * due + SPARE % 13];
+            words = vec![FILL; 13 * due + [0, SPARE % 13, SPARE][self.pushes % 3]];
             answer = self.push_into(&mut words);
         }
         let outcome = apart(answer);
@@ -162,7 +193,7 @@ impl CSide {
     fn push_into(&mut self, words: &mut [u64]) -> u64 {
         let (store, len) = (self.store.as_mut_ptr(), self.store.len());
         // Both pointers are to vectors that outlive the call.
-        unsafe { push().expect("left out")(store, len, words.as_mut_ptr(), words.len()) }
+        unsafe { push().expect(THERE)(store, len, words.as_mut_ptr(), words.len()) }
     }
 }
 
@@ -184,12 +215,18 @@ impl Side for CSide {
         if let Call::Open { entries, .. } = call {
             self.lend(*entries);
         }
-        let before = self.store.clone();
+        self.before.clone_from(&self.store);
         let outcome = match call {
             Call::Push => self.push(),
+            Call::Ack { consumer, groups } => {
+                self.with_list(ack().expect(THERE), *consumer, groups)
+            }
+            Call::Redeliver { consumer, groups } => {
+                self.with_list(redeliver().expect(THERE), *consumer, groups)
+            }
             _ => apart(self.answer(call)),
         };
-        if outcome.number != 0 && self.store != before {
+        if outcome.number != 0 && self.store != self.before {
             return broken("a refused call changed the store");
         }
         if self.store[self.needed..].iter().any(|w| *w != FILL) {
@@ -198,8 +235,12 @@ impl Side for CSide {
         outcome
     }
 
-    /// The layout of the store is not this program's business.
+    /// The words say it: see `words`.
     fn state(&self) -> Option<State> {
         None
+    }
+
+    fn words(&self) -> Option<&[u64]> {
+        Some(&self.store[..self.needed])
     }
 }

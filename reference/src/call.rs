@@ -184,4 +184,9 @@ pub trait Side {
 
     /// The whole state, where the side can show it.
     fn state(&self) -> Option<crate::state::State>;
+
+    /// The needed words of the side's store, where it has one.
+    fn words(&self) -> Option<&[u64]> {
+        None
+    }
 }

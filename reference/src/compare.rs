@@ -2,8 +2,9 @@
 //! records per consumer and, where the other side can show it, the whole state.
 //!
 //! The model walks along. It watches that the calls stay inside the comparison domain,
-//! and it knows what broker.rs does not tell: the order of records across consumers, and
-//! the refusals outside the domain.
+//! and it knows what broker.rs does not tell: the order of records across consumers, the
+//! refusals outside the domain, and the words of a store. A store with the words of the
+//! model's state has that state, so broker.rs's is then compared with the model's.
 
 use crate::broker::driver::Reference;
 use crate::call::{Call, Outcome, Record, Side};
@@ -14,6 +15,7 @@ use crate::play::record_text;
 use crate::rng::Rng;
 use crate::script::format_call;
 use crate::shrink::shrink;
+use crate::words::encode;
 
 /// Makes a fresh other side.
 pub type Make<'a> = &'a dyn Fn() -> Box<dyn Side>;
@@ -81,6 +83,19 @@ fn states_differ(expected: &dyn Side, found: &dyn Side) -> Option<String> {
     expected.difference(&found)
 }
 
+/// `expected` is room for the words of the model's state.
+fn words_differ(model: &Model, expected: &mut Vec<u64>, found: &[u64]) -> Option<String> {
+    encode(model, expected);
+    if expected == found {
+        return None;
+    }
+    let absent = || "(no such word)".to_owned();
+    let text = |words: &[u64], i: usize| words.get(i).map_or_else(absent, u64::to_string);
+    (0..expected.len().max(found.len())).find(|i| expected.get(*i) != found.get(*i)).map(|i| {
+        format!("word {i} of the store: {}\n    other: {}", text(expected, i), text(found, i))
+    })
+}
+
 impl Found {
     pub fn text(&self) -> String {
         let lines: Vec<String> = self.script.iter().map(format_call).collect();
@@ -98,6 +113,7 @@ impl Comparison<'_> {
         let mut model = Model::new();
         let mut reference = Reference::new();
         let mut other = (self.make)();
+        let mut room = Vec::new();
         for (at, call) in calls.iter().enumerate() {
             if self.against == Against::Rust && model.leaves_domain(call) {
                 return Verdict::Outside(at);
@@ -114,8 +130,13 @@ impl Comparison<'_> {
             if what.is_none() && self.in_order {
                 what = records_differ(&by_rules.records, &found.records);
             }
+            if what.is_none() {
+                what = other.words().and_then(|words| words_differ(&model, &mut room, words));
+            }
             if what.is_none() && self.with_state {
-                what = states_differ(&reference, other.as_ref());
+                let shown: &dyn Side =
+                    if other.words().is_some() { &model } else { other.as_ref() };
+                what = states_differ(&reference, shown);
             }
             if let Some(what) = what {
                 return Verdict::Differs(Difference { at, what });

@@ -254,7 +254,43 @@ fn ring_past() -> Vec<Call> {
     calls
 }
 
+/// A batch of 257 (8), an id twice (7), a ninth topic (5) and dispatcher (13), a second entry
+/// of one (6), a 33rd consumer (12).
+fn tables_past() -> Vec<Call> {
+    let mut calls = vec![open(1), append(0, 0, 257), append(0, 0, 256), append(0, 0, 257)];
+    calls.extend([append(0, 0, 1), append(0, 1, 1)]);
+    calls.extend((1..9).map(|topic| append(topic, 0, 1)));
+    calls.extend((0..9).map(|topic| shared(u64::from(topic), topic, 9)));
+    calls.extend((10..35).map(|id| plain(id, 1)));
+    calls.extend([shared(35, 0, 9), shared(10, 8, 9), shared(10, 0, 9), plain(35, 1), close(35)]);
+    calls.extend([close(11), shared(35, 0, 9), flow(35, 1), Call::Push]);
+    calls
+}
+
+/// 65 groups and 17 words (10), 65 outside ids and 65 nacked entries (11), nobody's list (4).
+fn lists_past() -> Vec<Call> {
+    let redeliver = |consumer, groups| Call::Redeliver { consumer, groups };
+    let ids = |from, to| (from..to).map(|entry| group(entry, vec![])).collect::<Vec<Group>>();
+    let mut calls = vec![open(32), shared(7, 1, 1), plain(8, 1)];
+    for consumer in [7, 8, 9] {
+        calls.extend([ack(consumer, ids(0, 65)), redeliver(consumer, ids(0, 65))]);
+        let long = vec![group(0, vec![1; 17])];
+        calls.extend([ack(consumer, long.clone()), redeliver(consumer, long)]);
+        calls.extend([ack(consumer, ids(0, 64)), ack(consumer, ids(63, 65))]);
+    }
+    calls.extend([append(1, 3, 2), ack(7, ids(63, 66)), ack(7, ids(63, 65)), ack(7, ids(65, 66))]);
+    calls.extend([redeliver(8, vec![group(3, vec![]); 63]), redeliver(8, ids(3, 10))]);
+    calls.extend([redeliver(8, vec![group(3, vec![]); 2]), redeliver(8, ids(3, 4)), flow(8, 9)]);
+    calls.extend([Call::Push, redeliver(8, vec![group(3, vec![]); 10]), redeliver(8, ids(4, 68))]);
+    calls
+}
+
 /// Sequences with the refusals that random calls seldom meet.
 pub fn refused() -> Vec<(&'static str, Vec<Call>)> {
-    vec![("permits past the limit", permits_past()), ("ring past the limit", ring_past())]
+    vec![
+        ("permits past the limit", permits_past()),
+        ("ring past the limit", ring_past()),
+        ("tables past the limit", tables_past()),
+        ("lists past the limit", lists_past()),
+    ]
 }

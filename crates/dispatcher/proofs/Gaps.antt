@@ -5,7 +5,7 @@ use mathlib.Core.List.{List, [], _∷_, _++_}
 use Prim.Native.Nat.{ℕ, suc, _+_, _-_, _*_, _^_, _<_, min}
 use native.Mathlib.Omega.{arith}
 use lib.ListN.{length, getD, set, take, drop}
-use Rattle.words.specs.Act.{down, close, clear, both, past}
+use Rattle.words.specs.Act.{close}
 use Rattle.rules.specs.State.{new-mark}
 use Rattle.rules.specs.Dispatcher.{with-marks, mark-at}
 use Rattle.rules.specs.Commands.{raised}
@@ -16,14 +16,6 @@ use Rattle.layout.specs.Placed.{Dispatcher-in}
 use Rattle.layout.proofs.GetsDispatcher.{read-outside-count, read-outside-ledger, read-outside-entry, read-mark-count, read-redelivery-count}
 use Rattle.layout.proofs.SetsDispatcher as layout
 use Rattle.ledger.specs.Ids.{id-of, id-at}
-
--- words moved down, and the words that they leave cleared
-pub closed : {us vs : List ℕ} (ws : List ℕ) (at w n : ℕ) → us ≡ down w n .run at ws → vs ≡ clear (at + n + w - (at + n)) .run (at + n) us
-    → vs ≡ close w n .run at ws
-unfolding both past
-closed ws at w n e f =
-    let m : at + n + w - (at + n) ≡ w = omega arith in
-    f ∙ rw (m, e)
 
 module _ {e : ℕ} {ws : List ℕ} (d at : ℕ) (h : Dispatcher-in e ws d) (a : at ≡ dispatcher-at e d) where
   -- the number of outside ids

@@ -1,9 +1,9 @@
 // The entries of a dispatcher that its consumers hold, in dispatch order. Each has two words, its
 // holder and its position.
-use super::stretch::close_gap;
-use super::stretch::is_word;
+use store::movers::close_gap;
 use store::offsets::dispatcher_at;
 use store::stretch::clear_words;
+use store::stretch::is_word;
 use store::stretch::word;
 ghost use mathlib.Core.Path.{_≡_};
 ghost use mathlib.Core.List.{_++_, _∷_, []};

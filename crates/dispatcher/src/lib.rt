@@ -7,5 +7,4 @@ pub mod marks;
 pub mod outside;
 pub mod queue;
 pub mod ring;
-pub mod stretch;
 pub mod total;

@@ -1,6 +1,6 @@
 // The complete ids of a dispatcher that are not in the ledger.
-use super::stretch::close_gap;
 use ledger::find::same_id;
+use store::movers::close_gap;
 use store::offsets::dispatcher_at;
 use store::stretch::word;
 ghost use mathlib.Core.Path.{_≡_};

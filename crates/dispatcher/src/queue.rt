@@ -1,5 +1,5 @@
 // The positions that a dispatcher is to hand out again, front first. Each has one word.
-use super::stretch::close_gap;
+use store::movers::close_gap;
 use store::offsets::dispatcher_at;
 use store::stretch::word;
 ghost use mathlib.Core.Path.{_≡_};

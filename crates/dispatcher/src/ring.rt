@@ -1,7 +1,7 @@
 // The ids of the consumers that are attached to a dispatcher, in attach order. Each has one word.
-use super::stretch::close_gap;
-use super::stretch::is_word;
+use store::movers::close_gap;
 use store::offsets::dispatcher_at;
+use store::stretch::is_word;
 use store::stretch::word;
 ghost use mathlib.Core.Path.{_≡_};
 ghost use mathlib.Core.List.{_++_, _∷_, []};

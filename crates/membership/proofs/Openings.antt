@@ -11,7 +11,6 @@ use lib.ListN.{replicate, length, getD, set, take, drop, drop-of-length-le}
 use lib.Seq.{drop-cons}
 use borrow.Author.Tests.{lt-ltb, le-ltb}
 use Rattle.words.specs.Act.{up, clear, lay, both}
-use Rattle.words.proofs.Act.{up-none, up-turn}
 use Rattle.rules.specs.State.{Consumer, with-consumers}
 use Rattle.layout.specs.Records.{consumer-codec}
 use Rattle.layout.specs.Layout.{decode, put}
@@ -50,36 +49,7 @@ module _ (id : ℕ) (l : List Consumer) where
   unfolding place
   placing-end i h s = let e : place id (drop i l) ≡ 0 = rw (drop-of-length-le l h) in omega arith
 
--- ---- words moved up
-
-module _ {us : List ℕ} (ws : List ℕ) (at w n : ℕ) where
-  -- one word more
-  pub up-goes-on : (i : ℕ) → 0 < i → i ≤ n → at + n ≤ length ws → us ≡ up w (n - i) .run (at + i) ws
-      → set us (at + w + (i - 1)) (getD us (at + (i - 1)) 0) ≡ up w (n - (i - 1)) .run (at + (i - 1)) ws
-  up-goes-on i p q h e =
-      let to : at + w + (i - 1) ≡ at + (i - 1) + w = omega arith in
-      let more : n - (i - 1) ≡ n - i + 1 = omega arith in
-      let from : at + i ≡ at + (i - 1) + 1 = omega arith in
-      rw (to, more) (up-turn w (n - i) (at + (i - 1)) ws (e ∙ ap (λ (k : ℕ). up w (n - i) .run k ws) from) (omega arith))
-
-  -- all
-  pub up-ends : (i : ℕ) → i ≡ 0 → us ≡ up w (n - i) .run (at + i) ws → us ≡ up w n .run at ws
-  up-ends i z e =
-      let m : n - i ≡ n = omega arith in
-      let a : at + i ≡ at = omega arith in
-      e ∙ rw (m, a)
-
--- none yet
-pub up-begins : (ws : List ℕ) (at w n : ℕ) → ws ≡ up w (n - n) .run (at + n) ws
-up-begins ws at w n = let m : n - n ≡ 0 = omega arith in rw m (sym (up-none w (at + n) ws))
-
 -- ---- a blank consumer among the others
-
--- words moved up, and the words that they leave cleared
-pub gap-opened : {us vs : List ℕ} (ws : List ℕ) (at w n : ℕ) → us ≡ up w n .run at ws → vs ≡ clear (at + w - at) .run at us
-    → vs ≡ both (up w n) (clear w) .run at ws
-unfolding both
-gap-opened ws at w n e f = let m : at + w - at ≡ w = omega arith in f ∙ rw (m, e)
 
 -- the gap opened, then the count raised
 pub opened : {e : ℕ} {ws us : List ℕ} (i n : ℕ) → Canon-store e ws → n ≡ length (decode ws .consumers) → i ≤ n → n < 32

@@ -1,10 +1,9 @@
 // A gap for a new consumer among the others. The records after it move up, and its words become 0.
-use store::stretch::clear_words;
+use store::movers::open_gap;
 ghost use mathlib.Core.Path.{_≡_};
 ghost use mathlib.Core.List.{_++_, _∷_};
-ghost use Prim.Native.Nat.{_+_, _≤_, _<_};
+ghost use Prim.Native.Nat.{_≤_, _<_};
 ghost use lib.ListN.{length, take, drop};
-ghost use Rattle.words.specs.Act.{up, both, clear};
 ghost use Rattle.rules.specs.State.{with-consumers};
 ghost use Rattle.layout.specs.Layout.{decode, put};
 ghost use Rattle.layout.specs.Canon.{Canon-store};
@@ -18,26 +17,4 @@ pub fn open_consumer(store: &mut [u64], e: usize, i: usize, n: usize)
     let at = 17 + i * 72;
     open_gap(store, at, 72, (n - i) * 72);
     store[16] = (n + 1) as u64;
-}
-
-// Opens a gap of `width` words at `at`: the `count` words there move up, and the words that they
-// leave become 0.
-fn open_gap(store: &mut [u64], at: usize, width: usize, count: usize)
-    requires { ⌜ at + width + count ≤ length (now store) ⌝ }
-    ensures { λ _. ⌜ now (store .exit) ≡ both (up width count) (clear width) .run at (now (store .entry)) ⌝ }
-{
-    move_up(store, at, width, count);
-    clear_words(store, at, at + width);
-}
-
-// The `count` words at `at` move up by `width` words, the last one first.
-fn move_up(store: &mut [u64], at: usize, width: usize, count: usize)
-    requires { ⌜ at + width + count ≤ length (now store) ⌝ }
-    ensures { λ _. ⌜ now (store .exit) ≡ up width count .run at (now (store .entry)) ⌝ }
-{
-    let mut i = count;
-    while 0 < i {
-        i -= 1;
-        store[at + width + i] = store[at + i];
-    }
 }

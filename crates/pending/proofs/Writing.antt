@@ -3,7 +3,6 @@
 use mathlib.Core.Path.{_≡_, refl, sym, ap, ap₂, _∙_, subst}
 use mathlib.Core.List.{List, [], _∷_, _++_, map, append-nil, append-assoc}
 use Prim.Native.Nat.{ℕ, suc, _+_, _-_, _*_, _≤_, _<_}
-use native.Mathlib.Nat.{sub-zero}
 use native.Mathlib.Numerals.{add-one}
 use native.Mathlib.Omega.{arith}
 use lib.ListN.{length, drop, length-append, length-drop}
@@ -28,7 +27,9 @@ use Rattle.records.specs.Flat.{filled}
 use Rattle.records.proofs.Filled.{filled-length}
 use Rattle.turns.specs.Turns.{local-from, Serving, ledger-under}
 use Rattle.pending.specs.Service.{service-of}
-use Rattle.pending.proofs.Steps.{left, Ranged, Moves, turn-moves, turn-stops, turns-on, turns-end}
+use Rattle.turns.proofs.Left.{left, all-turns, turn-lowers, turn-less, stop-in-lists, turns-stop}
+use Rattle.turns.proofs.Served.{served-turns}
+use Rattle.pending.proofs.Steps.{Ranged, Moves, turn-moves, ranged-on, turns-on}
 use Rattle.pending.proofs.Staying.{consumers-now, fixed-now, record-now, held-now, serving-now}
 
 -- what a service reads
@@ -41,7 +42,7 @@ whole ws d permits = served (decode ws) (dispatcher-nth (decode ws) d) permits
 
 -- what is left of it, from some numbers on
 abbrev pub rest : List ℕ → ℕ → Local → Steps
-rest ws d l = local-turns (suc (left (fixed ws d) l)) (fixed ws d) l
+rest ws d l = all-turns (fixed ws d) l
 
 -- the records of steps
 abbrev pub records : List ℕ → ℕ → List Step → List Dispatch
@@ -64,34 +65,24 @@ pub record Writing (e d : ℕ) (ws ps ls : List ℕ) (from : ℕ) (us qs ks : Li
   pub room : length flight + left (fixed ws d) (local-from qs h taken) ≤ e
   pub as-long : length ks ≡ length ls
 
--- numbers with other permits than the permits are the same otherwise
 module _ {e d t n : ℕ} {ws : List ℕ} (v : Serving e ws d t n) where
   abbrev x : Dispatcher
   x = dispatcher-nth (decode ws) d
 
   -- ---- at first
 
-  -- as many turns are left as the service has
-  left-at-first : (ps : List ℕ) → suc (left (fixed ws d) (local-of x ps)) ≡ turns-of (decode ws) x
-  unfolding left local-of fixed-of turns-of
-  left-at-first ps = rw (sub-zero (length (x .redelivery)))
-
-  rest-at-first : (ps : List ℕ) → rest ws d (local-from ps (head-of x) 0) ≡ whole ws d ps
-  unfolding local-from head-of local-of served
-  rest-at-first ps = ap (λ (k : ℕ). local-turns k (fixed ws d) (local-of x ps)) (left-at-first ps)
-
   pub writing-start : (ps ls : List ℕ) (from : ℕ) (h : numbers.Head) → h ≡ head-of x → x .next ≤ length (fixed ws d .ring) → length ps ≡ length (decode ws .consumers)
       → length (x .in-flight) + (length (x .redelivery) + (n - x .cursor)) ≤ e
       → Writing e d ws ps ls from ws ps ls h 0 from
-  unfolding with-places local-from head-of left fixed-of
+  unfolding with-places local-from head-of fixed-of
   writing-start ps ls from h q a b c =
       let whole-rest : rest ws d (local-from ps h 0) ≡ whole ws d ps =
-      ap (λ (z : numbers.Head). rest ws d (local-from ps z 0)) q ∙ rest-at-first ps in
+      ap (λ (z : numbers.Head). rest ws d (local-from ps z 0)) q ∙ sym (served-turns (decode ws) x ps) in
       let l = v .ledger-length in
       record {
         flight = x .in-flight;
         moved = moved-start (v .here);
-        ranged = record { next-in = rw q a; taken-in = omega arith; queue-in = rw (← v .ledger-length) (v .queue-in-ledger) };
+        ranged = record { next-in = rw q a; lists-in = (omega arith, rw (q, ← v .ledger-length) (v .cursor-in-ledger)); queue-in = rw (← v .ledger-length) (v .queue-in-ledger) };
         sized = b;
         after-same = ap (λ (r : Steps). r .after) whole-rest;
         flight-same = ap (λ (r : Steps). x .in-flight ++ holds ws (r .made)) whole-rest;
@@ -139,6 +130,9 @@ module _ {e d t n : ℕ} {ws : List ℕ} (v : Serving e ws d t n) where
       moves : Moves (fixed ws d) l z (local-from rs k count)
       moves = turn-moves (fixed ws d) l (w .ranged) z (local-from rs k count) turned
 
+      lower : suc (left (fixed ws d) (local-from rs k count)) ≡ left (fixed ws d) l
+      lower = turn-lowers (fixed ws d) l z (local-from rs k count) turned
+
       on : rest ws d l ≡ record { made = z ∷ rest ws d (local-from rs k count) .made; after = rest ws d (local-from rs k count) .after }
       on = turns-on (fixed ws d) l (w .ranged) z (local-from rs k count) turned
 
@@ -154,7 +148,7 @@ module _ {e d t n : ℕ} {ws : List ℕ} (v : Serving e ws d t n) where
 
       -- there is room for it in flight
       pub flight-room : length (dispatcher-nth (decode us) d .in-flight) < e
-      flight-room = let a = w .room in let b = moves .one-less in rw flight-now (omega (arith, a, b))
+      flight-room = let a = w .room in let b = lower in rw flight-now (omega (arith, a, b))
 
       -- and for its record
       pub list-room : (from + length (whole ws d ps .made)) * 13 ≤ length ls → m * 13 + 13 ≤ length ks
@@ -166,7 +160,7 @@ module _ {e d t n : ℕ} {ws : List ℕ} (v : Serving e ws d t n) where
 
       -- one entry less is left
       pub left-on : left (fixed ws d) (local-from rs k count) < left (fixed ws d) l
-      left-on = let b = moves .one-less in omega (arith, b)
+      left-on = turn-less (fixed ws d) l z (local-from rs k count) turned
 
       -- it is written
       pub writing-on : {vs ns : List ℕ}
@@ -181,7 +175,7 @@ module _ {e d t n : ℕ} {ws : List ℕ} (v : Serving e ws d t n) where
           let f = v .here .lists-fit in
           let more : length (w .flight ++ y ∷ []) ≡ length (w .flight) + 1 = length-append (w .flight) (y ∷ []) in
           let some = w .room in
-          let less = moves .one-less in
+          let less = lower in
           let fits : Shaped-dispatcher e (with-places x (x .redelivery) (w .flight ++ y ∷ [])) =
           record { ring-fits = f .ring-fits; outside-fits = f .outside-fits; queue-fits = f .queue-fits; flight-fits = omega (arith, more, some, less); marks-fit = f .marks-fit } in
           let a′ : vs ≡ put us (set-dispatcher (decode us) d (g (dispatcher-nth (decode us) d))) =
@@ -196,7 +190,7 @@ module _ {e d t n : ℕ} {ws : List ℕ} (v : Serving e ws d t n) where
           record {
             flight = w .flight ++ y ∷ [];
             moved = moved-on (v .here) (w .moved) g fits a′;
-            ranged = moves .ranged;
+            ranged = ranged-on (fixed ws d) l (w .ranged) z (local-from rs k count) turned;
             sized = moves .sized ∙ w .sized;
             after-same = sym (ap (λ (s : Steps). s .after) on) ∙ w .after-same;
             flight-same =
@@ -216,15 +210,12 @@ module _ {e d t n : ℕ} {ws : List ℕ} (v : Serving e ws d t n) where
       stopped = ap (λ (f : Fixed). local-turn f l) (sym fixed-same) ∙ sym told
 
       done : rest ws d l ≡ record { made = []; after = local-from rs k count }
-      done = turns-end (fixed ws d) l (w .ranged) (left (fixed ws d) l) (local-from rs k count) stopped
+      done = turns-stop (fixed ws d) l (left (fixed ws d) l) (local-from rs k count) stopped
 
       -- no more was taken off the queue than it has
       pub taken-there : count ≤ length (dispatcher-nth (decode us) d .redelivery)
       unfolding local-from fixed-of
-      taken-there =
-          let a = turn-stops (fixed ws d) l (w .ranged) (local-from rs k count) stopped .taken-same in
-          let b = w .ranged .taken-in in
-          rw queue-now (omega (arith, a, b))
+      taken-there = rw queue-now (stop-in-lists (fixed ws d) l (local-from rs k count) (w .ranged .lists-in) stopped .0)
 
       last : local-from rs k count ≡ whole ws d ps .after
       last = sym (ap (λ (s : Steps). s .after) done) ∙ w .after-same

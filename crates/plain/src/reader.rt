@@ -1,6 +1,6 @@
 // What a plain consumer is to read: its nacked entries, then its ledger from the cursor on.
 use commands::consumer::set_cursor;
-use dispatcher::stretch::close_gap;
+use store::movers::close_gap;
 use store::offsets::consumer_at;
 use store::stretch::word;
 ghost use mathlib.Core.Path.{_≡_};

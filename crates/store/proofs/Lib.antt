@@ -18,6 +18,7 @@ pub mod Ledgers
 pub mod Lookups
 pub mod MarkBits
 pub mod MarkWords
+pub mod Moving
 pub mod Opened
 pub mod Pairs
 pub mod Parts

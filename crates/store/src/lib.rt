@@ -5,6 +5,7 @@ pub mod check;
 pub mod find;
 pub mod header;
 pub mod lookup;
+pub mod movers;
 pub mod offsets;
 pub mod open;
 pub mod rows;

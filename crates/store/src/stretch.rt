@@ -1,7 +1,8 @@
-// Words of a store: read one, test a stretch for zeros, clear a stretch. Nothing here knows what the
-// words mean.
+// Words of a store: read one, compare one, test a stretch for zeros, clear a stretch. Nothing here
+// knows what the words mean.
 ghost use mathlib.Core.Path.{_≡_};
 ghost use Prim.Native.Nat.{_-_, _≤_, _<_};
+ghost use lib.Dec.{eqb};
 ghost use lib.ListN.{length, getD, drop};
 ghost use Rattle.words.specs.Words.{blank};
 ghost use Rattle.words.specs.Act.{clear};
@@ -12,6 +13,14 @@ pub fn word(store: &[u64], at: usize) -> usize
     ensures { λ r. ⌜ r ≡ getD (now (store .entry)) at 0 ⌝ }
 {
     store[at] as usize
+}
+
+// Whether the word at `at` is `value`.
+pub fn is_word(store: &[u64], at: usize, value: u64) -> bool
+    requires { ⌜ at < length (now store) ⌝ }
+    ensures { λ r. ⌜ r ≡ eqb value (getD (now (store .entry)) at 0) ⌝ }
+{
+    value == store[at]
 }
 
 // Whether the words from `from` up to `to` are all 0. They are or-ed and tested once, which the

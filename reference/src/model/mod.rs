@@ -1,7 +1,7 @@
 //! Document 01's rules as plain Rust, after the document's text and in another form than
 //! broker.rs: positions instead of copied messages, one list of what is in flight, marks
-//! by entry, refusals. It tells the generator what is inside the comparison domain, and
-//! it is the side that broker.rs is compared with while the C exports do not exist.
+//! by entry, refusals. It tells the generator what is inside the comparison domain; it is a
+//! side that broker.rs is compared with, and what the C exports are compared with beside it.
 
 mod commands;
 pub mod mutation;

@@ -11,7 +11,7 @@ use Rattle.push.specs.Local.{local-turn}
 use Rattle.push.specs.Local.Local-turn.{stop, move}
 use Rattle.turns.specs.declared.turn.Turn as turns
 use Rattle.turns.specs.Turns.{turn-of, local-from, step-of}
-use Rattle.pending.proofs.Steps.{left}
+use Rattle.turns.proofs.Left.{left}
 use Rattle.pending.proofs.Writing.{fixed, Writing, writing-start, serving-on, ring-on, next-on, entry-in, consumer-in, flight-room, list-room, left-on, writing-on, taken-there, permits-end, count-end, records-end, fits-end, words-end}
 use borrow.Author.Needs.{needs}
 use Rattle.pending.proofs.serve.serve_turns.Statement.{statement}

@@ -1,4 +1,4 @@
--- `dispatcher::stretch::move_down` meets its contract. The loop's invariant: the words are those of the entry with i words
+-- `store::movers::move_down` meets its contract. The loop's invariant: the words are those of the entry with i words
 -- moved.
 use mathlib.Core.Path.{_≡_, refl, sym, _∙_, ap}
 use Prim.Native.Nat.{ℕ, _≤_, _<_, _-_, _+_}
@@ -7,8 +7,8 @@ use lib.ListN.{length}
 use borrow.Author.Needs.{needs}
 use Rattle.words.specs.Act.{down}
 use Rattle.words.proofs.Act.{down-none, down-turn}
-use Rattle.dispatcher.proofs.stretch.move_down.Statement.{statement}
-use Rattle.dispatcher.proofs.stretch.move_down.Tie as tie
+use Rattle.store.proofs.movers.move_down.Statement.{statement}
+use Rattle.store.proofs.movers.move_down.Tie as tie
 
 abbrev Inv-loop : tie.InvT-loop
 Inv-loop store₀ at width count i₀ store i = (i ≤ count) × (at + width + count ≤ length store₀) × (length store ≡ length store₀) × (store ≡ down width i .run at store₀)

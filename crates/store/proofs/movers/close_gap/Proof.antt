@@ -1,8 +1,8 @@
--- `dispatcher::stretch::close_gap` meets its contract: the words move down, and those that they leave are cleared.
-use Rattle.dispatcher.proofs.Gaps.{closed}
+-- `store::movers::close_gap` meets its contract: the words move down, and those that they leave are cleared.
+use Rattle.store.proofs.Moving.{closed}
 use borrow.Author.Needs.{needs}
-use Rattle.dispatcher.proofs.stretch.close_gap.Statement.{statement}
-use Rattle.dispatcher.proofs.stretch.close_gap.Tie as tie
+use Rattle.store.proofs.movers.close_gap.Statement.{statement}
+use Rattle.store.proofs.movers.close_gap.Tie as tie
 
 move-down-requires : tie.Need-move-down-requires
 move-down-requires c κs = search needs

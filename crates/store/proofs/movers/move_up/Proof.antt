@@ -1,14 +1,14 @@
--- `membership::gap::move_up` meets its contract. The loop's invariant: the words are those of the entry with the words from i
+-- `store::movers::move_up` meets its contract. The loop's invariant: the words are those of the entry with the words from i
 -- on moved.
 use mathlib.Core.Path.{_≡_, refl}
 use Prim.Native.Nat.{_≤_, _<_, _-_, _+_}
 use native.Mathlib.Omega.{arith}
 use lib.ListN.{length}
 use Rattle.words.specs.Act.{up}
-use Rattle.membership.proofs.Openings.{up-begins, up-goes-on, up-ends}
+use Rattle.store.proofs.Moving.{up-begins, up-goes-on, up-ends}
 use borrow.Author.Needs.{needs}
-use Rattle.membership.proofs.gap.move_up.Statement.{statement}
-use Rattle.membership.proofs.gap.move_up.Tie as tie
+use Rattle.store.proofs.movers.move_up.Statement.{statement}
+use Rattle.store.proofs.movers.move_up.Tie as tie
 
 abbrev Inv-loop : tie.InvT-loop
 Inv-loop store₀ at width count i₀ store i = (i ≤ count) × (at + width + count ≤ length store₀) × (length store ≡ length store₀) × (store ≡ up width (count - i) .run (at + i) store₀)

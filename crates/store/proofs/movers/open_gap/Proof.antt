@@ -1,8 +1,8 @@
--- `membership::gap::open_gap` meets its contract: the words move up, and those that they leave are cleared.
-use Rattle.membership.proofs.Openings.{gap-opened}
+-- `store::movers::open_gap` meets its contract: the words move up, and those that they leave are cleared.
+use Rattle.store.proofs.Moving.{gap-opened}
 use borrow.Author.Needs.{needs}
-use Rattle.membership.proofs.gap.open_gap.Statement.{statement}
-use Rattle.membership.proofs.gap.open_gap.Tie as tie
+use Rattle.store.proofs.movers.open_gap.Statement.{statement}
+use Rattle.store.proofs.movers.open_gap.Tie as tie
 
 move-up-requires : tie.Need-move-up-requires
 move-up-requires c κs = search needs
