@@ -1,6 +1,12 @@
 # The two commands: `make run` (the main job) and `make test` (the gate); `make faults` runs the library
-# for C at its limits and on damaged words alone, `make bench` times the check.
-.PHONY: run test faults bench
+# for C at its limits and on damaged words alone, `make examples` its callers, `make bench` times its
+# calls, `make install` puts it in place.
+.PHONY: run test faults examples bench install
+
+LIBRARY = target/staticlib/libbroker.a
+
+# Where `make install` puts header, library and pkg-config file; DESTDIR comes before it.
+PREFIX = /usr/local
 
 # Random calls of the faults' last part; `make faults CALLS=1000000` is the long run.
 CALLS = 100000
@@ -8,25 +14,45 @@ WARNINGS = -Wall -Wextra -Wconversion -pedantic -Werror
 
 # The header as C and as C++, then the program that calls every export with what it has to refuse.
 define run-faults
+gcc -x c -std=c99 $(WARNINGS) -fsyntax-only include/broker.h
 g++ -x c++ $(WARNINGS) -fsyntax-only include/broker.h
-gcc -std=c99 -O2 $(WARNINGS) -Iinclude tests/faults.c target/staticlib/libbroker.a -o target/faults
+gcc -std=c99 -O2 $(WARNINGS) -Iinclude tests/faults.c $(LIBRARY) -o target/faults
 target/faults $(CALLS)
 endef
 
-# Prove and build what there is, the library for C too, and run the case runner.
+# The market morning in C.
+build-terminal = gcc -std=c99 -O2 $(WARNINGS) -Iinclude examples/terminal.c $(LIBRARY) -o target/terminal
+
+# The callers in C and Rust, whose output has to be the stored one; the loop for bare metal has only to
+# compile, as its board is not here.
+define run-examples
+$(build-terminal)
+target/terminal >target/terminal.out
+diff examples/terminal.expected target/terminal.out
+gcc -std=c99 -O2 -ffreestanding $(WARNINGS) -Iinclude -c examples/firmware_loop.c -o target/firmware_loop.o
+rustc --edition 2024 -O examples/caller.rs -C link-arg=$(LIBRARY) -o target/caller
+target/caller >target/caller.out
+diff examples/caller.expected target/caller.out
+@echo "examples: terminal.c and caller.rs print what is stored, firmware_loop.c compiles"
+endef
+
+# Prove and build what there is, the library for C too, and run the case runner and the market morning.
 run:
 	rt check
 	rt staticlib broker
 	target/bin/cases
+	$(build-terminal)
+	target/terminal
 
-# The layout of the sources, the library for C, the runs of it and of broker.rs, its limits and faults,
-# the check on changed words, then the proofs from nothing with the must-fail edits. rt ci comes last, so
-# that its verdict is the last line.
+# The layout of the sources, the library for C, the runs of it and of broker.rs, its limits and faults, its
+# examples, the check on changed words, then the proofs from nothing with the must-fail edits. rt ci comes
+# last, so that its verdict is the last line.
 test:
 	rt fmt --check
 	rt staticlib broker
-	LIBBROKER=target/staticlib/libbroker.a CALLS=$(CALLS) reference/check
+	LIBBROKER=$(LIBRARY) CALLS=$(CALLS) reference/check
 	$(run-faults)
+	$(run-examples)
 	fuzz/run fuzz 1
 	rt ci
 
@@ -35,6 +61,23 @@ faults:
 	rt staticlib broker
 	$(run-faults)
 
-# The time of the check beside a bare pass over the same words.
+# The library called as a maker would call it.
+examples:
+	rt staticlib broker
+	$(run-examples)
+
+# The time of every call beside a bare pass over the same words and beside broker.rs.
 bench:
-	fuzz/run bench
+	rt staticlib broker
+	LIBBROKER=$(LIBRARY) reference/bench
+
+# The library that is there is installed; it is built first if there is none.
+$(LIBRARY):
+	rt staticlib broker
+
+install: $(LIBRARY)
+	install -d "$(DESTDIR)$(PREFIX)/include" "$(DESTDIR)$(PREFIX)/lib/pkgconfig"
+	install -m 644 include/broker.h "$(DESTDIR)$(PREFIX)/include/broker.h"
+	install -m 644 $(LIBRARY) "$(DESTDIR)$(PREFIX)/lib/libbroker.a"
+	sed 's|@PREFIX@|$(PREFIX)|' include/broker.pc.in >"$(DESTDIR)$(PREFIX)/lib/pkgconfig/broker.pc"
+	chmod 644 "$(DESTDIR)$(PREFIX)/lib/pkgconfig/broker.pc"

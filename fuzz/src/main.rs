@@ -1,13 +1,10 @@
 //! The check of a store, run on words. `fuzz` changes the words of good stores one at a time
-//! and compares the check with `layout.rs`, which is written from docs/STORE.md alone. `bench`
-//! times the check beside a bare pass over the same words.
+//! and compares the check with `layout.rs`, which is written from docs/STORE.md alone.
 
 mod good;
 mod layout;
 
-use std::hint::black_box;
 use std::process::exit;
-use std::time::Instant;
 
 use good::{Random, empty, full, random};
 use layout::{State, encode, needed, spelt};
@@ -123,53 +120,10 @@ fn fuzz(seed: u64) {
     );
 }
 
-/// The bare pass: every word read once.
-#[inline(never)]
-fn pass(words: &[u64]) -> u64 {
-    words.iter().fold(0, |all, word| all | word)
-}
-
-/// The fewest nanoseconds of a run, of many.
-fn time(mut run: impl FnMut()) -> f64 {
-    let mut best = f64::INFINITY;
-    for _ in 0..60 {
-        let start = Instant::now();
-        for _ in 0..20 {
-            run();
-        }
-        best = best.min(start.elapsed().as_nanos() as f64 / 20.0);
-    }
-    best
-}
-
-fn bench() {
-    println!("E; store; words; bare pass ns; check ns; times");
-    for e in [32, 256, 4096] {
-        let mut inside = full(e);
-        inside.dispatchers.iter_mut().for_each(|d| d.outside.clear());
-        let stores = [("empty", empty(e)), ("full, no outside ids", inside), ("full", full(e))];
-        for (name, state) in stores {
-            let words = encode(&state);
-            let bare = time(|| {
-                black_box(pass(black_box(&words)));
-            });
-            let checked = time(|| {
-                black_box(check(black_box(&words)));
-            });
-            println!(
-                "{e}; {name}; {}; {bare:.0}; {checked:.0}; {:.2}",
-                words.len(),
-                checked / bare
-            );
-        }
-    }
-}
-
 fn main() {
     let arguments: Vec<String> = std::env::args().skip(1).collect();
     match arguments.iter().map(String::as_str).collect::<Vec<_>>()[..] {
         ["fuzz", seed] => fuzz(seed.parse().unwrap_or_else(|_| fail("the seed is a number"))),
-        ["bench"] => bench(),
-        _ => fail("usage: fuzz fuzz SEED | fuzz bench"),
+        _ => fail("usage: fuzz fuzz SEED"),
     }
 }

@@ -15,7 +15,7 @@ use crate::words::needed;
 macro_rules! export {
     ($has:ident $get:ident $name:ident($($arg:ty),*)) => {
         #[cfg($has)]
-        fn $get() -> Option<unsafe extern "C" fn(*mut u64, usize $(, $arg)*) -> u64> {
+        pub fn $get() -> Option<unsafe extern "C" fn(*mut u64, usize $(, $arg)*) -> u64> {
             unsafe extern "C" {
                 fn $name(store: *mut u64, len: usize $(, _: $arg)*) -> u64;
             }
@@ -23,7 +23,7 @@ macro_rules! export {
         }
 
         #[cfg(not($has))]
-        fn $get() -> Option<unsafe extern "C" fn(*mut u64, usize $(, $arg)*) -> u64> {
+        pub fn $get() -> Option<unsafe extern "C" fn(*mut u64, usize $(, $arg)*) -> u64> {
             None
         }
     };

@@ -14,6 +14,9 @@ use pb::base_command::Type;
 #[path = "driver_state.rs"]
 mod driver_state;
 pub use driver_state::{and_fresh, fresh};
+#[path = "driver_speed.rs"]
+mod driver_speed;
+pub use driver_speed::Kept;
 
 /// Request ids are only echoed by broker.rs; one value serves all.
 const REQUEST: u64 = 1;
@@ -69,6 +72,93 @@ fn plain_id(ledger: u64, entry: u64) -> pb::MessageIdData {
     message_id(&Group { ledger, entry, words: Vec::new() })
 }
 
+/// A command of a type; `fill` puts its one field in.
+fn command(kind: Type, fill: impl FnOnce(&mut pb::BaseCommand)) -> Frame {
+    let mut command = pb::BaseCommand { r#type: kind as i32, ..Default::default() };
+    fill(&mut command);
+    Frame { command, payload: None }
+}
+
+fn send(topic: u8, id: (u64, u64), handle: u64, batch: u64) -> Frame {
+    let batch = i32::try_from(batch).expect("a batch size that the Rust can hold");
+    let metadata = pb::MessageMetadata {
+        num_messages_in_batch: (batch != 0).then_some(batch),
+        ..Default::default()
+    };
+    let body = Bytes::copy_from_slice(&handle.to_be_bytes());
+    let send = pb::CommandSend {
+        producer_id: u64::from(topic),
+        message_id: Some(plain_id(id.0, id.1)),
+        ..Default::default()
+    };
+    let frame = command(Type::Send, |c| c.send = Some(send));
+    Frame { payload: Some(Payload { metadata, body }), ..frame }
+}
+
+fn subscribe(consumer_id: u64, kind: Kind, topic: u8, subscription: u8) -> Frame {
+    let sub_type = match kind {
+        Kind::Plain => pb::command_subscribe::SubType::Exclusive,
+        Kind::Shared => pb::command_subscribe::SubType::Shared,
+    };
+    let subscribe = pb::CommandSubscribe {
+        topic: topic_name(topic),
+        subscription: subscription_name(subscription),
+        sub_type: sub_type as i32,
+        consumer_id,
+        request_id: REQUEST,
+    };
+    command(Type::Subscribe, |c| c.subscribe = Some(subscribe))
+}
+
+fn ack(consumer_id: u64, groups: &[Group]) -> Frame {
+    let message_id = groups.iter().map(message_id).collect();
+    let ack = pb::CommandAck { consumer_id, message_id, ..Default::default() };
+    command(Type::Ack, |c| c.ack = Some(ack))
+}
+
+fn seek(consumer_id: u64, target: Target) -> Frame {
+    let message_id = match target {
+        Target::Start => None,
+        Target::Id(ledger, entry) => Some(plain_id(ledger, entry)),
+    };
+    let seek = pb::CommandSeek { consumer_id, request_id: REQUEST, message_id };
+    command(Type::Seek, |c| c.seek = Some(seek))
+}
+
+fn redeliver(consumer_id: u64, groups: &[Group]) -> Frame {
+    let message_ids = groups.iter().map(message_id).collect();
+    let redeliver = pb::CommandRedeliverUnacknowledgedMessages { consumer_id, message_ids };
+    command(Type::RedeliverUnacknowledgedMessages, |c| {
+        c.redeliver_unacknowledged_messages = Some(redeliver);
+    })
+}
+
+/// The frame that a client would send for a call; opening and push have none.
+fn frame_of(call: &Call) -> Option<Frame> {
+    Some(match call {
+        Call::Open { .. } | Call::Push => return None,
+        Call::Append { topic, ledger, entry, handle, batch } => {
+            send(*topic, (*ledger, *entry), *handle, *batch)
+        }
+        Call::Subscribe { consumer, kind, topic, subscription: name } => {
+            subscribe(*consumer, *kind, *topic, *name)
+        }
+        Call::Flow { consumer: consumer_id, grant: message_permits } => {
+            let flow =
+                pb::CommandFlow { consumer_id: *consumer_id, message_permits: *message_permits };
+            command(Type::Flow, |c| c.flow = Some(flow))
+        }
+        Call::Ack { consumer, groups } => ack(*consumer, groups),
+        Call::Seek { consumer, target } => seek(*consumer, *target),
+        Call::Redeliver { consumer, groups } => redeliver(*consumer, groups),
+        Call::Close { consumer: consumer_id } => {
+            let close =
+                pb::CommandCloseConsumer { consumer_id: *consumer_id, request_id: REQUEST };
+            command(Type::CloseConsumer, |c| c.close_consumer = Some(close))
+        }
+    })
+}
+
 impl Reference {
     pub fn new() -> Self {
         Reference { state: Arc::default(), deps: session_deps(false, false), out: BytesMut::new() }
@@ -79,39 +169,19 @@ impl Reference {
         Outcome::done(0)
     }
 
-    /// Hands one command to broker.rs, with no resume session and no injected fault.
-    fn frame(&mut self, command: pb::BaseCommand, payload: Option<Payload>) {
+    /// Hands one frame to broker.rs, with no resume session and no injected fault.
+    fn frame(&mut self, frame: &Frame) {
         let inject = FrameInjections {
             corrupt_after_connected: false,
             decode_fatal_on_send: false,
             transient_reject_armed: false,
         };
-        let frame = Frame { command, payload };
-        let goes_on = handle_frame(&self.state, &frame, &mut self.out, &self.deps, inject, None);
+        let goes_on = handle_frame(&self.state, frame, &mut self.out, &self.deps, inject, None);
         assert!(goes_on, "only an injected fault ends a session");
     }
 
-    fn append(&mut self, topic: u8, id: (u64, u64), handle: u64, batch: u64) -> Outcome {
-        let producer_id = u64::from(topic);
-        if !self.state.lock().producers.contains_key(&producer_id) {
-            self.open_producer(topic);
-        }
-        let send = pb::CommandSend {
-            producer_id,
-            message_id: Some(plain_id(id.0, id.1)),
-            ..Default::default()
-        };
-        let batch = i32::try_from(batch).expect("a batch size that the Rust can hold");
-        let payload = Payload {
-            metadata: pb::MessageMetadata {
-                num_messages_in_batch: (batch != 0).then_some(batch),
-                ..Default::default()
-            },
-            body: Bytes::copy_from_slice(&handle.to_be_bytes()),
-        };
-        let command =
-            pb::BaseCommand { r#type: Type::Send as i32, send: Some(send), ..Default::default() };
-        self.frame(command, Some(payload));
+    /// The answer to an append, which is always done.
+    fn appended(&self, id: (u64, u64)) -> Outcome {
         let taken = self.out.sent.iter().any(|sent| match sent {
             Sent::Receipt(r) => {
                 let m = r.message_id.as_ref().expect("a receipt has an id");
@@ -125,66 +195,30 @@ impl Reference {
 
     /// The Send arm finds the topic by the producer, so each topic gets one.
     fn open_producer(&mut self, topic: u8) {
+        let producer_id = u64::from(topic);
+        if self.state.lock().producers.contains_key(&producer_id) {
+            return;
+        }
         let producer = pb::CommandProducer {
             topic: topic_name(topic),
-            producer_id: u64::from(topic),
+            producer_id,
             request_id: REQUEST,
             ..Default::default()
         };
-        let command = pb::BaseCommand {
-            r#type: Type::Producer as i32,
-            producer: Some(producer),
-            ..Default::default()
-        };
-        self.frame(command, None);
-    }
-
-    fn subscribe(&mut self, consumer_id: u64, kind: Kind, topic: u8, subscription: u8) -> Outcome {
-        let sub_type = match kind {
-            Kind::Plain => pb::command_subscribe::SubType::Exclusive,
-            Kind::Shared => pb::command_subscribe::SubType::Shared,
-        };
-        let subscribe = pb::CommandSubscribe {
-            topic: topic_name(topic),
-            subscription: subscription_name(subscription),
-            sub_type: sub_type as i32,
-            consumer_id,
-            request_id: REQUEST,
-        };
-        let command = pb::BaseCommand {
-            r#type: Type::Subscribe as i32,
-            subscribe: Some(subscribe),
-            ..Default::default()
-        };
-        self.frame(command, None);
-        Outcome::done(0)
+        self.frame(&command(Type::Producer, |c| c.producer = Some(producer)));
     }
 
     /// broker.rs logs the permits after a grant to a live consumer, and nothing for others.
-    fn flow(&mut self, consumer_id: u64, message_permits: u32) -> Outcome {
-        let command = pb::BaseCommand {
-            r#type: Type::Flow as i32,
-            flow: Some(pb::CommandFlow { consumer_id, message_permits }),
-            ..Default::default()
-        };
-        self.frame(command, None);
+    fn flowed(&self) -> Outcome {
         match self.deps.consumer_permits.lock().last() {
             Some(&(_, permits)) => Outcome::done(permits),
             None => Outcome::refused(4),
         }
     }
 
-    fn ack(&mut self, consumer_id: u64, groups: &[Group]) -> Outcome {
-        let ack = pb::CommandAck {
-            consumer_id,
-            message_id: groups.iter().map(message_id).collect(),
-            ..Default::default()
-        };
-        let command =
-            pb::BaseCommand { r#type: Type::Ack as i32, ack: Some(ack), ..Default::default() };
-        self.frame(command, None);
+    fn acked(&self, consumer: u64) -> Outcome {
         let g = self.state.lock();
-        let Some((_, consumer)) = g.consumers.get(&consumer_id) else {
+        let Some((_, consumer)) = g.consumers.get(&consumer) else {
             return Outcome::refused(4);
         };
         let Some(key) = &consumer.shared_key else {
@@ -196,35 +230,15 @@ impl Reference {
     }
 
     /// broker.rs replies to a seek of a live consumer only.
-    fn seek(&mut self, consumer_id: u64, target: Target) -> Outcome {
-        let message_id = match target {
-            Target::Start => None,
-            Target::Id(ledger, entry) => Some(plain_id(ledger, entry)),
-        };
-        let command = pb::BaseCommand {
-            r#type: Type::Seek as i32,
-            seek: Some(pb::CommandSeek { consumer_id, request_id: REQUEST, message_id }),
-            ..Default::default()
-        };
-        self.frame(command, None);
+    fn sought(&self, consumer: u64) -> Outcome {
         if self.out.sent.is_empty() {
             return Outcome::refused(4);
         }
-        Outcome::done(self.state.lock().consumers[&consumer_id].1.cursor as i64)
+        Outcome::done(self.state.lock().consumers[&consumer].1.cursor as i64)
     }
 
-    fn redeliver(&mut self, consumer_id: u64, groups: &[Group]) -> Outcome {
-        let redeliver = pb::CommandRedeliverUnacknowledgedMessages {
-            consumer_id,
-            message_ids: groups.iter().map(message_id).collect(),
-        };
-        let command = pb::BaseCommand {
-            r#type: Type::RedeliverUnacknowledgedMessages as i32,
-            redeliver_unacknowledged_messages: Some(redeliver),
-            ..Default::default()
-        };
-        self.frame(command, None);
-        if self.state.lock().consumers.contains_key(&consumer_id) {
+    fn redelivered(&self, consumer: u64) -> Outcome {
+        if self.state.lock().consumers.contains_key(&consumer) {
             Outcome::done(0)
         } else {
             Outcome::refused(4)
@@ -232,16 +246,30 @@ impl Reference {
     }
 
     /// broker.rs logs a close with the topic that the consumer had, if it was live.
-    fn close(&mut self, consumer_id: u64) -> Outcome {
-        let command = pb::BaseCommand {
-            r#type: Type::CloseConsumer as i32,
-            close_consumer: Some(pb::CommandCloseConsumer { consumer_id, request_id: REQUEST }),
-            ..Default::default()
-        };
-        self.frame(command, None);
+    fn closed(&self) -> Outcome {
         let log = self.deps.consumer_close_log.lock();
         let closed = log.last().is_some_and(|seen| seen.topic.is_some());
         Outcome::done(i64::from(closed))
+    }
+
+    /// What broker.rs answered to a frame.
+    fn answer(&self, call: &Call) -> Outcome {
+        match call {
+            Call::Append { ledger, entry, .. } => self.appended((*ledger, *entry)),
+            Call::Flow { .. } => self.flowed(),
+            Call::Ack { consumer, .. } => self.acked(*consumer),
+            Call::Seek { consumer, .. } => self.sought(*consumer),
+            Call::Redeliver { consumer, .. } => self.redelivered(*consumer),
+            Call::Close { .. } => self.closed(),
+            Call::Open { .. } | Call::Subscribe { .. } | Call::Push => Outcome::done(0),
+        }
+    }
+
+    /// Empties what the answer to the next call is read from.
+    fn forget(&mut self) {
+        self.out.clear();
+        self.deps.consumer_permits.lock().clear();
+        self.deps.mark_deletes.lock().clear();
     }
 
     fn push(&mut self) -> Outcome {
@@ -311,23 +339,17 @@ impl Track {
 
 impl Side for Reference {
     fn call(&mut self, call: &Call) -> Outcome {
-        self.out.clear();
-        self.deps.consumer_permits.lock().clear();
-        self.deps.mark_deletes.lock().clear();
-        match call {
-            Call::Open { leak, noop, .. } => self.open(*leak, *noop),
-            Call::Append { topic, ledger, entry, handle, batch } => {
-                self.append(*topic, (*ledger, *entry), *handle, *batch)
+        if let Call::Append { topic, .. } = call {
+            self.open_producer(*topic);
+        }
+        self.forget();
+        match (call, frame_of(call)) {
+            (Call::Open { leak, noop, .. }, _) => self.open(*leak, *noop),
+            (Call::Push, _) => self.push(),
+            (_, frame) => {
+                self.frame(&frame.expect("all others have one"));
+                self.answer(call)
             }
-            Call::Subscribe { consumer, kind, topic, subscription } => {
-                self.subscribe(*consumer, *kind, *topic, *subscription)
-            }
-            Call::Flow { consumer, grant } => self.flow(*consumer, *grant),
-            Call::Ack { consumer, groups } => self.ack(*consumer, groups),
-            Call::Seek { consumer, target } => self.seek(*consumer, *target),
-            Call::Redeliver { consumer, groups } => self.redeliver(*consumer, groups),
-            Call::Close { consumer } => self.close(*consumer),
-            Call::Push => self.push(),
         }
     }
 

@@ -15,6 +15,7 @@ mod script;
 #[cfg(test)]
 mod sha256;
 mod shrink;
+mod speed;
 // Fields that broker.rs fills and nothing here reads.
 #[allow(dead_code)]
 mod standins;
@@ -41,6 +42,7 @@ const USAGE: &str = "usage:
                                          the same calls to broker.rs and to another side
   reference check-errors [--brief]       deliberate errors in the model have to be caught
   reference vectors                      print the fixed list for the case runner
+  reference bench                        time the library's calls beside broker.rs's
   reference sha256                       print the SHA-256 of the broker.rs built in";
 
 /// Ends with status 2: what was asked for makes no sense.
@@ -211,6 +213,7 @@ fn main() {
         ("check-errors", []) => exit(i32::from(!errors::check(false))),
         ("check-errors", [brief]) if brief == "--brief" => exit(i32::from(!errors::check(true))),
         ("vectors", []) => print!("{}", vectors::text()),
+        ("bench", []) => speed::bench(),
         ("sha256", []) => println!("{}", env!("BROKER_SHA256")),
         _ => refuse(USAGE),
     }

@@ -1,10 +1,11 @@
-// A live consumer in a store, by its slot: what flow and seek read and write of it.
+// A live consumer in a store, by its slot: what operations read and write of it.
 use store::find::find_dispatcher;
 use store::offsets::consumer_at;
 use store::stretch::clear_words;
 use store::stretch::word;
 ghost use mathlib.Core.Path.{_≡_};
 ghost use mathlib.Core.List.{[]};
+ghost use lib.ListN.{length};
 ghost use Rattle.rules.specs.State.{by-pair};
 ghost use Rattle.rules.specs.Commands.{with-permits, with-reading};
 ghost use Rattle.layout.specs.Records.{flag-of};
@@ -12,6 +13,15 @@ ghost use Rattle.layout.specs.Layout.{decode, put};
 ghost use Rattle.layout.specs.Fields.{consumer-nth, set-consumer};
 ghost use Rattle.layout.specs.Placed.{Consumer-in};
 ghost use Rattle.store.specs.Find.{slot};
+
+// The id of consumer `i`.
+pub fn consumer_id(store: &[u64], e: usize, i: usize) -> u64
+    requires { ⌜ Consumer-in e (now store) i ⌝ }
+    ensures { λ r. ⌜ r ≡ consumer-nth (decode (now (store .entry))) i .id ⌝ }
+{
+    let at = consumer_at(i);
+    store[at]
+}
 
 // The permits of consumer `i`, in excess form.
 pub fn permits(store: &[u64], e: usize, i: usize) -> u64
@@ -38,6 +48,24 @@ pub fn is_shared(store: &[u64], e: usize, i: usize) -> bool
 {
     let at = consumer_at(i);
     store[at + 3] == 1
+}
+
+// The cursor of consumer `i`.
+pub fn cursor(store: &[u64], e: usize, i: usize) -> usize
+    requires { ⌜ Consumer-in e (now store) i ⌝ }
+    ensures { λ r. ⌜ r ≡ consumer-nth (decode (now (store .entry))) i .cursor ⌝ }
+{
+    let at = consumer_at(i);
+    word(store, at + 5)
+}
+
+// The number of nacked entries of consumer `i`.
+pub fn nacked_count(store: &[u64], e: usize, i: usize) -> usize
+    requires { ⌜ Consumer-in e (now store) i ⌝ }
+    ensures { λ r. ⌜ r ≡ length (consumer-nth (decode (now (store .entry))) i .nacked) ⌝ }
+{
+    let at = consumer_at(i);
+    word(store, at + 6)
 }
 
 // The slot of the dispatcher of consumer `i`.

@@ -1,11 +1,11 @@
 // One dispatch written: its record in the lent list, its entry at the end of what is in flight.
 use bits::UnackedBits;
+use commands::consumer::consumer_id;
 use dispatcher::flight::append_flight;
 use dispatcher::marks::load_mark;
 use ledger::message::load_message;
 use records::record::Dispatch;
 use records::record::write_record;
-use store::offsets::consumer_at;
 use turns::turn::Step;
 ghost use mathlib.Core.Path.{_≡_};
 ghost use mathlib.Core.Bool.{cond};
@@ -16,7 +16,6 @@ ghost use Rattle.bits.specs.Bits.{bits-empty, word-count};
 ghost use Rattle.bits.specs.Four.{words};
 ghost use Rattle.rules.specs.Dispatcher.{with-places};
 ghost use Rattle.layout.specs.Layout.{decode, put};
-ghost use Rattle.layout.specs.Canon.{Canon-store};
 ghost use Rattle.layout.specs.Fields.{consumer-nth, dispatcher-nth, set-dispatcher};
 ghost use Rattle.push.specs.Local.{fixed-of};
 ghost use Rattle.push.specs.Applied.{record-to, record-of, held-of};
@@ -55,15 +54,6 @@ fn record_to(store: &[u64], e: usize, d: usize, t: usize, n: usize, id: u64, ste
         cost: step.price,
         permits: step.permits,
     }
-}
-
-// The id of consumer `c`.
-fn consumer_id(store: &[u64], e: usize, c: usize) -> u64
-    requires { ⌜ Canon-store e (now store) × (c < length (decode (now store) .consumers)) ⌝ }
-    ensures { λ r. ⌜ r ≡ consumer-nth (decode (now (store .entry))) c .id ⌝ }
-{
-    let at = consumer_at(c);
-    store[at]
 }
 
 // Record `m` of the list is that of a step of dispatcher `d`, and its entry is in flight.

@@ -1,8 +1,8 @@
 // How many entries the plain consumers are due.
-use super::reader::cursor;
-use super::reader::nacked_count;
 use super::reader::smaller;
+use commands::consumer::cursor;
 use commands::consumer::is_shared;
+use commands::consumer::nacked_count;
 use commands::consumer::topic;
 use store::find::ledger_length;
 ghost use mathlib.Core.Path.{_≡_};

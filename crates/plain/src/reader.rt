@@ -1,4 +1,6 @@
 // What a plain consumer is to read: its nacked entries, then its ledger from the cursor on.
+use commands::consumer::cursor;
+use commands::consumer::nacked_count;
 use commands::consumer::set_cursor;
 use store::movers::close_gap;
 use store::offsets::consumer_at;
@@ -11,33 +13,6 @@ ghost use Rattle.layout.specs.Layout.{decode, put};
 ghost use Rattle.layout.specs.Fields.{consumer-nth, set-consumer};
 ghost use Rattle.layout.specs.Placed.{Consumer-in};
 ghost use Rattle.plain.specs.Reading.{position-at};
-
-// The id of consumer `i`.
-pub fn consumer_id(store: &[u64], e: usize, i: usize) -> u64
-    requires { ⌜ Consumer-in e (now store) i ⌝ }
-    ensures { λ r. ⌜ r ≡ consumer-nth (decode (now (store .entry))) i .id ⌝ }
-{
-    let at = consumer_at(i);
-    store[at]
-}
-
-// The cursor of consumer `i`.
-pub fn cursor(store: &[u64], e: usize, i: usize) -> usize
-    requires { ⌜ Consumer-in e (now store) i ⌝ }
-    ensures { λ r. ⌜ r ≡ consumer-nth (decode (now (store .entry))) i .cursor ⌝ }
-{
-    let at = consumer_at(i);
-    word(store, at + 5)
-}
-
-// The number of nacked entries of consumer `i`.
-pub fn nacked_count(store: &[u64], e: usize, i: usize) -> usize
-    requires { ⌜ Consumer-in e (now store) i ⌝ }
-    ensures { λ r. ⌜ r ≡ length (consumer-nth (decode (now (store .entry))) i .nacked) ⌝ }
-{
-    let at = consumer_at(i);
-    word(store, at + 6)
-}
 
 // Nacked position `j` of consumer `i`.
 pub fn nacked(store: &[u64], e: usize, i: usize, j: usize) -> usize

@@ -1,9 +1,9 @@
 // Plain consumers served: the records of their entries, then their own words.
 use super::due::plain_due;
-use super::reader::consumer_id;
 use super::reader::position;
 use super::reader::read_on;
 use bits::UnackedBits;
+use commands::consumer::consumer_id;
 use commands::consumer::set_permits;
 use commands::consumer::topic;
 use ledger::message::load_message;

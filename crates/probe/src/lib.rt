@@ -1,4 +1,4 @@
-// The check of a store alone, for the fuzz and the benchmark: it is not part of what makers link.
+// The check of a store alone, for the fuzz: it is not part of what makers link.
 ghost use mathlib.Core.Path.{_≡_};
 ghost use Rattle.words.specs.Codec.{bit};
 ghost use Rattle.layout.specs.Layout.{spells};

@@ -17,15 +17,6 @@ ghost use Rattle.layout.specs.Fields.{consumer-nth, set-consumer};
 ghost use Rattle.layout.specs.Placed.{Consumer-in};
 ghost use Rattle.groups.specs.Walk.{Fits, Stands, group-at, groups-from};
 
-// The number of nacked positions of consumer `i`.
-pub fn nacked_count(store: &[u64], e: usize, i: usize) -> usize
-    requires { ⌜ Consumer-in e (now store) i ⌝ }
-    ensures { λ r. ⌜ r ≡ length (consumer-nth (decode (now (store .entry))) i .nacked) ⌝ }
-{
-    let at = consumer_at(i);
-    word(store, at + 6)
-}
-
 // 1 if the id of the group at `at` is in the ledger of a topic, else 0.
 fn found_here(store: &[u64], e: usize, topic: u64, list: &[u64], at: usize) -> usize
     requires { ⌜ Canon-store e (now store) × Fits (now list) at ⌝ }

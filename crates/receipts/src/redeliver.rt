@@ -3,10 +3,10 @@
 use super::hand_back::hand_back_all;
 use super::nacked::found_count;
 use super::nacked::join_found;
-use super::nacked::nacked_count;
 use commands::answers::entries;
 use commands::consumer::dispatcher_of;
 use commands::consumer::is_shared;
+use commands::consumer::nacked_count;
 use commands::consumer::topic;
 use groups::form::list_right;
 use store::lookup::Lookup;

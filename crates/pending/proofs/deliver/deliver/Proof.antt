@@ -1,5 +1,6 @@
 -- `pending::deliver::deliver` meets its contract: the record of the step, and its entry in flight.
 use mathlib.Core.Path.{_∙_}
+use Rattle.layout.proofs.Placed.{consumer-in}
 use Rattle.layout.specs.Layout.{decode}
 use Rattle.layout.specs.Fields.{dispatcher-nth}
 use Rattle.push.specs.Local.{fixed-of}
@@ -13,13 +14,13 @@ use Rattle.pending.proofs.deliver.deliver.Tie as tie
 use Rattle.pending.proofs.deliver.deliver.Reads as reads
 use Rattle.pending.proofs.deliver.deliver.Lts as lts
 use Rattle.dispatcher.proofs.flight.append_flight.Reads as append-flight-reads
-use Rattle.pending.proofs.deliver.consumer_id.Reads as consumer-id-reads
+use Rattle.commands.proofs.consumer.consumer_id.Reads as consumer-id-reads
 use Rattle.pending.proofs.deliver.record_to.Reads as record-to-reads
 use Rattle.records.proofs.record.write_record.Reads as write-record-reads
 
 -- src/deliver.rt:75:9
 consumer-id-requires : tie.Need-consumer-id-requires
-consumer-id-requires c κs = search needs
+consumer-id-requires c κs = let p = c .before .before .before .pre in consumer-in (p .0 .here .canon) (c .before .before .before .args .step .consumer) (p .2)
 
 -- src/deliver.rt:77:9
 record-to-requires : tie.Need-record-to-requires

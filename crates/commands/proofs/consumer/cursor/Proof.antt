@@ -1,9 +1,9 @@
--- `plain::reader::cursor` meets its contract: the word at its offset.
+-- `commands::consumer::cursor` meets its contract: the word at its offset.
 use mathlib.Core.Path.{_∙_}
 use Rattle.layout.proofs.Gets.{read-consumer-cursor}
 use borrow.Author.Needs.{needs}
-use Rattle.plain.proofs.reader.cursor.Statement.{statement}
-use Rattle.plain.proofs.reader.cursor.Tie as tie
+use Rattle.commands.proofs.consumer.cursor.Statement.{statement}
+use Rattle.commands.proofs.consumer.cursor.Tie as tie
 
 consumer-at-requires : tie.Need-consumer-at-requires
 consumer-at-requires c κs = search needs

@@ -1,9 +1,9 @@
--- `plain::reader::nacked_count` meets its contract: the word at its offset.
+-- `commands::consumer::nacked_count` meets its contract: the word at its offset.
 use mathlib.Core.Path.{_∙_}
 use Rattle.layout.proofs.Gets.{read-nacked-count}
 use borrow.Author.Needs.{needs}
-use Rattle.plain.proofs.reader.nacked_count.Statement.{statement}
-use Rattle.plain.proofs.reader.nacked_count.Tie as tie
+use Rattle.commands.proofs.consumer.nacked_count.Statement.{statement}
+use Rattle.commands.proofs.consumer.nacked_count.Tie as tie
 
 consumer-at-requires : tie.Need-consumer-at-requires
 consumer-at-requires c κs = search needs

@@ -1,8 +1,8 @@
--- `plain::reader::consumer_id` meets its contract: the word at its offset.
+-- `commands::consumer::consumer_id` meets its contract: the word at its offset.
 use Rattle.layout.proofs.Gets.{read-consumer-id}
 use borrow.Author.Needs.{needs}
-use Rattle.plain.proofs.reader.consumer_id.Statement.{statement}
-use Rattle.plain.proofs.reader.consumer_id.Tie as tie
+use Rattle.commands.proofs.consumer.consumer_id.Statement.{statement}
+use Rattle.commands.proofs.consumer.consumer_id.Tie as tie
 
 consumer-at-requires : tie.Need-consumer-at-requires
 consumer-at-requires c κs = search needs

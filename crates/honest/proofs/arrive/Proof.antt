@@ -1,0 +1,45 @@
+-- `honest::arrive` meets its contract: the opening, then three calls in a row.
+use Rattle.broker.specs.Exports.{kind-from}
+use Rattle.honest.specs.Morning.{arrivals, counter}
+use Rattle.honest.proofs.Runs.{ran-from, ran-on, ran-last}
+use borrow.Author.Needs.{needs}
+use Rattle.honest.proofs.arrive.Statement.{statement}
+use Rattle.honest.proofs.arrive.Tie as tie
+use Rattle.honest.proofs.arrive.Reads as reads
+use Rattle.honest.proofs.arrive.Lts as lts
+use Rattle.broker.proofs.broker_append.Reads as broker-append-reads
+use Rattle.broker.proofs.broker_open.Reads as broker-open-reads
+use Rattle.broker.proofs.broker_subscribe.Reads as broker-subscribe-reads
+
+broker-open-requires : tie.Need-broker-open-requires
+broker-open-requires c κs = search needs
+
+broker-append-requires : tie.Need-broker-append-requires
+broker-append-requires c κs = search needs
+
+broker-subscribe-requires : tie.Need-broker-subscribe-requires
+broker-subscribe-requires c κs = search needs
+
+broker-subscribe-requires-2 : tie.Need-broker-subscribe-requires-2
+broker-subscribe-requires-2 c κs = search needs
+
+same-length : tie.Need-same-length
+same-length c = search needs
+
+returns : tie.Need-returns
+unfolding arrivals counter kind-from
+returns c =
+    ran-from _ _ _ _ (c .before .before .before .before .before .before .before .before .before .before .before .before .before .before .broker-open .ensures .1)
+    (ran-on _ _ _ _ _ (c .before .before .before .before .before .before .before .before .before .before .broker-append .ensures .1)
+    (ran-on _ _ _ _ _ (c .before .before .before .before .before .before .broker-subscribe .ensures .1) (ran-last _ _ _ (c .before .before .broker-subscribe2 .ensures .1))))
+
+pub arrive-spec : {M : Type 1} → statement M
+arrive-spec =
+    tie.close
+    (tie.spec
+    broker-open-requires
+    broker-append-requires
+    broker-subscribe-requires
+    broker-subscribe-requires-2
+    same-length
+    returns)

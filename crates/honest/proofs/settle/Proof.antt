@@ -1,0 +1,46 @@
+-- `honest::settle` meets its contract: four calls in a row.
+use Rattle.broker.specs.Exports.{target-from}
+use Rattle.honest.specs.Morning.{settlement}
+use Rattle.honest.proofs.Runs.{ran-on, ran-last}
+use borrow.Author.Needs.{needs}
+use Rattle.honest.proofs.settle.Statement.{statement}
+use Rattle.honest.proofs.settle.Tie as tie
+use Rattle.honest.proofs.settle.Reads as reads
+use Rattle.honest.proofs.settle.Lts as lts
+use Rattle.broker.proofs.broker_ack.Reads as broker-ack-reads
+use Rattle.broker.proofs.broker_close.Reads as broker-close-reads
+use Rattle.broker.proofs.broker_redeliver.Reads as broker-redeliver-reads
+use Rattle.broker.proofs.broker_seek.Reads as broker-seek-reads
+
+broker-ack-requires : tie.Need-broker-ack-requires
+broker-ack-requires c κs = search needs
+
+broker-redeliver-requires : tie.Need-broker-redeliver-requires
+broker-redeliver-requires c κs = search needs
+
+broker-seek-requires : tie.Need-broker-seek-requires
+broker-seek-requires c κs = search needs
+
+broker-close-requires : tie.Need-broker-close-requires
+broker-close-requires c κs = search needs
+
+same-length : tie.Need-same-length
+same-length c = search needs
+
+returns : tie.Need-returns
+unfolding settlement target-from
+returns c =
+    ran-on _ _ _ _ _ (c .before .before .before .before .before .before .before .before .before .before .before .before .before .before .broker-ack .ensures .1)
+    (ran-on _ _ _ _ _ (c .before .before .before .before .before .before .before .before .before .before .broker-redeliver .ensures .1)
+    (ran-on _ _ _ _ _ (c .before .before .before .before .before .before .broker-seek .ensures .1) (ran-last _ _ _ (c .before .before .broker-close .ensures .1))))
+
+pub settle-spec : {M : Type 1} → statement M
+settle-spec =
+    tie.close
+    (tie.spec
+    broker-ack-requires
+    broker-redeliver-requires
+    broker-seek-requires
+    broker-close-requires
+    same-length
+    returns)
