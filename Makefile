@@ -40,7 +40,7 @@ endef
 run:
 	rt check
 	rt staticlib broker
-	target/bin/cases
+	target/bin/cases <crates/cases/stdin
 	$(build-terminal)
 	target/terminal
 

@@ -3,6 +3,7 @@
 
 mod c_side;
 mod call;
+mod cases;
 mod compare;
 mod coverage;
 mod errors;
@@ -41,8 +42,9 @@ const USAGE: &str = "usage:
   reference compare [--seed S] [--calls N] [--side model|c] [--script FILE]
                                          the same calls to broker.rs and to another side
   reference check-errors [--brief]       deliberate errors in the model have to be caught
-  reference vectors                      print the fixed list for the case runner
+  reference vectors                      print the fixed list
   reference bench                        time the library's calls beside broker.rs's
+  reference cases [--answers]            print the case runner's input, or its output
   reference sha256                       print the SHA-256 of the broker.rs built in";
 
 /// Ends with status 2: what was asked for makes no sense.
@@ -212,6 +214,10 @@ fn main() {
         ("compare", _) => compare(rest),
         ("check-errors", []) => exit(i32::from(!errors::check(false))),
         ("check-errors", [brief]) if brief == "--brief" => exit(i32::from(!errors::check(true))),
+        ("cases", []) => print!("{}", cases::script().unwrap_or_else(|e| refuse(&e))),
+        ("cases", [answers]) if answers == "--answers" => {
+            print!("{}", cases::answers().unwrap_or_else(|e| refuse(&e)))
+        }
         ("vectors", []) => print!("{}", vectors::text()),
         ("bench", []) => speed::bench(),
         ("sha256", []) => println!("{}", env!("BROKER_SHA256")),

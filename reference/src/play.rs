@@ -5,7 +5,7 @@ use crate::broker::driver::{and_fresh, fresh};
 use crate::call::{Call, Outcome, Record, Side};
 use crate::script::{Line, format_call, parse};
 
-fn outcome_text(call: &Call, outcome: &Outcome) -> String {
+pub fn outcome_text(call: &Call, outcome: &Outcome) -> String {
     if outcome.number != 0 {
         return format!("refused {}", outcome.number);
     }

@@ -1,5 +1,10 @@
-// The case runner: readings of document 01 taken by running the code, a line each, held to the
-// file `stdout`. What it prints is compared and not proved.
+// The case runner: readings of document 01 taken by running the code, a line each, then the calls of
+// the file `stdin`, held to the file `stdout`. What it prints is compared and not proved.
+mod line;
+mod name;
+mod replay;
+mod show;
+
 use bits::UnackedBits;
 use libc::STDOUT_FILENO;
 
@@ -8,10 +13,12 @@ fn main() {
     open_readings();
     append_readings();
     consumer_readings();
+    replay::replay();
 }
 
 // K1 to K4 as far as they concern bits, and the largest batch.
 fn bit_readings() {
+    io::write_all(STDOUT_FILENO, b"# bits of an entry\n");
     show_bits(b"K1 batch 65", UnackedBits::fresh_unacked_bits(65));
     show_bits(b"K2 batch 0", UnackedBits::fresh_unacked_bits(0));
     show_bits(b"K2 batch 1", UnackedBits::fresh_unacked_bits(1));
@@ -31,6 +38,10 @@ fn bit_readings() {
 // Opening the runner's store: E at and past its limit, and the length at and below what E = 32
 // needs.
 fn open_readings() {
+    io::write_all(
+        STDOUT_FILENO,
+        b"# opening the store: E 4,096 and 4,097, 8,192 and 8,191 words\n",
+    );
     let mut store = [0u64; 8192];
     open_reading(b"open, E 4096, 8192 words", &mut store, 4096);
     open_reading(b"open, E 4097, 8192 words", &mut store, 4097);
@@ -48,6 +59,7 @@ fn open_reading(label: &[u8], store: &mut [u64], entries: u64) {
 // Appends to the runner's store, opened for two entries: words that spell no state, each refusal that
 // one topic can show, and a word changed past the needed ones and among them.
 fn append_readings() {
+    io::write_all(STDOUT_FILENO, b"# append\n");
     let mut store = [0u64; 8192];
     append_reading(b"append, words all 0", &mut store, 0, 1);
     broker::broker_open(&mut store, 2, 0, 0);
@@ -74,6 +86,7 @@ fn append_reading(label: &[u8], store: &mut [u64], entry: u64, batch: u64) {
 
 // Flow, seek and close of a consumer that is not live, before and after the store is opened.
 fn consumer_readings() {
+    io::write_all(STDOUT_FILENO, b"# a consumer that is not live\n");
     let mut store = [0u64; 8192];
     show_answer(b"flow, words all 0", broker::broker_flow(&mut store, 7, 1));
     show_answer(

@@ -19,10 +19,6 @@ held-at ws at = held-of (getD ws at 0) (getD ws (at + 1) 0)
 abbrev pub by-hold : Key Held Held
 by-hold = record { key = λ h. h; same = λ h. is-hold (h .holder) (h .position) }
 
--- an entry in flight by its holder
-abbrev pub by-holder : Key Held ℕ
-by-holder = record { key = λ h. h .holder; same = eqb }
-
 -- a number is its own key
 abbrev pub by-value : Key ℕ ℕ
 by-value = record { key = λ n. n; same = eqb }

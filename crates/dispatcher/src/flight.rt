@@ -3,7 +3,6 @@
 use store::movers::close_gap;
 use store::offsets::dispatcher_at;
 use store::stretch::clear_words;
-use store::stretch::is_word;
 use store::stretch::word;
 ghost use mathlib.Core.Path.{_≡_};
 ghost use mathlib.Core.List.{_++_, _∷_, []};
@@ -14,7 +13,7 @@ ghost use Rattle.layout.specs.Layout.{decode, put};
 ghost use Rattle.layout.specs.Fields.{zero-held, dispatcher-nth, set-dispatcher};
 ghost use Rattle.layout.specs.Placed.{Dispatcher-in};
 ghost use Rattle.store.specs.Find.{slot};
-ghost use Rattle.dispatcher.specs.Held.{held-of, held-at, by-hold, by-holder};
+ghost use Rattle.dispatcher.specs.Held.{held-of, held-at, by-hold};
 
 // The number of entries in flight of dispatcher `d`.
 pub fn flight_count(store: &[u64], e: usize, d: usize) -> usize
@@ -53,23 +52,6 @@ pub fn find_hold(store: &[u64], e: usize, d: usize, id: u64, k: usize) -> usize
     let mut j = 0;
     while j < n {
         if same_hold(store, at + 175 + e + j * 2, id, k) {
-            return j;
-        }
-        j += 1;
-    }
-    j
-}
-
-// The slot of the first entry of dispatcher `d` held by `id`; the number in flight if none is.
-pub fn find_holder(store: &[u64], e: usize, d: usize, id: u64) -> usize
-    requires { ⌜ Dispatcher-in e (now store) d ⌝ }
-    ensures { λ r. ⌜ r ≡ slot by-holder id (dispatcher-nth (decode (now (store .entry))) d .in-flight) ⌝ }
-{
-    let at = dispatcher_at(e, d);
-    let n = word(store, at + 174 + e);
-    let mut j = 0;
-    while j < n {
-        if is_word(store, at + 175 + e + j * 2, id) {
             return j;
         }
         j += 1;

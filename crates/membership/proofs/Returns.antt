@@ -1,28 +1,26 @@
--- Entries in flight that go back to the queue of their dispatcher: one, and one after another until a consumer holds none.
-use mathlib.Core.Path.{_≡_, refl, sym, ap, _∙_}
-use mathlib.Core.Bool.{not}
-use mathlib.Core.List.{List, [], _∷_, _++_, append-assoc, append-nil}
-use Prim.Native.Nat.{ℕ, zero, suc, _+_, _≤_, _<_}
+-- Entries in flight that go back to the queue of their dispatcher, in one pass: a consumer's own go to the queue's end, the
+-- others' move to the front. And a list without one of its elements.
+use mathlib.Core.Path.{_≡_, refl, sym, ap, ap₂, _∙_}
+use mathlib.Core.Bool.{Bool, true, false, cond, not}
+use mathlib.Core.List.{List, [], _∷_, _++_, map, append-nil}
+use Prim.Native.Nat.{ℕ, zero, suc, _+_, _-_, _≤_, _<_}
 use native.Mathlib.Nat.{le-of-suc-le-suc, not-suc-le-zero}
 use native.Mathlib.Numerals.{add-one}
 use native.Mathlib.Omega.{arith}
 use lib.Dec.{eqb}
-use lib.ListN.{length, getD, take, drop, length-append}
-use lib.Seq.{set-getD}
+use lib.ListN.{length, getD, set, take, drop, length-append, length-set, length-take, drop-of-length-le}
+use lib.Seq.{drop-cons, append-snoc}
 use Rattle.rules.specs.Table.{keep}
-use Rattle.rules.specs.State.{Held, Dispatcher, with-dispatchers}
+use Rattle.rules.specs.State.{Held, Dispatcher}
 use Rattle.rules.specs.Dispatcher.{with-places, held-by, without-holder}
-use Rattle.rules.proofs.Table.{by-test}
 use Rattle.layout.specs.Layout.{decode, put}
 use Rattle.layout.specs.Whole.{Shaped-dispatcher}
-use Rattle.layout.specs.Fields.{zero-held, zero-dispatcher, dispatcher-nth, set-dispatcher}
+use Rattle.layout.specs.Fields.{zero-held, dispatcher-nth, set-dispatcher}
 use Rattle.layout.specs.Placed.{Dispatcher-in}
-use Rattle.layout.proofs.Store.{canon-entries, put-decode}
 use Rattle.layout.proofs.Placed.{shaped-places}
-use Rattle.store.specs.Find.{slot}
-use Rattle.dispatcher.specs.Held.{by-holder}
-use Rattle.frame.proofs.Frame.{dispatcher-twice, dispatcher-set-in, dispatcher-now-is}
-use Rattle.membership.specs.Leaving.{one-back, all-back}
+use Rattle.frame.proofs.Moved.{Moved, moved-start, moved-on}
+use Rattle.dispatcher.proofs.Keeping.{Thinning, thinning-start, thinning-nth, thinning-length, thinning-keep, thinning-skip, thinning-end}
+use Rattle.membership.specs.Leaving.{one-looked-at, all-back}
 
 -- ---- one entry less
 
@@ -38,164 +36,166 @@ length-without (suc j) (a ∷ l) h =
     let n : suc j + 1 ≡ suc (j + 1) = omega arith in
     rw n (omega arith)
 
--- ---- the first entry that a consumer holds
+-- ---- what is held from an entry on
 
-module _ (i : ℕ) where
-  -- it is the first of the positions held
-  held-first : (l : List Held) → slot by-holder i l < length l
-      → held-by i l ≡ getD l (slot by-holder i l) zero-held .position ∷ held-by i (take (slot by-holder i l) l ++ drop (suc (slot by-holder i l)) l)
-  unfolding slot keep held-by
-  held-first [] h = absurd (not-suc-le-zero h)
-  held-first (a ∷ l) h =
-      by-test (eqb i (a .holder)) (λ t. rw t)
-      (λ t. let h′ : suc (slot by-holder i l) < suc (length l) = rw t at h in rw (t, t) (held-first l (le-of-suc-le-suc h′)))
+module _ (i : ℕ) (l : List Held) (j : ℕ) (h : j < length l) where
+  -- the entry is the consumer's
+  held-own : eqb i (getD l j zero-held .holder) ≡ true → held-by i (drop j l) ≡ getD l j zero-held .position ∷ held-by i (drop (suc j) l)
+  unfolding held-by keep
+  held-own t = ap (held-by i) (drop-cons l j zero-held h) ∙ rw t
 
-  -- and the others' entries do not change without it
-  others-first : (l : List Held) → slot by-holder i l < length l
-      → without-holder i (take (slot by-holder i l) l ++ drop (suc (slot by-holder i l)) l) ≡ without-holder i l
-  unfolding slot keep without-holder
-  others-first [] h = absurd (not-suc-le-zero h)
-  others-first (a ∷ l) h =
-      by-test (eqb i (a .holder)) (λ t. rw t)
-      (λ t. let h′ : suc (slot by-holder i l) < suc (length l) = rw t at h in rw (t, t) (ap (λ (r : List Held). a ∷ r) (others-first l (le-of-suc-le-suc h′))))
+  -- or another's
+  held-other : eqb i (getD l j zero-held .holder) ≡ false → held-by i (drop j l) ≡ held-by i (drop (suc j) l)
+  unfolding held-by keep
+  held-other t = ap (held-by i) (drop-cons l j zero-held h) ∙ rw t
 
-  -- none held
-  held-none : (l : List Held) → length l ≤ slot by-holder i l → held-by i l ≡ []
-  unfolding slot keep held-by
-  held-none [] h = refl
-  held-none (a ∷ l) h =
-      by-test (eqb i (a .holder)) (λ t. let h′ : suc (length l) ≤ 0 = rw t at h in absurd (not-suc-le-zero h′))
-      (λ t. let h′ : suc (length l) ≤ suc (slot by-holder i l) = rw t at h in rw (t, held-none l (le-of-suc-le-suc h′)))
+-- whether an entry stays
+abbrev stays : ℕ → Held → Bool
+stays i h = not (eqb i (h .holder))
 
-  -- all are the others'
-  others-none : (l : List Held) → length l ≤ slot by-holder i l → without-holder i l ≡ l
-  unfolding slot keep without-holder
-  others-none [] h = refl
-  others-none (a ∷ l) h =
-      by-test (eqb i (a .holder)) (λ t. let h′ : suc (length l) ≤ 0 = rw t at h in absurd (not-suc-le-zero h′))
-      (λ t. let h′ : suc (length l) ≤ suc (slot by-holder i l) = rw t at h in rw (t, others-none l (le-of-suc-le-suc h′)))
+-- an entry looked at: the consumer's own
+pub looked-own : (i j w : ℕ) (d : Dispatcher) → eqb i (getD (d .in-flight) j zero-held .holder) ≡ true
+    → with-places d (d .redelivery ++ getD (d .in-flight) j zero-held .position ∷ []) (d .in-flight) ≡ one-looked-at i j w d
+unfolding one-looked-at
+looked-own i j w d t = rw t
 
-  -- ---- the dispatcher
-
-  -- the first entry back, then all: all
-  pub all-after-one : (d : Dispatcher) (j : ℕ) → j ≡ slot by-holder i (d .in-flight) → j < length (d .in-flight) → all-back i (one-back j d) ≡ all-back i d
-  unfolding all-back one-back with-places
-  all-after-one d j e h =
-      let h′ : slot by-holder i (d .in-flight) < length (d .in-flight) = rw e at h in
-      rw (e, add-one, others-first (d .in-flight) h′, held-first (d .in-flight) h′, append-assoc (d .redelivery))
-
-  -- none held: all are back
-  pub all-are-back : (d : Dispatcher) (j : ℕ) → j ≡ slot by-holder i (d .in-flight) → length (d .in-flight) ≤ j → all-back i d ≡ d
-  unfolding all-back with-places
-  all-are-back d j e h =
-      let h′ : length (d .in-flight) ≤ slot by-holder i (d .in-flight) = rw e at h in
-      rw (others-none (d .in-flight) h′, held-none (d .in-flight) h′, append-nil (d .redelivery))
-
--- ---- the words
-
--- the position at the queue's end
-abbrev pub queued-back : ℕ → Dispatcher → Dispatcher
-queued-back k d = with-places d (d .redelivery ++ k ∷ []) (d .in-flight)
-
--- entry j no longer in flight
-abbrev pub landed : ℕ → Dispatcher → Dispatcher
-landed j d = with-places d (d .redelivery) (without-nth j (d .in-flight))
-
-module _ {e : ℕ} {ws : List ℕ} (d : ℕ) (h : Dispatcher-in e ws d) (room : length (dispatcher-nth (decode ws) d .redelivery) < e) where
-  -- the record fits with one position more in the queue
-  queued-fits : (k : ℕ) → Shaped-dispatcher (decode ws .entries) (queued-back k (dispatcher-nth (decode ws) d))
-  queued-fits k =
-      let x = dispatcher-nth (decode ws) d in
-      let n : length (x .redelivery ++ k ∷ []) ≤ e = simp length-append (omega (arith, room)) in
-      rw (canon-entries (h .canon)) (shaped-places x (h .lists-fit) (x .redelivery ++ k ∷ []) (x .in-flight) n (h .lists-fit .flight-fits))
-
-  module _ {us : List ℕ} (j k : ℕ) (l : j < length (dispatcher-nth (decode ws) d .in-flight)) (w : us ≡ put ws (set-dispatcher (decode ws) d (queued-back k (dispatcher-nth (decode ws) d)))) where
-    -- the dispatcher is there after the first step, with the same entries in flight
-    pub queued-in : Dispatcher-in e us d × (j < length (dispatcher-nth (decode us) d .in-flight))
-    unfolding with-places
-    queued-in =
-        let x = queued-back k (dispatcher-nth (decode ws) d) in
-        let same : dispatcher-nth (decode us) d ≡ x = dispatcher-now-is ws (decode ws) d x (h .canon .shaped) (queued-fits k) w (h .there) in (
-          dispatcher-set-in ws (decode ws) d x (h .canon .shaped) (canon-entries (h .canon)) (queued-fits k) w (h .there),
-          rw same l,
-        )
-
-    -- the two steps in one
-    pub one-back-words : {vs : List ℕ} → k ≡ getD (dispatcher-nth (decode ws) d .in-flight) j zero-held .position
-        → vs ≡ put us (set-dispatcher (decode us) d (landed j (dispatcher-nth (decode us) d)))
-        → vs ≡ put ws (set-dispatcher (decode ws) d (one-back j (dispatcher-nth (decode ws) d)))
-    unfolding one-back with-places
-    one-back-words {vs} q w′ =
-        let x = dispatcher-nth (decode ws) d in
-        let f : landed j (queued-back k x) ≡ one-back j x = rw q in
-        dispatcher-twice ws (decode ws) d (queued-back k x) (landed j) (h .canon .shaped) (queued-fits k) (h .there) w w′
-        ∙ ap (λ (y : Dispatcher). put ws (set-dispatcher (decode ws) d y)) f
+-- or another's
+pub looked-other : (i j w : ℕ) (d : Dispatcher) → eqb i (getD (d .in-flight) j zero-held .holder) ≡ false
+    → with-places d (d .redelivery) (set (d .in-flight) w (getD (d .in-flight) j zero-held)) ≡ one-looked-at i j w d
+unfolding one-looked-at
+looked-other i j w d t = rw t
 
 -- ---- one after another
 
--- some entries are back: all of them back would be the same dispatcher, and there is room for all
-pub record Returning (e i d : ℕ) (ws us : List ℕ) : Type 0 where
-  pub here : Dispatcher-in e us d
-  pub words : us ≡ put ws (set-dispatcher (decode ws) d (dispatcher-nth (decode us) d))
-  pub same : all-back i (dispatcher-nth (decode us) d) ≡ all-back i (dispatcher-nth (decode ws) d)
-  pub room : length (dispatcher-nth (decode us) d .redelivery) + length (dispatcher-nth (decode us) d .in-flight) ≤ e
+-- the entries before j are looked at, and w of them stayed: what is queued, with what the consumer holds from j on, is all
+pub record Returning (e i d : ℕ) (ws us : List ℕ) (j w : ℕ) : Type 0 where
+  pub queue : List ℕ
+  pub flight : List Held
+  pub looked : j ≤ length (dispatcher-nth (decode ws) d .in-flight)
+  pub moved : Moved e d ws us (with-places (dispatcher-nth (decode ws) d) queue flight)
+  pub thinning : Thinning (stays i) (dispatcher-nth (decode ws) d .in-flight) flight j w
+  pub queued : queue ++ held-by i (drop j (dispatcher-nth (decode ws) d .in-flight)) ≡ dispatcher-nth (decode ws) d .redelivery ++ held-by i (dispatcher-nth (decode ws) d .in-flight)
+  pub room : length queue + (length (dispatcher-nth (decode ws) d .in-flight) - j) ≤ e
 
 module _ {e : ℕ} {ws : List ℕ} (i d : ℕ) (h : Dispatcher-in e ws d) where
-  -- none yet
-  pub return-start : length (dispatcher-nth (decode ws) d .redelivery) + length (dispatcher-nth (decode ws) d .in-flight) ≤ e → Returning e i d ws ws
-  unfolding set-dispatcher with-dispatchers
-  return-start r = record { here = h; words = rw (set-getD (decode ws .dispatchers) d zero-dispatcher) (sym (put-decode (h .canon))); same = refl; room = r }
+  abbrev D : Dispatcher
+  D = dispatcher-nth (decode ws) d
 
-  module _ {us : List ℕ} (r : Returning e i d ws us) (j : ℕ) (q : j ≡ slot by-holder i (dispatcher-nth (decode us) d .in-flight)) where
-    -- an entry is found: there is room for it
-    pub room-for-one : j < length (dispatcher-nth (decode us) d .in-flight) → length (dispatcher-nth (decode us) d .redelivery) < e
-    room-for-one l = let m = r .room in omega arith
+  -- none looked at yet
+  pub return-start : length (D .redelivery) + length (D .in-flight) ≤ e → Returning e i d ws ws 0 0
+  unfolding with-places
+  return-start r =
+      record {
+        queue = D .redelivery;
+        flight = D .in-flight;
+        looked = omega arith;
+        moved = moved-start h;
+        thinning = thinning-start (stays i) (D .in-flight);
+        queued = refl;
+        room = omega (arith, r);
+      }
 
-    -- none is found: all are back
-    pub return-end : length (dispatcher-nth (decode us) d .in-flight) ≤ j → us ≡ put ws (set-dispatcher (decode ws) d (all-back i (dispatcher-nth (decode ws) d)))
-    return-end l =
-        r .words ∙ ap (λ (y : Dispatcher). put ws (set-dispatcher (decode ws) d y)) (sym (all-are-back i (dispatcher-nth (decode us) d) j q l) ∙ r .same)
+  module _ {us : List ℕ} {j w : ℕ} (r : Returning e i d ws us j w) where
+    abbrev now : Dispatcher
+    now = dispatcher-nth (decode us) d
 
-    module _ {vs : List ℕ} (l : j < length (dispatcher-nth (decode us) d .in-flight)) (w : vs ≡ put us (set-dispatcher (decode us) d (one-back j (dispatcher-nth (decode us) d)))) where
-      -- the record fits after a turn
-      one-fits : Shaped-dispatcher (decode us .entries) (one-back j (dispatcher-nth (decode us) d))
-      unfolding one-back
-      one-fits =
-          let x = dispatcher-nth (decode us) d in
-          let m = room-for-one l in
-          let o = length-without j (x .in-flight) l in
-          let f = r .here .lists-fit .flight-fits in
-          let k = getD (x .in-flight) j zero-held .position in
-          let n : length (x .redelivery ++ k ∷ []) ≤ e = simp length-append (omega (arith, m)) in
-          rw (canon-entries (r .here .canon)) (shaped-places x (r .here .lists-fit) (x .redelivery ++ k ∷ []) (without-nth j (x .in-flight)) n (omega arith))
+    flight-now : now .in-flight ≡ r .flight
+    unfolding with-places
+    flight-now = ap (λ (x : Dispatcher). x .in-flight) (r .moved .now)
 
-      now-one : dispatcher-nth (decode vs) d ≡ one-back j (dispatcher-nth (decode us) d)
-      now-one = dispatcher-now-is us (decode us) d (one-back j (dispatcher-nth (decode us) d)) (r .here .canon .shaped) one-fits w (r .here .there)
+    queue-now : now .redelivery ≡ r .queue
+    unfolding with-places
+    queue-now = ap (λ (x : Dispatcher). x .redelivery) (r .moved .now)
 
-      -- one entry less is in flight
-      pub one-less : length (dispatcher-nth (decode vs) d .in-flight) + 1 ≡ length (dispatcher-nth (decode us) d .in-flight)
-      unfolding one-back with-places
-      one-less = rw now-one (length-without j (dispatcher-nth (decode us) d .in-flight) l)
+    -- as many are in flight as at first, the last turn aside
+    as-many : length (now .in-flight) ≡ length (D .in-flight)
+    as-many =
+        let b = r .thinning .behind in
+        let k = r .looked in
+        ap length flight-now ∙ thinning-length (stays i) (D .in-flight) (r .thinning) zero-held (omega (arith, b, k))
 
-      turn-words : vs ≡ put ws (set-dispatcher (decode ws) d (dispatcher-nth (decode vs) d))
-      turn-words =
-          let x = dispatcher-nth (decode us) d in
-          let f : Shaped-dispatcher (decode ws .entries) x = rw (canon-entries (h .canon)) (r .here .lists-fit) in
-          dispatcher-twice ws (decode ws) d x (one-back j) (h .canon .shaped) f (h .there) (r .words) w
-          ∙ ap (λ (y : Dispatcher). put ws (set-dispatcher (decode ws) d y)) (sym now-one)
+    -- entry j is the one that it was
+    entry-now : getD (now .in-flight) j zero-held ≡ getD (D .in-flight) j zero-held
+    entry-now = ap (λ (l : List Held). getD l j zero-held) flight-now ∙ thinning-nth (stays i) (D .in-flight) (r .thinning) zero-held
 
-      -- a turn
-      pub return-turn : Returning e i d ws vs
-      unfolding one-back with-places
-      return-turn =
-          let x = dispatcher-nth (decode us) d in
-          let o = length-without j (x .in-flight) l in
-          let m = r .room in
-          let p : length (x .redelivery ++ getD (x .in-flight) j zero-held .position ∷ []) ≡ length (x .redelivery) + 1 = simp length-append (omega arith) in
-          let big : length (x .redelivery ++ getD (x .in-flight) j zero-held .position ∷ []) + length (without-nth j (x .in-flight)) ≤ e = omega (arith, o, m, p) in
-          record {
-            here = dispatcher-set-in us (decode us) d (one-back j x) (r .here .canon .shaped) (canon-entries (r .here .canon)) one-fits w (r .here .there);
-            words = turn-words;
-            same = rw now-one (all-after-one i x j q l) ∙ r .same;
-            room = rw now-one big;
-          }
+    pub kept-there : w ≤ length (now .in-flight)
+    kept-there = let b = r .thinning .behind in let k = r .looked in rw as-many (omega (arith, b, k))
+
+    module _ (l : j < length (D .in-flight)) where
+      pub there-now : j < length (now .in-flight)
+      there-now = rw as-many l
+
+      pub room-now : length (now .redelivery) < e
+      room-now = let m = r .room in rw queue-now (omega (arith, m, l))
+
+      -- the lists fit
+      fits : (q : List ℕ) (f : List Held) → length q ≤ e → length f ≤ e → Shaped-dispatcher e (with-places D q f)
+      fits q f a b = shaped-places D (h .lists-fit) q f a b
+
+      flight-fits : length (r .flight) ≤ e
+      flight-fits = rw (← flight-now, as-many) (h .lists-fit .flight-fits)
+
+      module _ {vs : List ℕ} (v : vs ≡ put us (set-dispatcher (decode us) d (one-looked-at i j w now))) where
+        -- the consumer's own is queued
+        pub return-own : eqb i (getD (now .in-flight) j zero-held .holder) ≡ true → Returning e i d ws vs (j + 1) w
+        unfolding with-places
+        return-own t =
+            let x : Held = getD (D .in-flight) j zero-held in
+            let t′ : eqb i (x .holder) ≡ true = ap (λ (a : Held). eqb i (a .holder)) (sym entry-now) ∙ t in
+            let g : Dispatcher → Dispatcher = λ a. with-places a (a .redelivery ++ x .position ∷ []) (a .in-flight) in
+            let m = r .room in
+            let more : length (r .queue ++ x .position ∷ []) ≡ length (r .queue) + 1 = length-append (r .queue) (x .position ∷ []) in
+            let v′ : vs ≡ put us (set-dispatcher (decode us) d (g now)) =
+            v ∙ ap (λ (a : Dispatcher). put us (set-dispatcher (decode us) d a))
+            (sym (looked-own i j w now t) ∙ ap (λ (a : Held). with-places now (now .redelivery ++ a .position ∷ []) (now .in-flight)) entry-now) in
+            rw (add-one j)
+            (record {
+              queue = r .queue ++ x .position ∷ [];
+              flight = r .flight;
+              looked = l;
+              moved = moved-on h (r .moved) g (fits (r .queue ++ x .position ∷ []) (r .flight) (omega (arith, more, m, l)) flight-fits) v′;
+              thinning = thinning-skip (stays i) (D .in-flight) (r .thinning) zero-held l (rw t′);
+              queued =
+                  append-snoc (r .queue) (x .position) (held-by i (drop (suc j) (D .in-flight)))
+                  ∙ ap (λ (a : List ℕ). r .queue ++ a) (sym (held-own i (D .in-flight) j l t′)) ∙ r .queued;
+              room = omega (arith, more, m, l);
+            })
+
+        -- another's moves to the front
+        pub return-other : eqb i (getD (now .in-flight) j zero-held .holder) ≡ false → Returning e i d ws vs (j + 1) (w + 1)
+        unfolding with-places
+        return-other t =
+            let x : Held = getD (D .in-flight) j zero-held in
+            let t′ : eqb i (x .holder) ≡ false = ap (λ (a : Held). eqb i (a .holder)) (sym entry-now) ∙ t in
+            let g : Dispatcher → Dispatcher = λ a. with-places a (a .redelivery) (set (a .in-flight) w x) in
+            let m = r .room in
+            let sized : length (set (r .flight) w x) ≤ e = rw (length-set (r .flight) w x) flight-fits in
+            let v′ : vs ≡ put us (set-dispatcher (decode us) d (g now)) =
+            v ∙ ap (λ (a : Dispatcher). put us (set-dispatcher (decode us) d a))
+            (sym (looked-other i j w now t) ∙ ap (λ (a : Held). with-places now (now .redelivery) (set (now .in-flight) w a)) entry-now) in
+            rw (add-one j, add-one w)
+            (record {
+              queue = r .queue;
+              flight = set (r .flight) w x;
+              looked = l;
+              moved = moved-on h (r .moved) g (fits (r .queue) (set (r .flight) w x) (omega (arith, m)) sized) v′;
+              thinning = thinning-keep (stays i) (D .in-flight) (r .thinning) zero-held l (rw t′);
+              queued = ap (λ (a : List ℕ). r .queue ++ a) (sym (held-other i (D .in-flight) j l t′)) ∙ r .queued;
+              room = omega (arith, m, l);
+            })
+
+    -- all are looked at: the first w stay
+    pub return-end : {vs : List ℕ} → length (D .in-flight) ≤ j
+        → vs ≡ put us (set-dispatcher (decode us) d (with-places now (now .redelivery) (take w (now .in-flight))))
+        → vs ≡ put ws (set-dispatcher (decode ws) d (all-back i D))
+    unfolding all-back with-places without-holder held-by keep
+    return-end {vs} z v =
+        let g : Dispatcher → Dispatcher = λ a. with-places a (a .redelivery) (take w (a .in-flight)) in
+        let last : take w (r .flight) ≡ keep (stays i) (D .in-flight) = thinning-end (stays i) (D .in-flight) (r .thinning) zero-held z in
+        let none : held-by i (drop j (D .in-flight)) ≡ [] = ap (held-by i) (drop-of-length-le (D .in-flight) z) in
+        let all : r .queue ≡ D .redelivery ++ held-by i (D .in-flight) = sym (append-nil (r .queue)) ∙ ap (λ (a : List ℕ). r .queue ++ a) (sym none) ∙ r .queued in
+        let m = r .room in
+        let f : length (r .flight) ≤ e = rw (← flight-now, as-many) (h .lists-fit .flight-fits) in
+        let sized : length (take w (r .flight)) ≤ e = rw (length-take w (r .flight)) (omega (arith, f)) in
+        moved-on h (r .moved) g (shaped-places D (h .lists-fit) (r .queue) (take w (r .flight)) (omega (arith, m)) sized) v .words
+        ∙ ap₂ {A = List ℕ} {B = List Held} {C = List ℕ} (λ q a. put ws (set-dispatcher (decode ws) d (with-places D q a))) all last

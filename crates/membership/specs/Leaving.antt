@@ -1,20 +1,22 @@
 -- A dispatcher while a consumer leaves it: entries in flight go back to its queue, and the id leaves its ring.
-use Prim.Native.Nat.{ℕ, _+_, _%_}
+use Prim.Native.Nat.{ℕ, _%_}
 use mathlib.Core.Bool.{cond, not}
 use mathlib.Core.List.{[], _∷_, _++_, List·Memᴰ}
 use lib.Dec.{eqb}
-use lib.ListN.{getD, take, drop}
+use lib.ListN.{getD, set}
 use Rattle.rules.specs.Table.{keep, Distinct}
 use Rattle.rules.specs.State.{Dispatcher}
 use Rattle.rules.specs.Dispatcher.{with-attached, with-next, with-places, held-by, without-holder}
 use Rattle.rules.specs.Commands.{next-in-ring}
 use Rattle.layout.specs.Fields.{zero-held}
 
--- entry j in flight went to the end of the queue
-unfoldable pub one-back : ℕ → Dispatcher → Dispatcher
-one-back j d =
-    with-places d (d .redelivery ++ getD (d .in-flight) j zero-held .position ∷ [])
-    (take j (d .in-flight) ++ drop (j + 1) (d .in-flight))
+-- entry j in flight, looked at: a consumer's own went to the end of the queue, another's to a place in flight
+unfoldable pub one-looked-at : ℕ → ℕ → ℕ → Dispatcher → Dispatcher
+one-looked-at i j kept d =
+    let h = getD (d .in-flight) j zero-held in
+    cond (eqb i (h .holder))
+    (with-places d (d .redelivery ++ h .position ∷ []) (d .in-flight))
+    (with-places d (d .redelivery) (set (d .in-flight) kept h))
 
 -- all that a consumer holds went there
 unfoldable pub all-back : ℕ → Dispatcher → Dispatcher

@@ -1,8 +1,9 @@
 // What goes when a consumer closes: its record, and its place in a dispatcher. The entries that it holds go
 // back to the end of the queue.
-use dispatcher::flight::find_holder;
 use dispatcher::flight::flight_count;
-use dispatcher::flight::remove_flight;
+use dispatcher::flight::keep_flight;
+use dispatcher::flight::load_held;
+use dispatcher::flight::save_held;
 use dispatcher::head::next;
 use dispatcher::head::set_next;
 use dispatcher::queue::append_queue;
@@ -12,18 +13,19 @@ use dispatcher::ring::ring_count;
 use dispatcher::total::set_total_available_permits;
 use store::movers::close_gap;
 use store::offsets::consumer_at;
-use store::offsets::dispatcher_at;
 use store::stretch::word;
 ghost use mathlib.Core.Path.{_≡_};
+ghost use mathlib.Core.Bool.{cond};
 ghost use mathlib.Core.List.{_++_};
 ghost use Prim.Native.Nat.{_+_, _<_, _≤_};
+ghost use lib.Dec.{eqb};
 ghost use lib.ListN.{length, getD, take, drop};
 ghost use Rattle.rules.specs.State.{with-consumers};
 ghost use Rattle.rules.specs.Commands.{left-by};
 ghost use Rattle.layout.specs.Layout.{decode, put};
 ghost use Rattle.layout.specs.Fields.{zero-held, dispatcher-nth, set-dispatcher};
 ghost use Rattle.layout.specs.Placed.{Consumer-in, Dispatcher-in};
-ghost use Rattle.membership.specs.Leaving.{one-back, all-back, next-of, out-of-ring, Member-of};
+ghost use Rattle.membership.specs.Leaving.{one-looked-at, all-back, next-of, out-of-ring, Member-of};
 
 // Consumer `i` is left out; those after it keep their order.
 pub fn remove_consumer(store: &mut [u64], e: usize, i: usize)
@@ -36,37 +38,36 @@ pub fn remove_consumer(store: &mut [u64], e: usize, i: usize)
     store[16] = (n - 1) as u64;
 }
 
-// The position of entry `j` in flight of dispatcher `d`.
-fn held_position(store: &[u64], e: usize, d: usize, j: usize) -> usize
-    requires { ⌜ Dispatcher-in e (now store) d × (j < length (dispatcher-nth (decode (now store)) d .in-flight)) ⌝ }
-    ensures { λ r. ⌜ r ≡ getD (dispatcher-nth (decode (now (store .entry))) d .in-flight) j zero-held .position ⌝ }
+// Entry `j` in flight of dispatcher `d` goes to the end of the queue if `id` holds it, else to place `kept`
+// in flight; answers how many have stayed.
+fn return_or_keep(store: &mut [u64], e: usize, d: usize, id: u64, j: usize, kept: usize) -> usize
+    requires { ⌜ Dispatcher-in e (now store) d × (j < length (dispatcher-nth (decode (now store)) d .in-flight)) × (kept ≤ j) × (length (dispatcher-nth (decode (now store)) d .redelivery) < e) ⌝ }
+    ensures count { λ r. ⌜ r ≡ cond (eqb id (getD (dispatcher-nth (decode (now (store .entry))) d .in-flight) j zero-held .holder)) kept (kept + 1) ⌝ }
+    ensures words { λ _. ⌜ now (store .exit) ≡ put (now (store .entry)) (set-dispatcher (decode (now (store .entry))) d (one-looked-at id j kept (dispatcher-nth (decode (now (store .entry))) d))) ⌝ }
 {
-    let at = dispatcher_at(e, d);
-    word(store, at + 176 + e + j * 2)
+    let h = load_held(store, e, d, j);
+    if h.holder == id {
+        append_queue(store, e, d, h.position);
+        return kept;
+    }
+    save_held(store, e, d, kept, h);
+    kept + 1
 }
 
-// Entry `j` in flight of dispatcher `d` goes to the end of the queue.
-fn return_one(store: &mut [u64], e: usize, d: usize, j: usize)
-    requires { ⌜ Dispatcher-in e (now store) d × (j < length (dispatcher-nth (decode (now store)) d .in-flight)) × (length (dispatcher-nth (decode (now store)) d .redelivery) < e) ⌝ }
-    ensures { λ _. ⌜ now (store .exit) ≡ put (now (store .entry)) (set-dispatcher (decode (now (store .entry))) d (one-back j (dispatcher-nth (decode (now (store .entry))) d))) ⌝ }
-{
-    let k = held_position(store, e, d, j);
-    append_queue(store, e, d, k);
-    remove_flight(store, e, d, j);
-}
-
-// What `id` holds of dispatcher `d` goes to the end of the queue, in the order in which it was dispatched.
+// What `id` holds of dispatcher `d` goes to the end of the queue, in the order in which it was dispatched; the
+// others move to the front in theirs.
 pub fn return_held(store: &mut [u64], e: usize, d: usize, id: u64)
     requires { ⌜ Dispatcher-in e (now store) d × (length (dispatcher-nth (decode (now store)) d .redelivery) + length (dispatcher-nth (decode (now store)) d .in-flight) ≤ e) ⌝ }
     ensures { λ _. ⌜ now (store .exit) ≡ put (now (store .entry)) (set-dispatcher (decode (now (store .entry))) d (all-back id (dispatcher-nth (decode (now (store .entry))) d))) ⌝ }
 {
-    let mut n = flight_count(store, e, d);
-    let mut j = find_holder(store, e, d, id);
+    let n = flight_count(store, e, d);
+    let mut j = 0;
+    let mut kept = 0;
     while j < n {
-        return_one(store, e, d, j);
-        n -= 1;
-        j = find_holder(store, e, d, id);
+        kept = return_or_keep(store, e, d, id, j, kept);
+        j += 1;
     }
+    keep_flight(store, e, d, kept);
 }
 
 // The next slot in a ring that has `n` ids left.
