@@ -21,7 +21,7 @@ ghost use lib.ListN.{length};
 
 // Replays the input to its end, or to an empty line. The turns are counted down from a number that no
 // input reaches, since a proved loop has to end.
-pub fn replay() {
+pub(crate) fn replay() {
     let mut store = [0u64; 8192];
     let mut turns = 18446744073709551615u64;
     while turns > 0 && replay_line(&mut store) {

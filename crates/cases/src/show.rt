@@ -9,7 +9,7 @@ ghost use Prim.Native.Nat.{_+_, _≤_};
 ghost use lib.ListN.{length};
 
 // Done and the value, or the refusal's number, and the end of the line.
-pub fn show_outcome(name: u64, answer: u64) {
+pub(crate) fn show_outcome(name: u64, answer: u64) {
     let number = answer % 256;
     if number == 0 {
         io::write_all(STDOUT_FILENO, b"done");
@@ -59,7 +59,7 @@ fn show_value_signed(value: u64) {
 }
 
 // The records at the start of a push's list, a line each.
-pub fn show_records(list: &[u64], count: u64) {
+pub(crate) fn show_records(list: &[u64], count: u64) {
     let mut at = 0;
     let mut left = count;
     while left > 0 {
