@@ -16,7 +16,7 @@ WARNINGS = -Wall -Wextra -Wconversion -pedantic -Werror
 define run-faults
 gcc -x c -std=c99 $(WARNINGS) -fsyntax-only include/broker.h
 g++ -x c++ $(WARNINGS) -fsyntax-only include/broker.h
-gcc -std=c99 -O2 $(WARNINGS) -Iinclude tests/faults.c $(LIBRARY) -o target/faults
+gcc -std=c99 -O2 $(WARNINGS) -Iinclude -Itests/faults tests/faults/*.c $(LIBRARY) -o target/faults
 target/faults $(CALLS)
 endef
 
