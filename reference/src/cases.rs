@@ -18,6 +18,9 @@ const ROOM: usize = 64;
 /// The heading before the sequences on which broker.rs has to agree.
 const FIXED_LIST: &str = "# the fixed list, on which broker.rs gave the same";
 
+/// What the runner prints where a push into records gives what the flat push gives.
+const AS_RECORDS: &str = "  as records: the same\n";
+
 /// The scripts with the refusals that broker.rs does not have, 5 to 14.
 const OUTSIDE: [(&str, &str); 12] = [
     ("refusal 5", include_str!("../scripts/outside/refusal-5.txt")),
@@ -142,6 +145,9 @@ fn replayed(script: &str) -> Result<String, String> {
         out += &format!("{line} = {text}\n");
         for record in &outcome.records {
             out += &format!("  + {}\n", record_text(record));
+        }
+        if line.starts_with("push") {
+            out += AS_RECORDS;
         }
     }
     Ok(out)

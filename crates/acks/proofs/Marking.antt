@@ -6,6 +6,7 @@ use Prim.Native.Nat.{ℕ, zero, suc, _≤_, _<_}
 use native.Mathlib.Nat.{not-suc-le-zero}
 use native.Mathlib.Omega.{arith}
 use lib.Dec.{ltb}
+use lib.Seq.{set-getD}
 use lib.ListN.{length, length-append, set, take}
 use borrow.Author.Tests.{lt-ltb, le-ltb, ltb-true, ltb-false}
 use Rattle.bits.specs.declared.UnackedBits.{UnackedBits}
@@ -24,7 +25,6 @@ use Rattle.layout.specs.Placed.{Dispatcher-in}
 use Rattle.layout.proofs.Store.{put-decode}
 use Rattle.store.specs.Find.{slot}
 use Rattle.store.proofs.Ledgers.{ledger-at, ledger-none}
-use Rattle.receipts.proofs.Joins.{set-same}
 
 -- ---- bits
 
@@ -135,7 +135,7 @@ last-room i x e h = let h′ : length (x .outside ++ i ∷ []) ≤ 64 = rw e at 
 pub unchanged : {e : ℕ} {ws : List ℕ} (d : ℕ) → Dispatcher-in e ws d
     → ws ≡ put ws (set-dispatcher (decode ws) d (with-marks (dispatcher-nth (decode ws) d) (dispatcher-nth (decode ws) d .marks) (dispatcher-nth (decode ws) d .outside)))
 unfolding with-marks set-dispatcher with-dispatchers
-unchanged {e} {ws} d h = rw (set-same (decode ws .dispatchers) d zero-dispatcher (h .there)) (sym (put-decode (h .canon)))
+unchanged {e} {ws} d h = rw (set-getD (decode ws .dispatchers) d zero-dispatcher) (sym (put-decode (h .canon)))
 
 -- ---- the topic
 

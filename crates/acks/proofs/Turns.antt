@@ -5,6 +5,7 @@ use mathlib.Core.List.{List, [], _∷_}
 use Prim.Native.Nat.{ℕ, _≤_, _<_}
 use native.Mathlib.Omega.{arith}
 use lib.Dec.{ltb}
+use lib.Seq.{set-getD}
 use lib.ListN.{length, length-set}
 use Rattle.rules.specs.State.{Id, StoredMessage, Dispatcher, State, ledger-of, topic-of, with-dispatchers}
 use Rattle.rules.specs.Ledger.{position-of, message-at, batch-size-of}
@@ -21,7 +22,6 @@ use Rattle.layout.proofs.Placed.{shaped-set-dispatcher}
 use Rattle.frame.proofs.Frame.{decode-after, dispatcher-twice, dispatcher-set-in, dispatcher-now-is}
 use Rattle.groups.specs.Walk.{Stands, group-at, groups-from, end-at}
 use Rattle.groups.proofs.Walks.{Turn, stands-end}
-use Rattle.receipts.proofs.Joins.{set-same}
 use Rattle.dispatcher.specs.Completion.{Marked}
 use Rattle.acks.specs.Ackable.{Ackable}
 use Rattle.acks.proofs.Counts.{count-after}
@@ -106,7 +106,7 @@ acking-start {e} {ws} d topic list h s =
     record {
       stands = s;
       kept = kept-all (dispatcher-nth (decode ws) d);
-      written = rw (set-same (decode ws .dispatchers) d zero-dispatcher (h .there)) (sym (put-decode (h .canon)));
+      written = rw (set-getD (decode ws .dispatchers) d zero-dispatcher) (sym (put-decode (h .canon)));
       whole = refl;
     }
 

@@ -4,6 +4,7 @@ mod line;
 mod name;
 mod replay;
 mod show;
+mod twin;
 
 use bits::UnackedBits;
 use libc::STDOUT_FILENO;

@@ -15,6 +15,9 @@ use crate::name::START;
 use crate::name::SUBSCRIBE;
 use crate::show::show_outcome;
 use crate::show::show_records;
+use crate::show::show_twin;
+use crate::twin::as_records;
+use crate::twin::copy_words;
 use libc::STDOUT_FILENO;
 ghost use Prim.Native.Nat.{_≤_};
 ghost use lib.ListN.{length};
@@ -62,15 +65,19 @@ fn replay_call(store: &mut [u64], line: &[u8]) {
     }
 }
 
-// A push with a list of the runner's 64 records, or of as many as the line says.
+// A push with a list of the runner's 64 records, or of as many as the line says, and the same push into
+// records on a copy of the store.
 fn replay_push(store: &mut [u64], n: usize, records: u64) {
+    let mut twin = [0u64; 8192];
+    copy_words(store, &mut twin);
     let mut list = [0u64; 832];
     let room = words_for(n, records);
-    push_into(store, &mut list, room);
+    let answer = push_into(store, &mut list, room);
+    show_twin(as_records(&mut twin, store, &list, room, answer));
 }
 
 // A push into the first `room` words of a list.
-fn push_into(store: &mut [u64], list: &mut [u64], room: usize)
+fn push_into(store: &mut [u64], list: &mut [u64], room: usize) -> u64
     requires { ⌜ room ≤ length (now list) ⌝ }
 {
     let answer = broker::broker_push(store, &mut list[..room]);
@@ -78,6 +85,7 @@ fn push_into(store: &mut [u64], list: &mut [u64], room: usize)
     if answer % 256 == 0 {
         show_records(list, answer / 256);
     }
+    answer
 }
 
 // How many words the list of a push has, given how many words its line has and the second of them.

@@ -58,6 +58,15 @@ fn show_value_signed(value: u64) {
     }
 }
 
+// Whether a push into records gave the same as the flat push.
+pub(crate) fn show_twin(same: bool) {
+    if same {
+        io::write_all(STDOUT_FILENO, b"  as records: the same\n");
+    } else {
+        io::write_all(STDOUT_FILENO, b"  as records: DIFFERENT\n");
+    }
+}
+
 // The records at the start of a push's list, a line each.
 pub(crate) fn show_records(list: &[u64], count: u64) {
     let mut at = 0;

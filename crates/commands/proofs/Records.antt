@@ -18,11 +18,6 @@ use Rattle.layout.specs.Fields.{consumer-nth, set-consumer}
 use Rattle.layout.specs.Placed.{Consumer-in}
 use Rattle.layout.proofs.Sets as layout
 
--- a switch word is 1 where it is on
-pub bit-one : (b : Bool) → eqb (bit b) 1 ≡ b
-bit-one true = refl
-bit-one false = refl
-
 -- the kinds by their flags
 pub flag-shared : (k : Kind) → flag-of k ≡ true → k ≡ shared
 flag-shared plain e = let z : _≡_ {A = ℕ} 0 1 = cc in let none : ⊥ = omega arith in absurd none

@@ -10,6 +10,9 @@ use lib.ListN.{length, getD, set, take, drop, drop-of-length-le, length-set, len
 use lib.Seq.{drop-cons}
 use Rattle.rules.specs.Table.{keep}
 use Rattle.rules.specs.State.{Held, Mark, Dispatcher, State, new-mark}
+use Rattle.heads.specs.declared.Head as numbers
+use Rattle.heads.specs.Moves.{advanced}
+use Rattle.dispatcher.specs.Values.{head-of, with-head}
 use Rattle.rules.specs.Dispatcher.{with-mark-delete, with-places, mark-at, complete-at, drop-complete, leading-complete, advance-mark-delete}
 use Rattle.layout.specs.Layout.{decode, put}
 use Rattle.layout.specs.Whole.{Shaped-dispatcher}
@@ -42,10 +45,11 @@ module _ (marks : List Mark) (k : ℕ) where
   unfolding leading-complete
   leads-past h = sym (ap (λ (l : List Mark). k + leading-complete l) (drop-of-length-le marks h) ∙ omega arith)
 
--- mark-delete there
-pub advanced : (d : Dispatcher) (k : ℕ) → k ≡ d .mark-delete + leading-complete (drop (d .mark-delete) (d .marks)) → with-mark-delete d k ≡ advance-mark-delete d
-unfolding advance-mark-delete
-advanced d k e = rw e
+-- mark-delete there, and the other three numbers as they were
+pub advanced-there : (d : Dispatcher) (h r : numbers.Head) (k : ℕ) → h ≡ head-of d → k ≡ h .«mark_delete» + leading-complete (drop (h .«mark_delete») (d .marks))
+    → r ≡ advanced h k → with-head d r ≡ advance-mark-delete d
+unfolding advance-mark-delete with-mark-delete with-head head-of advanced
+advanced-there d h r k p q e = rw (e, q, p)
 
 -- ---- complete entries dropped
 

@@ -29,7 +29,7 @@ use Rattle.ledger.specs.Ids.{id-of}
 use Rattle.dispatcher.specs.Held.{held-of}
 use Rattle.dispatcher.specs.Values.{mark-of, head-of, with-head}
 use Rattle.dispatcher.specs.declared.marks.Mark as declared
-use Rattle.dispatcher.specs.declared.head.Head as numbers
+use Rattle.heads.specs.declared.Head as numbers
 use Rattle.dispatcher.proofs.Places.{two-words}
 
 -- a flag's word is 1 where the flag is set

@@ -28,12 +28,6 @@ module _ {e : ℕ} {ws : List ℕ} (d at : ℕ) (h : Dispatcher-in e ws d) (a : 
       let n : at + 174 + e ≡ dispatcher-at e d + flight-in e = omega arith in
       rw n (read-flight-count (h .canon) d (h .there))
 
-  -- the holder of entry j in flight
-  pub holder-here : (j : ℕ) → j < length (dispatcher-nth (decode ws) d .in-flight) → getD ws (at + 175 + e + j * 2) 0 ≡ getD (dispatcher-nth (decode ws) d .in-flight) j zero-held .holder
-  holder-here j l =
-      let n : at + 175 + e + j * 2 ≡ dispatcher-at e d + held-in e j = omega arith in
-      rw n (read-holder (h .canon) d (h .there) j l)
-
   -- entry j in flight
   pub held-here : (j : ℕ) → j < length (dispatcher-nth (decode ws) d .in-flight) → held-at ws (at + 175 + e + j * 2) ≡ getD (dispatcher-nth (decode ws) d .in-flight) j zero-held
   held-here j l =

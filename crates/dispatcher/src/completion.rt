@@ -4,10 +4,11 @@ use super::flight::flight_count;
 use super::flight::keep_flight;
 use super::flight::load_held;
 use super::flight::save_held;
-use super::head::mark_delete;
-use super::head::set_mark_delete;
+use super::head::load_head;
+use super::head::save_head;
 use super::marks::is_complete;
 use super::marks::mark_count;
+use heads::advance_from;
 ghost use mathlib.Core.Path.{_≡_};
 ghost use mathlib.Core.Bool.{not, _&&_};
 ghost use Prim.Native.Nat.{_+_, _<_};
@@ -72,6 +73,7 @@ pub fn advance_mark_delete(store: &mut [u64], e: usize, d: usize)
     requires { ⌜ Dispatcher-in e (now store) d ⌝ }
     ensures { λ _. ⌜ now (store .exit) ≡ put (now (store .entry)) (set-dispatcher (decode (now (store .entry))) d (advance-mark-delete (dispatcher-nth (decode (now (store .entry))) d))) ⌝ }
 {
-    let k = first_incomplete(store, e, d, mark_delete(store, e, d));
-    set_mark_delete(store, e, d, k);
+    let head = load_head(store, e, d);
+    let k = first_incomplete(store, e, d, head.mark_delete);
+    save_head(store, e, d, advance_from(head, k));
 }

@@ -1,21 +1,14 @@
-// The next slot, the cursor and the mark-delete of a dispatcher, each by itself or with the total as
-// one record. Each has one word.
+// The four numbers of a dispatcher as one record, and its next slot and mark-delete by themselves. Each
+// has one word.
+use heads::Head;
 use store::offsets::dispatcher_at;
 use store::stretch::word;
 ghost use mathlib.Core.Path.{_≡_};
-ghost use Rattle.rules.specs.Dispatcher.{with-next, with-cursor, with-mark-delete};
+ghost use Rattle.rules.specs.Dispatcher.{with-next};
 ghost use Rattle.layout.specs.Layout.{decode, put};
 ghost use Rattle.layout.specs.Fields.{dispatcher-nth, set-dispatcher};
 ghost use Rattle.layout.specs.Placed.{Dispatcher-in};
 ghost use Rattle.dispatcher.specs.Values.{head-of, with-head};
-
-// The four numbers of a dispatcher that move together, by value.
-pub struct Head {
-    pub next: usize,
-    pub cursor: usize,
-    pub mark_delete: usize,
-    pub total_available_permits: u64,
-}
 
 // The next slot of dispatcher `d`.
 pub fn next(store: &[u64], e: usize, d: usize) -> usize
@@ -35,24 +28,6 @@ pub fn set_next(store: &mut [u64], e: usize, d: usize, to: usize)
     store[at + 2] = to as u64;
 }
 
-// The cursor of dispatcher `d`.
-pub fn cursor(store: &[u64], e: usize, d: usize) -> usize
-    requires { ⌜ Dispatcher-in e (now store) d ⌝ }
-    ensures { λ r. ⌜ r ≡ dispatcher-nth (decode (now (store .entry))) d .cursor ⌝ }
-{
-    let at = dispatcher_at(e, d);
-    word(store, at + 3)
-}
-
-// Dispatcher `d` gets another cursor.
-pub fn set_cursor(store: &mut [u64], e: usize, d: usize, to: usize)
-    requires { ⌜ Dispatcher-in e (now store) d ⌝ }
-    ensures { λ _. ⌜ now (store .exit) ≡ put (now (store .entry)) (set-dispatcher (decode (now (store .entry))) d (with-cursor (dispatcher-nth (decode (now (store .entry))) d) to)) ⌝ }
-{
-    let at = dispatcher_at(e, d);
-    store[at + 3] = to as u64;
-}
-
 // The mark-delete of dispatcher `d`.
 pub fn mark_delete(store: &[u64], e: usize, d: usize) -> usize
     requires { ⌜ Dispatcher-in e (now store) d ⌝ }
@@ -60,15 +35,6 @@ pub fn mark_delete(store: &[u64], e: usize, d: usize) -> usize
 {
     let at = dispatcher_at(e, d);
     word(store, at + 4)
-}
-
-// Dispatcher `d` gets another mark-delete.
-pub fn set_mark_delete(store: &mut [u64], e: usize, d: usize, to: usize)
-    requires { ⌜ Dispatcher-in e (now store) d ⌝ }
-    ensures { λ _. ⌜ now (store .exit) ≡ put (now (store .entry)) (set-dispatcher (decode (now (store .entry))) d (with-mark-delete (dispatcher-nth (decode (now (store .entry))) d) to)) ⌝ }
-{
-    let at = dispatcher_at(e, d);
-    store[at + 4] = to as u64;
 }
 
 // The four numbers of dispatcher `d`.

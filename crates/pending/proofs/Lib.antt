@@ -4,5 +4,6 @@ pub mod Staying
 pub mod Writing
 pub mod Readied
 pub mod Sharing
+pub mod Most
 pub mod Pushing
 pub mod Answering

@@ -1,34 +1,31 @@
 -- A whole push: the shared part written, then the plain part, is the push by plain numbers, which is the rules' push.
 use mathlib.Core.Path.{_≡_, refl, sym, ap, ap₂, _∙_, subst}
-use mathlib.Core.Bool.{true, false, cond}
+use mathlib.Core.Bool.{true}
 use mathlib.Core.List.{List, [], _∷_, _++_, map}
-use Prim.Native.Nat.{ℕ, zero, suc, _+_, _-_, _*_, _/_, _%_, _^_, _≤_, _<_}
+use Prim.Native.Nat.{ℕ, zero, suc, _+_, _*_, _≤_, _<_}
 use native.Mathlib.Nat.{le-of-suc-le-suc, not-suc-le-zero}
 use native.Mathlib.Omega.{arith}
-use lib.ListN.{length, getD, drop, length-append, length-map}
+use lib.ListN.{length, getD, length-append, length-map}
 use Rattle.words.specs.Codec.{All}
-use Rattle.rules.specs.State.{Consumer, Dispatcher, State, ledger-of, with-consumers, with-dispatchers}
-use Rattle.rules.specs.Commands.{with-permits}
+use Rattle.rules.specs.State.{Consumer, Dispatcher, State, with-consumers, with-dispatchers}
 use Rattle.rules.specs.Outcome.{Dispatch}
 use Rattle.layout.specs.Layout.{decode, put, spells}
 use Rattle.layout.specs.Canon.{Canon-store}
 use Rattle.layout.specs.Whole.{Shaped, Shaped-dispatcher}
 use Rattle.layout.specs.Fields.{zero-consumer, consumer-nth}
-use Rattle.layout.proofs.Valid.{ledger-fits}
-use Rattle.frame.proofs.Frame.{canon-of, canon-after, decode-after, then-write, valid-now}
-use Rattle.push.specs.Local.{Step, fixed-of, local-of, turns-of, served}
-use Rattle.push.specs.Applied.{with-each, record-of}
-use Rattle.push.specs.Shared.{Service, services, permits-left, service-records, all-service-records, served-dispatcher}
-use Rattle.push.specs.Plain.{plain-due, plain-records as recorded, ledger-for, plain-served, all-plain-records}
+use Rattle.frame.proofs.Frame.{canon-of, canon-after, decode-after, then-write}
+use Rattle.push.specs.Local.{served}
+use Rattle.push.specs.Applied.{with-each}
+use Rattle.push.specs.Shared.{services, permits-left, all-service-records, served-dispatcher}
+use Rattle.push.specs.Plain.{plain-served, all-plain-records}
 use Rattle.push.specs.Whole.{permits-now, services-of, charged-consumers, local-push}
-use Rattle.push.proofs.Each.{length-each}
+use Rattle.push.proofs.Shared.{served-sized}
 use Rattle.records.specs.Flat.{filled}
 use Rattle.records.proofs.Filled.{filled-append}
-use Rattle.turns.proofs.Left.{made-few}
-use Rattle.pending.proofs.Sharing.{served-sized}
 use Rattle.plain.specs.Reading.{Readable}
-use Rattle.plain.proofs.Entries.{due-waiting, length-records}
 use Rattle.plain.proofs.Same.{readable-now, readable-same, all-served-same, all-records-same}
+use Rattle.pending.specs.Bound.{most-due}
+use Rattle.pending.proofs.Most.{dispatched-most, most-small}
 
 -- one number of permits for each consumer
 pub length-permits : (s : State) → length (permits-now s) ≡ length (s .consumers)
@@ -88,64 +85,19 @@ module _ (s : State) where
 
 -- ---- how many there can be
 
--- a service has at most a step for each entry that can be queued and each of the ledger, and one turn more
-served-small : (s : State) (d : Dispatcher) (ps : List ℕ) → length (d .redelivery) ≤ 4096 → length (ledger-of s (d .pair .topic)) ≤ 4096
-    → length (served s d ps .made) ≤ 8193
-unfolding served turns-of
-served-small s d ps a b = let f = made-few (turns-of s d) (fixed-of s d) (local-of d ps) in omega (arith, f, a, b)
+-- no more than wait
+pub due-most : (s : State) → length (local-push s .dispatched) ≤ most-due s
+due-most s =
+    let a = dispatched-most s (permits-now s) (left s) in
+    let b = all-counted s in
+    omega (arith, a, b)
 
--- all services
-shared-few : (s : State) (ds : List Dispatcher) (ps : List ℕ) → ((topic : ℕ) → length (ledger-of s topic) ≤ 4096)
-    → All (λ (d : Dispatcher). length (d .redelivery) ≤ 4096) ds → length (all-service-records s (services s ds ps)) ≤ length ds * 8193
-unfolding services all-service-records service-records
-shared-few s [] ps a b = omega arith
-shared-few s (d ∷ ds) ps a b =
-    let v : List Step = served s d ps .made in
-    let rest : List Dispatch = all-service-records s (services s ds (served s d ps .after .permits)) in
-    let one = served-small s d ps (b .0) (a (d .pair .topic)) in
-    let more = shared-few s ds (served s d ps .after .permits) a (b .1) in
-    let parts = length-append (map (record-of s (fixed-of s d)) v) rest in
-    let mapped = length-map v (record-of s (fixed-of s d)) in
-    omega (arith, one, more, parts, mapped)
-
--- the parts of plain consumers
-plain-few : (s : State) (l : List Consumer) → ((topic : ℕ) → length (ledger-of s topic) ≤ 4096) → All (λ (c : Consumer). length (c .nacked) ≤ 64) l
-    → length (all-plain-records s l) ≤ length l * 4160
-unfolding all-plain-records
-plain-few s [] a b = omega arith
-plain-few s (c ∷ l) a b =
-    let n : ℕ = plain-due (ledger-for s c) c in
-    let one : n ≤ length (c .nacked) + (length (ledger-for s c) - c .cursor) = due-waiting (ledger-for s c) c in
-    let ledger = a (c .pair .topic) in
-    let nacked = b .0 in
-    let more = plain-few s l a (b .1) in
-    let parts = length-append (recorded (ledger-for s c) c n) (all-plain-records s l) in
-    let counted = length-records (ledger-for s c) c n in
-    omega (arith, one, ledger, nacked, more, parts, counted)
-
--- each of a list, by another fact of each
-all-by : {A : Type 0} {P Q : A → Type 0} (l : List A) → ((a : A) → P a → Q a) → All P l → All Q l
-all-by [] f h = h
-all-by (a ∷ l) f h = (f a (h .0), all-by l f (h .1))
-
--- other permits leave what is nacked alone
-nacked-each : (l : List Consumer) (ps : List ℕ) → All (λ (c : Consumer). length (c .nacked) ≤ 64) l → All (λ (c : Consumer). length (c .nacked) ≤ 64) (with-each l ps)
-unfolding with-each with-permits
-nacked-each [] ps h = h
-nacked-each (c ∷ l) ps h = (h .0, nacked-each l (drop 1 ps) (h .1))
-
--- the number due is small
-pub due-small : (s : State) → Shaped s → length (local-push s .dispatched) ≤ 198664
+-- which is small
+pub due-small : (s : State) → Shaped s → length (local-push s .dispatched) ≤ 198656
 due-small s h =
-    let e = h .E-most in
-    let ledgers : (topic : ℕ) → length (ledger-of s topic) ≤ 4096 = λ n. let f = ledger-fits s n (h .each-topic) in omega (arith, f, e) in
-    let a = shared-few s (s .dispatchers) (permits-now s) ledgers (all-by (s .dispatchers) (λ d k. let f = k .queue-fits in omega (arith, f, e)) (h .each-dispatcher)) in
-    let b = plain-few s (with-each (s .consumers) (left s)) ledgers (nacked-each (s .consumers) (left s) (h .each-consumer)) in
-    let c = length-each (s .consumers) (left s) in
-    let d = h .consumers-fit in
-    let f = h .dispatchers-fit in
-    let g = all-counted s in
-    omega (arith, a, b, c, d, f, g)
+    let a = due-most s in
+    let b = most-small s h in
+    omega (arith, a, b)
 
 module _ {e : ℕ} (ws : List ℕ) (spelt : spells ws ≡ true) (E : e ≡ decode ws .entries) (fit : All (Shaped-dispatcher e) (served-rows (decode ws))) where
   abbrev s : State
@@ -203,6 +155,14 @@ module _ {e : ℕ} (ws : List ℕ) (spelt : spells ws ≡ true) (E : e ≡ decod
       pub room-on : {m n : ℕ} → m ≡ length (shared-records s) → length (local-push s .dispatched) * 13 ≤ n
           → (m + length (all-plain-records (decode us) (with-each (decode us .consumers) qs))) * 13 ≤ n
       room-on {m} {n} q r = let c = all-counted s in rw records-now (omega (arith, c, q, r))
+
+      -- how many are made
+      pub pushed-count : {m n : ℕ} → m ≡ length (shared-records s) → n ≡ m + length (all-plain-records (decode us) (with-each (decode us .consumers) qs))
+          → n ≡ length (local-push s .dispatched)
+      pushed-count {m} {n} q v =
+          let c = all-counted s in
+          let r : length (all-plain-records (decode us) (with-each (decode us .consumers) qs)) ≡ length (plain-records s) = ap length records-now in
+          omega (arith, c, q, r, v)
 
       -- the store at the end
       pub pushed-words : {vs : List ℕ} → vs ≡ put us (with-consumers (decode us) (map (plain-served (decode us)) (with-each (decode us .consumers) qs)))

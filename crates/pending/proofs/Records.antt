@@ -2,7 +2,7 @@
 use mathlib.Core.Path.{_≡_, refl, sym, ap, ap₂, _∙_}
 use mathlib.Core.Bool.{cond}
 use mathlib.Core.List.{List, [], _∷_, _++_}
-use Prim.Native.Nat.{ℕ, _*_, _≤_, _<_}
+use Prim.Native.Nat.{ℕ, _+_, _-_, _*_, _%_, _^_, _≤_, _<_}
 use native.Mathlib.Omega.{arith}
 use lib.ListN.{length, getD}
 use Rattle.bits.specs.Bits.{bits-empty, word-count}
@@ -24,7 +24,8 @@ use Rattle.dispatcher.specs.Held.{held-of as held}
 use Rattle.dispatcher.specs.Values.{mark-of}
 use Rattle.push.specs.Local.{Fixed, Step, fixed-of}
 use Rattle.push.specs.Applied.{record-to, record-of, held-of}
-use Rattle.records.specs.Flat.{filled, dispatch-of}
+use Rattle.records.specs.Flat.{filled, record-words}
+use Rattle.records.proofs.Filled.{record-flat}
 use Rattle.turns.specs.declared.turn.Step as steps
 use Rattle.turns.specs.Turns.{step-of, Serving, ledger-under}
 
@@ -57,9 +58,9 @@ module _ {e d t n : ℕ} {ws : List ℕ} (h : Serving e ws d t n) (k : ℕ) (wit
       omega arith
 
   -- the record made of what was read
-  pub record-read : (id w : ℕ) (y : marks.Mark) (x : steps.Step) → x .position ≡ k → mark-of y ≡ mark-at (dispatcher-nth (decode ws) d) k
-      → w ≡ cond (bits-empty (words (y .unacked))) 0 (word-count (m .«batch_size»))
-      → dispatch-of (record {
+  pub record-read : (id w p : ℕ) (y : marks.Mark) (x : steps.Step) → x .position ≡ k → mark-of y ≡ mark-at (dispatcher-nth (decode ws) d) k
+      → w ≡ cond (bits-empty (words (y .unacked))) 0 (word-count (m .«batch_size»)) → p ≡ (x .permits + (2 ^ 64 - 2 ^ 62)) % 2 ^ 64
+      → record-words (record {
         consumer = id;
         ledger = m .ledger;
         entry = m .entry;
@@ -69,19 +70,20 @@ module _ {e d t n : ℕ} {ws : List ℕ} (h : Serving e ws d t n) (k : ℕ) (wit
         «ack_set» = y .unacked;
         «redelivery_count» = y .«redelivery_count»;
         cost = x .price;
-        permits = x .permits;
+        permits = p;
       })
-      ≡ record-to id (fixed-of (decode ws) (dispatcher-nth (decode ws) d)) (step-of x)
-  unfolding dispatch-of record-to fixed-of step-of mark-of mark-at
-  record-read id w y x p r s =
-      rw s
+      ≡ flat (record-to id (fixed-of (decode ws) (dispatcher-nth (decode ws) d)) (step-of x))
+  unfolding record-to fixed-of step-of mark-of mark-at
+  record-read id w p y x q r s t =
+      record-flat _ (x .permits) t
+      (rw s
       (ap₂ {A = StoredMessage} {B = Mark} {C = Dispatch} (λ a b. recorded id a b (step-of x)) message-here r
-      ∙ ap (λ (j : ℕ). recorded id (message-at (ledger-under (decode ws) d) j) (getD (dispatcher-nth (decode ws) d .marks) j new-mark) (step-of x)) (sym p))
+      ∙ ap (λ (j : ℕ). recorded id (message-at (ledger-under (decode ws) d) j) (getD (dispatcher-nth (decode ws) d .marks) j new-mark) (step-of x)) (sym q)))
 
 -- one record written
-pub one-filled : {us : List ℕ} (list : List ℕ) (m : ℕ) (x y : Dispatch) → us ≡ lay (flat x) .run (m * 13) list → x ≡ y → us ≡ filled list m (y ∷ [])
+pub one-filled : {us l : List ℕ} (list : List ℕ) (m : ℕ) (x : Dispatch) → us ≡ lay l .run (m * 13) list → l ≡ flat x → us ≡ filled list m (x ∷ [])
 unfolding filled
-one-filled list m x y w e = w ∙ ap (λ (z : Dispatch). lay (flat z) .run (m * 13) list) e
+one-filled list m x w e = w ∙ ap (λ (z : List ℕ). lay z .run (m * 13) list) e
 
 -- the record to a consumer found by its slot
 pub record-found : (s : State) (f : Fixed) (id : ℕ) (x : Step) → id ≡ consumer-nth s (x .consumer) .id → record-to id f x ≡ record-of s f x

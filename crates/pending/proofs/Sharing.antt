@@ -2,7 +2,7 @@
 -- What is left to serve, with what is written, is the whole.
 use mathlib.Core.Path.{_≡_, refl, sym, ap, ap₂, _∙_, subst}
 use mathlib.Core.Bool.{true}
-use mathlib.Core.List.{List, [], _∷_, _++_, map, append-nil}
+use mathlib.Core.List.{List, [], _∷_, _++_, map}
 use Prim.Native.Nat.{ℕ, suc, _+_, _-_, _*_, _≤_, _<_}
 use native.Mathlib.Omega.{arith}
 use native.Mathlib.Numerals.{add-one}
@@ -11,7 +11,7 @@ use lib.Seq.{drop-cons, append-snoc, set-at, getD-at}
 use Rattle.words.specs.Codec.{All}
 use Rattle.words.proofs.Each.{all-set}
 use Rattle.rules.specs.State.{Dispatcher, State, topic-of, ledger-of, with-dispatchers}
-use Rattle.rules.specs.Valid.{Valid, Valid-dispatcher}
+use Rattle.rules.specs.Valid.{Valid-dispatcher}
 use Rattle.rules.specs.Outcome.{Dispatch}
 use Rattle.rules.proofs.Kept.Frame.{move-dispatcher}
 use Rattle.layout.specs.Layout.{decode, put, spells}
@@ -21,13 +21,13 @@ use Rattle.layout.specs.Fields.{zero-dispatcher, dispatcher-nth, set-dispatcher
 use Rattle.layout.proofs.Store.{canon-entries, put-decode}
 use Rattle.layout.proofs.Placed.{dispatcher-in}
 use Rattle.frame.proofs.Frame.{canon-of, canon-after, decode-after, then-write, valid-now, every-nth}
-use Rattle.push.specs.Local.{Steps, fixed-of, served, turns-of, local-of}
-use Rattle.push.specs.Applied.{record-of, held-of, applied-dispatcher}
+use Rattle.push.specs.Local.{Steps, fixed-of, served, turns-of}
+use Rattle.push.specs.Applied.{record-of, held-of}
 use Rattle.push.specs.Shared.{Service, services, permits-left, service-records, all-service-records, served-dispatcher}
-use Rattle.push.proofs.Turns.{turns-sized}
+use Rattle.push.proofs.Shared.{served-sized}
 use Rattle.records.specs.Flat.{filled}
 use Rattle.records.proofs.Filled.{filled-append, filled-length}
-use Rattle.turns.proofs.Totals.{services-from}
+use Rattle.turns.proofs.Totals.{services-from, services-step}
 use Rattle.pending.specs.Service.{service-of, Ready}
 
 -- ---- a state with other dispatchers serves a dispatcher the same
@@ -50,11 +50,6 @@ module _ (s : State) (ds : List Dispatcher) where
   records-same : (v : Service) → service-records T v ≡ service-records s v
   unfolding service-records record-of fixed-of with-dispatchers ledger-of topic-of
   records-same v = refl
-
--- a service keeps the number of permits
-pub served-sized : (s : State) (x : Dispatcher) (ps : List ℕ) → length (served s x ps .after .permits) ≡ length ps
-unfolding served local-of
-served-sized s x ps = turns-sized (turns-of s x) (fixed-of s x) (local-of x ps)
 
 -- from the words ws, the permits ps and the list ls: now the words us, and the same for the others, with m records written
 pub record Sharing (e : ℕ) (ws ps ls us qs ks : List ℕ) (d m : ℕ) : Type 0 where
@@ -189,16 +184,11 @@ module _ {e : ℕ} (ws : List ℕ) (spelt : spells ws ≡ true) (E : e ≡ decod
       its-records : service-records (decode us) (service-of (decode us) d qs) ≡ service-records s v
       its-records = ap₂ {A = State} {B = Service} {C = List Dispatch} service-records state-now service-now ∙ records-same s rows v
 
-      -- the services from here on
-      from-here : services-from s d qs ≡ v ∷ services-from s (suc d) (v .steps .after .permits)
-      unfolding services
-      from-here = ap (λ (r : List Dispatcher). services s r qs) (drop-cons ds d zero-dispatcher l)
-
       counted : length (all-service-records s (services-from s d qs))
           ≡ length (served s x qs .made) + length (all-service-records s (services-from s (suc d) (v .steps .after .permits)))
       unfolding all-service-records service-records
       counted =
-          ap (λ (r : List Service). length (all-service-records s r)) from-here
+          ap (λ (r : List Service). length (all-service-records s r)) (services-step s qs d l)
           ∙ length-append (service-records s v) (all-service-records s (services-from s (suc d) (v .steps .after .permits)))
           ∙ ap (λ (n : ℕ). n + length (all-service-records s (services-from s (suc d) (v .steps .after .permits)))) (length-map (served s x qs .made) (record-of s (fixed-of s x)))
 
@@ -244,7 +234,7 @@ module _ {e : ℕ} (ws : List ℕ) (spelt : spells ws ≡ true) (E : e ≡ decod
         after-on = b ∙ ap (λ (r : Steps). r .after .permits) steps-now
 
         on : services-from s d qs ≡ v ∷ services-from s (suc d) rs
-        on = rw after-on from-here
+        on = rw after-on (services-step s qs d l)
 
         pub sharing-on : Sharing e ws ps ls vs rs ns (d + 1) k
         unfolding permits-left all-service-records service-records

@@ -17,7 +17,7 @@ use Rattle.layout.specs.Whole.{Shaped-dispatcher}
 use Rattle.layout.specs.Fields.{dispatcher-nth, set-dispatcher}
 use Rattle.layout.specs.Placed.{Dispatcher-in}
 use Rattle.frame.proofs.Moved.{Moved, moved-start, moved-on}
-use Rattle.dispatcher.specs.declared.head.Head as numbers
+use Rattle.heads.specs.declared.Head as numbers
 use Rattle.dispatcher.specs.Values.{head-of, with-head}
 use Rattle.push.specs.Local.{Fixed, Local, Step, Steps, local-turn, local-turns, fixed-of, local-of, turns-of, served}
 use Rattle.push.specs.Local.Local-turn.{stop, move}
@@ -64,6 +64,7 @@ pub record Writing (e d : ℕ) (ws ps ls : List ℕ) (from : ℕ) (us qs ks : Li
   pub count-same : m + length (rest ws d (local-from qs h taken) .made) ≡ from + length (whole ws d ps .made)
   pub room : length flight + left (fixed ws d) (local-from qs h taken) ≤ e
   pub as-long : length ks ≡ length ls
+  pub mark-same : h .«mark_delete» ≡ dispatcher-nth (decode ws) d .mark-delete
 
 module _ {e d t n : ℕ} {ws : List ℕ} (v : Serving e ws d t n) where
   abbrev x : Dispatcher
@@ -90,6 +91,7 @@ module _ {e d t n : ℕ} {ws : List ℕ} (v : Serving e ws d t n) where
         count-same = ap (λ (r : Steps). from + length (r .made)) whole-rest;
         room = rw q (omega (arith, c, l));
         as-long = refl;
+        mark-same = ap (λ (z : numbers.Head). z .«mark_delete») q;
       }
 
   module _ {ps ls us qs ks : List ℕ} {from : ℕ} {h : numbers.Head} {taken m : ℕ} (w : Writing e d ws ps ls from us qs ks h taken m) where
@@ -165,10 +167,10 @@ module _ {e d t n : ℕ} {ws : List ℕ} (v : Serving e ws d t n) where
       -- it is written
       pub writing-on : {vs ns : List ℕ}
           → vs ≡ put us (set-dispatcher (decode us) d (with-places (dispatcher-nth (decode us) d) (dispatcher-nth (decode us) d .redelivery) (dispatcher-nth (decode us) d .in-flight ++ held-of (decode us) z ∷ [])))
-          → ns ≡ filled ks m (record-of (decode us) (fixed us d) z ∷ [])
+          → ns ≡ filled ks m (record-of (decode us) (fixed us d) z ∷ []) → k .«mark_delete» ≡ h .«mark_delete»
           → Writing e d ws ps ls from vs rs ns k count (m + 1)
       unfolding with-places local-from filled
-      writing-on {vs} {ns} a b =
+      writing-on {vs} {ns} a b same-mark =
           let y : Held = held-of (decode ws) z in
           let r : Dispatch = record-of (decode ws) (fixed ws d) z in
           let g : Dispatcher → Dispatcher = λ q. with-places q (q .redelivery) (q .in-flight ++ y ∷ []) in
@@ -201,6 +203,7 @@ module _ {e d t n : ℕ} {ws : List ℕ} (v : Serving e ws d t n) where
             count-same = omega (arith, counted, longer);
             room = omega (arith, more, some, less);
             as-long = ap length b ∙ filled-length ks m (record-of (decode us) (fixed us d) z ∷ []) ∙ w .as-long;
+            mark-same = same-mark ∙ w .mark-same;
           }
 
     -- ---- the turn that stops
@@ -216,6 +219,11 @@ module _ {e d t n : ℕ} {ws : List ℕ} (v : Serving e ws d t n) where
       pub taken-there : count ≤ length (dispatcher-nth (decode us) d .redelivery)
       unfolding local-from fixed-of
       taken-there = rw queue-now (stop-in-lists (fixed ws d) l (local-from rs k count) (w .ranged .lists-in) stopped .0)
+
+      -- mark-delete is as it was
+      pub mark-there : k .«mark_delete» ≡ h .«mark_delete» → k .«mark_delete» ≡ dispatcher-nth (decode us) d .mark-delete
+      unfolding with-places
+      mark-there q = q ∙ w .mark-same ∙ sym (ap (λ (z : Dispatcher). z .mark-delete) (w .moved .now))
 
       last : local-from rs k count ≡ whole ws d ps .after
       last = sym (ap (λ (s : Steps). s .after) done) ∙ w .after-same
@@ -284,19 +292,17 @@ module _ {e d : ℕ} {ws us : List ℕ} (taken : ℕ) (h : Dispatcher-in e ws d)
   pub dropped-in : Dispatcher-in e us d
   dropped-in = dropped .here
 
-  -- then the numbers stored, mark-delete as it was
-  pub finished : {vs : List ℕ} (k : numbers.Head) (delete : ℕ) → delete ≡ dispatcher-nth (decode us) d .mark-delete
-      → vs ≡ put us (set-dispatcher (decode us) d (with-head (dispatcher-nth (decode us) d) (record { next = k .next; cursor = k .cursor; «mark_delete» = delete; «total_available_permits» = k .«total_available_permits» })))
+  -- then the numbers stored
+  pub finished : {vs : List ℕ} (k : numbers.Head) → k .«mark_delete» ≡ dispatcher-nth (decode ws) d .mark-delete
+      → vs ≡ put us (set-dispatcher (decode us) d (with-head (dispatcher-nth (decode us) d) k))
       → vs ≡ put ws (set-dispatcher (decode ws) d (applied-dispatcher (dispatcher-nth (decode ws) d) (local-from [] k taken) []))
   unfolding with-places with-head applied-dispatcher local-from
-  finished {vs} k delete q b =
+  finished {vs} k same b =
       let x = dispatcher-nth (decode ws) d in
-      let y : numbers.Head = record { next = k .next; cursor = k .cursor; «mark_delete» = delete; «total_available_permits» = k .«total_available_permits» } in
       let f = dropped .here .lists-fit in
       let z : Dispatcher = with-places x (drop taken (x .redelivery)) (x .in-flight) in
       let g : Shaped-dispatcher e z = rw (← dropped .now) f in
-      let same : delete ≡ x .mark-delete = q ∙ ap (λ (p : Dispatcher). p .mark-delete) (dropped .now) in
-      moved-on h dropped (λ p. with-head p y)
+      moved-on h dropped (λ p. with-head p k)
       (record { ring-fits = g .ring-fits; outside-fits = g .outside-fits; queue-fits = g .queue-fits; flight-fits = g .flight-fits; marks-fit = g .marks-fit }) b .words
       ∙ ap₂ {A = ℕ} {B = List Held} {C = List ℕ}
       (λ n i.

@@ -1,5 +1,7 @@
-// Push: the number due is counted on local numbers, and 15 is answered with it before the first write if
-// the list has no room for as many records. Then the shared part and the plain part are written.
+// Push: the shared part and the plain part are written, if the list has room for their records. It surely
+// has if it has room for all entries that wait; else the number due is counted first, on local numbers,
+// and 15 is answered with it before the first write if the list has no room for as many.
+use super::bound::most_due;
 use super::shared::push_pending_shared;
 use commands::answers::entries;
 use commands::answers::value;
@@ -51,26 +53,28 @@ fn due(store: &[u64], e: usize) -> usize
     due_with(store, e, &mut permits[..n])
 }
 
-// What is due is dispatched, with a list for the permits.
-fn push_with(store: &mut [u64], e: usize, permits: &mut [u64], list: &mut [u64])
+// What is due is dispatched, with a list for the permits; the answer is how many dispatches were made.
+fn push_with(store: &mut [u64], e: usize, permits: &mut [u64], list: &mut [u64]) -> usize
     requires { ⌜ (spells (now store) ≡ true) × (e ≡ decode (now store) .entries) × (length (now permits) ≡ length (decode (now store) .consumers)) × (length (local-push (decode (now store)) .dispatched) * 13 ≤ length (now list)) ⌝ }
+    ensures value { λ r. ⌜ r ≡ length (local-push (decode (now (store .entry))) .dispatched) ⌝ }
     ensures words { λ _. ⌜ now (store .exit) ≡ put (now (store .entry)) (local-push (decode (now (store .entry))) .state) ⌝ }
     ensures records { λ _. ⌜ now (list .exit) ≡ filled (now (list .entry)) 0 (local-push (decode (now (store .entry))) .dispatched) ⌝ }
 {
     load_permits(store, e, permits);
     let m = push_pending_shared(store, e, permits, list);
-    serve_plain(store, e, permits, list, m);
+    serve_plain(store, e, permits, list, m)
 }
 
-// What is due is dispatched; the list has room for its records.
-fn push_pending(store: &mut [u64], e: usize, list: &mut [u64])
+// What is due is dispatched; the list has room for its records. The answer is how many were made.
+fn push_pending(store: &mut [u64], e: usize, list: &mut [u64]) -> usize
     requires { ⌜ (spells (now store) ≡ true) × (e ≡ decode (now store) .entries) × (length (local-push (decode (now store)) .dispatched) * 13 ≤ length (now list)) ⌝ }
+    ensures value { λ r. ⌜ r ≡ length (local-push (decode (now (store .entry))) .dispatched) ⌝ }
     ensures words { λ _. ⌜ now (store .exit) ≡ put (now (store .entry)) (local-push (decode (now (store .entry))) .state) ⌝ }
     ensures records { λ _. ⌜ now (list .exit) ≡ filled (now (list .entry)) 0 (local-push (decode (now (store .entry))) .dispatched) ⌝ }
 {
     let n = word(store, 16);
     let mut permits = [0u64; 32];
-    push_with(store, e, &mut permits[..n], list);
+    push_with(store, e, &mut permits[..n], list)
 }
 
 // 15 with the number due if more dispatches are due than the list holds records of 13 words. The value is
@@ -82,10 +86,13 @@ pub fn push(store: &mut [u64], list: &mut [u64]) -> u64
     ensures records { λ _. ⌜ now (list .exit) ≡ list-after (now (list .entry)) (outcome (now (store .entry)) (Push (length (now (list .entry)) / 13))) ⌝ }
 {
     let e = entries(store);
-    let n = due(store, e);
-    if list.len() / 13 < n {
-        return value(n as u64) + 15;
+    let room = list.len() / 13;
+    if room < most_due(store, e) {
+        let n = due(store, e);
+        if room < n {
+            return value(n as u64) + 15;
+        }
     }
-    push_pending(store, e, list);
-    value(n as u64)
+    let made = push_pending(store, e, list);
+    value(made as u64)
 }

@@ -5,6 +5,7 @@ use dispatcher::flight::append_flight;
 use dispatcher::marks::load_mark;
 use ledger::message::load_message;
 use records::record::Dispatch;
+use records::record::signed;
 use records::record::write_record;
 use turns::turn::Step;
 ghost use mathlib.Core.Path.{_≡_};
@@ -15,11 +16,12 @@ ghost use lib.ListN.{length};
 ghost use Rattle.bits.specs.Bits.{bits-empty, word-count};
 ghost use Rattle.bits.specs.Four.{words};
 ghost use Rattle.rules.specs.Dispatcher.{with-places};
+ghost use Rattle.rules.specs.Push.{flat};
 ghost use Rattle.layout.specs.Layout.{decode, put};
 ghost use Rattle.layout.specs.Fields.{consumer-nth, dispatcher-nth, set-dispatcher};
 ghost use Rattle.push.specs.Local.{fixed-of};
 ghost use Rattle.push.specs.Applied.{record-to, record-of, held-of};
-ghost use Rattle.records.specs.Flat.{filled, dispatch-of};
+ghost use Rattle.records.specs.Flat.{filled, record-words};
 ghost use Rattle.turns.specs.Turns.{step-of, Serving};
 
 // The number of words of an entry's ack set: as many as its batch takes, none without stored bits.
@@ -36,7 +38,7 @@ fn ack_set_words(bits: UnackedBits, batch: u64) -> u64
 // The record of a step of dispatcher `d`, to the consumer `id`.
 fn record_to(store: &[u64], e: usize, d: usize, t: usize, n: usize, id: u64, step: Step) -> Dispatch
     requires { ⌜ Serving e (now store) d t n × (step .position < n) ⌝ }
-    ensures { λ r. ⌜ dispatch-of r ≡ record-to id (fixed-of (decode (now (store .entry))) (dispatcher-nth (decode (now (store .entry))) d)) (step-of step) ⌝ }
+    ensures { λ r. ⌜ record-words r ≡ flat (record-to id (fixed-of (decode (now (store .entry))) (dispatcher-nth (decode (now (store .entry))) d)) (step-of step)) ⌝ }
 {
     let message = load_message(store, e, t, step.position);
     let mark = load_mark(store, e, d, step.position);
@@ -52,7 +54,7 @@ fn record_to(store: &[u64], e: usize, d: usize, t: usize, n: usize, id: u64, ste
         ack_set: bits,
         redelivery_count: mark.redelivery_count,
         cost: step.price,
-        permits: step.permits,
+        permits: signed(step.permits),
     }
 }
 

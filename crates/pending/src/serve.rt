@@ -1,12 +1,11 @@
 // A dispatcher served: its turns on local numbers again, each written as it is made; then what was taken
 // leaves the queue at once, and the numbers are stored.
 use super::deliver::deliver;
-use dispatcher::head::Head;
 use dispatcher::head::load_head;
-use dispatcher::head::mark_delete;
 use dispatcher::head::save_head;
 use dispatcher::queue::drop_queue;
 use dispatcher::ring::ring_count;
+use heads::Head;
 use store::find::find_topic;
 use store::find::ledger_length;
 use store::offsets::dispatcher_at;
@@ -30,17 +29,11 @@ ghost use Rattle.pending.specs.Service.{service-of, Ready};
 
 // Dispatcher `d` after its turns: the first `taken` positions leave its queue, and its numbers are those of `head`.
 fn finish(store: &mut [u64], e: usize, d: usize, head: Head, taken: usize)
-    requires { ⌜ Dispatcher-in e (now store) d × (taken ≤ length (dispatcher-nth (decode (now store)) d .redelivery)) ⌝ }
+    requires { ⌜ Dispatcher-in e (now store) d × (taken ≤ length (dispatcher-nth (decode (now store)) d .redelivery)) × (head .«mark_delete» ≡ dispatcher-nth (decode (now store)) d .mark-delete) ⌝ }
     ensures { λ _. ⌜ now (store .exit) ≡ put (now (store .entry)) (set-dispatcher (decode (now (store .entry))) d (applied-dispatcher (dispatcher-nth (decode (now (store .entry))) d) (local-from [] head taken) [])) ⌝ }
 {
     drop_queue(store, e, d, taken);
-    let kept = Head {
-        next: head.next,
-        cursor: head.cursor,
-        mark_delete: mark_delete(store, e, d),
-        total_available_permits: head.total_available_permits,
-    };
-    save_head(store, e, d, kept);
+    save_head(store, e, d, head);
 }
 
 // Serves dispatcher `d`, whose ring is `ring`, and whose ledger of `n` entries is that of topic `t`. Records are

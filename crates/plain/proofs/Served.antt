@@ -237,8 +237,19 @@ module _ {ws₀ ps list₀ : List ℕ} {m : ℕ} {ws list : List ℕ} {at i : �
   going-words = g .words ∙ ap (put ws₀) (until-all (decode ws₀) ps i l)
 
   -- none is left
+  none-left : drop i (with-each (decode ws₀ .consumers) ps) ≡ []
+  none-left = drop-of-length-le (with-each (decode ws₀ .consumers) ps) {i = i} (rw (length-each (decode ws₀ .consumers) ps) l)
+
+  -- all are counted
+  pub going-count : at ≡ m + length (all-plain-records (decode ws₀) (with-each (decode ws₀ .consumers) ps))
+  unfolding all-plain-records
+  going-count =
+      let none : length (all-plain-records (decode ws₀) (drop i (with-each (decode ws₀ .consumers) ps))) ≡ 0 =
+      ap (λ (k : List Consumer). length (all-plain-records (decode ws₀) k)) none-left in
+      let all = g .count in
+      omega arith
+
+  -- and written
   pub going-records : list ≡ filled list₀ m (all-plain-records (decode ws₀) (with-each (decode ws₀ .consumers) ps))
   unfolding filled all-plain-records
-  going-records =
-      let none : drop i (with-each (decode ws₀ .consumers) ps) ≡ [] = drop-of-length-le (with-each (decode ws₀ .consumers) ps) {i = i} (rw (length-each (decode ws₀ .consumers) ps) l) in
-      ap (λ (k : List Consumer). filled list at (all-plain-records (decode ws₀) k)) (sym none) ∙ g .records
+  going-records = ap (λ (k : List Consumer). filled list at (all-plain-records (decode ws₀) k)) (sym none-left) ∙ g .records

@@ -31,7 +31,7 @@ fn permitted(permits: u64, n: usize) -> usize
 }
 
 // How many entries wait for consumer `i`.
-fn waiting(store: &[u64], e: usize, i: usize) -> usize
+pub fn waiting(store: &[u64], e: usize, i: usize) -> usize
     requires { ⌜ Consumer-in e (now store) i ⌝ }
     ensures { λ r. ⌜ r ≡ length (consumer-nth (decode (now (store .entry))) i .nacked) + (length (ledger-for (decode (now (store .entry))) (consumer-nth (decode (now (store .entry))) i)) - consumer-nth (decode (now (store .entry))) i .cursor) ⌝ }
 {

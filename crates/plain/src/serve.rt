@@ -8,6 +8,7 @@ use commands::consumer::set_permits;
 use commands::consumer::topic;
 use ledger::message::load_message;
 use records::record::Dispatch;
+use records::record::signed;
 use records::record::write_record;
 use store::find::find_topic;
 ghost use mathlib.Core.Path.{_≡_};
@@ -24,13 +25,13 @@ ghost use Rattle.layout.specs.Fields.{consumer-nth, topic-nth, set-consumer};
 ghost use Rattle.layout.specs.Placed.{Consumer-in, Topic-in};
 ghost use Rattle.push.specs.Applied.{with-each};
 ghost use Rattle.push.specs.Plain.{plain-due, plain-records, ledger-for, plain-served, all-plain-records};
-ghost use Rattle.records.specs.Flat.{dispatch-of, filled};
+ghost use Rattle.records.specs.Flat.{filled, record-words};
 ghost use Rattle.plain.specs.Reading.{record-to, entry-record, entries-taken, Readable-consumer, Readable, Sendable};
 
 // The record of message `k` of topic `t`, to the consumer with an id, with its permits after it.
 fn plain_record(store: &[u64], e: usize, t: usize, k: usize, id: u64, permits: u64) -> Dispatch
     requires { ⌜ Topic-in e (now store) t × (k < length (topic-nth (decode (now store)) t .messages)) ⌝ }
-    ensures { λ r. ⌜ dispatch-of r ≡ record-to (topic-nth (decode (now (store .entry))) t .messages) id k permits ⌝ }
+    ensures { λ r. ⌜ record-words r ≡ flat (record-to (topic-nth (decode (now (store .entry))) t .messages) id k permits) ⌝ }
 {
     let m = load_message(store, e, t, k);
     let none = UnackedBits {
@@ -49,7 +50,7 @@ fn plain_record(store: &[u64], e: usize, t: usize, k: usize, id: u64, permits: u
         ack_set: none,
         redelivery_count: 0,
         cost: 1,
-        permits,
+        permits: signed(permits),
     }
 }
 
@@ -137,9 +138,16 @@ fn serve_consumer(
 }
 
 // Every consumer, by ascending slot, gets its permits of `permits`, and a plain one what it is then
-// due. Records go from record `m` of the list on.
-pub fn serve_plain(store: &mut [u64], e: usize, permits: &[u64], list: &mut [u64], m: usize)
+// due. Records go from record `m` of the list on; the answer is the number of the record after the last.
+pub fn serve_plain(
+    store: &mut [u64],
+    e: usize,
+    permits: &[u64],
+    list: &mut [u64],
+    m: usize,
+) -> usize
     requires { ⌜ Canon-store e (now store) × Readable (decode (now store)) × (length (now permits) ≡ length (decode (now store) .consumers)) × ((m + length (all-plain-records (decode (now store)) (with-each (decode (now store) .consumers) (now permits)))) * 13 ≤ length (now list)) ⌝ }
+    ensures value { λ r. ⌜ r ≡ m + length (all-plain-records (decode (now (store .entry))) (with-each (decode (now (store .entry)) .consumers) (now (permits .entry)))) ⌝ }
     ensures words { λ _. ⌜ now (store .exit) ≡ put (now (store .entry)) (with-consumers (decode (now (store .entry))) (map (plain-served (decode (now (store .entry)))) (with-each (decode (now (store .entry)) .consumers) (now (permits .entry))))) ⌝ }
     ensures records { λ _. ⌜ now (list .exit) ≡ filled (now (list .entry)) m (all-plain-records (decode (now (store .entry))) (with-each (decode (now (store .entry)) .consumers) (now (permits .entry)))) ⌝ }
 {
@@ -150,4 +158,5 @@ pub fn serve_plain(store: &mut [u64], e: usize, permits: &[u64], list: &mut [u64
         at = serve_consumer(store, e, i, permits[i], list, at);
         i += 1;
     }
+    at
 }

@@ -135,7 +135,7 @@ mem-map f [] x m = absurd (List·Memᴰ·not-nil m)
 mem-map f (y ∷ l) x m = ⊎-elim (λ e. List·Memᴰ·head (ap f e)) (λ k. List·Memᴰ·tail (mem-map f l x k)) (List·Memᴰ·cases-cons m)
 
 -- a service keeps the number of permits
-served-sized : (s : State) (d : Dispatcher) (P : List ℕ) → length (served s d P .after .permits) ≡ length P
+pub served-sized : (s : State) (d : Dispatcher) (P : List ℕ) → length (served s d P .after .permits) ≡ length P
 unfolding served local-of
 served-sized s d P = turns-sized (turns-of s d) (fixed-of s d) (local-of d P)
 

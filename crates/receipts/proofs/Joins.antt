@@ -1,11 +1,11 @@
 -- The nacked positions of a consumer while found ones join them: what was written and what is ahead make up the whole.
 use mathlib.Core.Path.{_≡_, refl, sym, ap, _∙_}
-use mathlib.Core.List.{List, [], _∷_, _++_}
+use mathlib.Core.List.{List, [], _∷_, _++_, append-nil, append-assoc}
 use Prim.Native.Nat.{ℕ, _+_, _≤_, _<_, zero, suc}
 use native.Mathlib.Nat.{le-of-suc-le-suc}
 use native.Mathlib.Omega.{arith}
-use lib.ListN.{length, length-set, set, getD}
-use lib.Seq.{getD-set-same}
+use lib.ListN.{length, length-append, length-set, set, getD}
+use lib.Seq.{set-getD, getD-set-same}
 use Rattle.rules.specs.State.{Consumer, State, StoredMessage, ledger-of, topic-of, with-consumers}
 use Rattle.groups.specs.Walk.{Stands, group-at, groups-from, end-at}
 use Rattle.groups.proofs.Walks.{Turn, stands-end}
@@ -19,33 +19,12 @@ use Rattle.layout.specs.Fields.{zero-consumer, consumer-nth, set-consumer}
 use Rattle.layout.specs.Placed.{Consumer-in}
 use Rattle.layout.proofs.Store.{put-decode}
 
--- a list with an element set to itself
-pub set-same : {A : Type 0} (l : List A) (i : ℕ) (z : A) → i < length l → set l i (getD l i z) ≡ l
-set-same [] i z h = refl
-set-same (a ∷ l) zero z h = refl
-set-same {A} (a ∷ l) (suc i) z h = ap (λ (r : List A). a ∷ r) (set-same l i z (le-of-suc-le-suc h))
-
--- nothing joins
-append-nil : {A : Type 0} (l : List A) → l ++ [] ≡ l
-append-nil [] = refl
-append-nil {A} (a ∷ l) = ap (λ (r : List A). a ∷ r) (append-nil l)
-
 -- words that stay are those of a consumer that nothing joined
 pub joined-nothing : {e : ℕ} {ws : List ℕ} (i : ℕ) → Consumer-in e ws i
     → ws ≡ put ws (set-consumer (decode ws) i (with-reading (consumer-nth (decode ws) i) (consumer-nth (decode ws) i .cursor) (consumer-nth (decode ws) i .nacked ++ [])))
 unfolding with-reading set-consumer with-consumers
 joined-nothing {e} {ws} i h =
-    rw (append-nil (consumer-nth (decode ws) i .nacked), set-same (decode ws .consumers) i zero-consumer (h .there)) (sym (put-decode (h .canon)))
-
--- joins in either order
-append-assoc : {A : Type 0} (l m n : List A) → l ++ m ++ n ≡ l ++ (m ++ n)
-append-assoc [] m n = refl
-append-assoc {A} (a ∷ l) m n = ap (λ (r : List A). a ∷ r) (append-assoc l m n)
-
--- a join is as long as its parts
-pub append-length : {A : Type 0} (l m : List A) → length (l ++ m) ≡ length l + length m
-append-length [] m = omega arith
-append-length (a ∷ l) m = let h = append-length l m in omega arith
+    rw (append-nil (consumer-nth (decode ws) i .nacked), set-getD (decode ws .consumers) i zero-consumer) (sym (put-decode (h .canon)))
 
 -- the words us are ws with other nacked positions of consumer i, and those with what is ahead are the whole
 pub record Joining (ws us : List ℕ) (i topic : ℕ) (list : List ℕ) (at : ℕ) : Type 0 where
@@ -58,7 +37,7 @@ pub record Joining (ws us : List ℕ) (i topic : ℕ) (list : List ℕ) (at : �
 pub joining-start : {e : ℕ} {ws : List ℕ} (i topic : ℕ) (list : List ℕ) → Consumer-in e ws i → Stands list 0 → Joining ws ws i topic list 0
 unfolding with-reading set-consumer with-consumers
 joining-start {e} {ws} i topic list h s =
-    record { stands = s; written = rw (set-same (decode ws .consumers) i zero-consumer (h .there)) (sym (put-decode (h .canon))); whole = refl }
+    record { stands = s; written = rw (set-getD (decode ws .consumers) i zero-consumer) (sym (put-decode (h .canon))); whole = refl }
 
 -- E as the state has it
 entries-here : {e : ℕ} {ws : List ℕ} → Canon-store e ws → decode ws .entries ≡ e
@@ -69,7 +48,7 @@ module _ {e : ℕ} {ws us : List ℕ} (i topic : ℕ) (list : List ℕ) (at : �
     (b : length (consumer-nth (decode ws) i .nacked ++ found-positions (ledger-of (decode ws) topic) (groups-from list 0)) ≤ 64) where
   -- the positions so far fit
   fit : length (consumer-nth (decode us) i .nacked) + length (found-positions (ledger-of (decode ws) topic) (groups-from list at)) ≤ 64
-  fit = let e = ap (λ (l : List ℕ). length l) (j .whole) in let f = append-length (consumer-nth (decode us) i .nacked) (found-positions (ledger-of (decode ws) topic) (groups-from list at)) in omega arith
+  fit = let e = ap (λ (l : List ℕ). length l) (j .whole) in let f = length-append (consumer-nth (decode us) i .nacked) (found-positions (ledger-of (decode ws) topic) (groups-from list at)) in omega arith
 
   -- the state now
   state-now : decode us ≡ set-consumer (decode ws) i (with-reading (consumer-nth (decode ws) i) (consumer-nth (decode ws) i .cursor) (consumer-nth (decode us) i .nacked))
@@ -112,7 +91,7 @@ module _ {e : ℕ} {ws us : List ℕ} (i topic : ℕ) (list : List ℕ) (at : �
       let g : List ℕ = found-positions l (group-at list at ∷ []) in
       let room = joining-room k in
       let sl = ap (λ (m : List StoredMessage). length (found-positions m (group-at list at ∷ []))) same-ledger in
-      let long = append-length x g in
+      let long = length-append x g in
       let f′ : vs ≡ put us (set-consumer (decode us) i (with-reading (consumer-nth (decode us) i) (consumer-nth (decode us) i .cursor) (consumer-nth (decode us) i .nacked ++ g))) =
       f ∙ ap (λ (m : List StoredMessage). put us (set-consumer (decode us) i (with-reading (consumer-nth (decode us) i) (consumer-nth (decode us) i .cursor) (consumer-nth (decode us) i .nacked ++ found-positions m (group-at list at ∷ []))))) same-ledger in
       let w : vs ≡ put ws (set-consumer (decode ws) i (with-reading c (c .cursor) (x ++ g))) =

@@ -10,7 +10,7 @@ use Rattle.words.specs.Act.{lay}
 use Rattle.rules.specs.Outcome.{Dispatch}
 use Rattle.rules.specs.Push.{flat, flat-records}
 use Rattle.layout.specs.Calls.{with-records}
-use Rattle.records.specs.Flat.{filled, dispatch-of}
+use Rattle.records.specs.Flat.{filled, record-words}
 use Rattle.records.specs.declared.record.Dispatch as declared
 
 -- thirteen words written one after the other
@@ -34,13 +34,33 @@ thirteen-words a b c d f g h i j k l m n to ws =
     rw (one, two, three, four, five, six, seven, eight, nine, ten, eleven, twelve)
 
 -- a whole record written
-pub record-written : (x : declared.Dispatch) (permits to : ℕ) (ws : List ℕ) → permits ≡ (x .permits + (2 ^ 64 - 2 ^ 62)) % 2 ^ 64
-    → set (set (set (set (set (set (set (set (set (set (set (set (set ws to (x .consumer)) (to + 1) (x .ledger)) (to + 2) (x .entry)) (to + 3) (x .handle)) (to + 4) (x .«batch_size»)) (to + 5) (x .«ack_set_words»)) (to + 6) (x .«ack_set» .w0)) (to + 7) (x .«ack_set» .w1)) (to + 8) (x .«ack_set» .w2)) (to + 9) (x .«ack_set» .w3)) (to + 10) (x .«redelivery_count»)) (to + 11) (x .cost)) (to + 12) permits
-    ≡ lay (flat (dispatch-of x)) .run to ws
-unfolding flat dispatch-of
-record-written x permits to ws e =
-    thirteen-words (x .consumer) (x .ledger) (x .entry) (x .handle) (x .«batch_size») (x .«ack_set_words») (x .«ack_set» .w0) (x .«ack_set» .w1) (x .«ack_set» .w2) (x .«ack_set» .w3) (x .«redelivery_count») (x .cost) permits to ws
-    ∙ ap (λ (p : ℕ). lay (x .consumer ∷ x .ledger ∷ x .entry ∷ x .handle ∷ x .«batch_size» ∷ x .«ack_set_words» ∷ x .«ack_set» .w0 ∷ x .«ack_set» .w1 ∷ x .«ack_set» .w2 ∷ x .«ack_set» .w3 ∷ x .«redelivery_count» ∷ x .cost ∷ p ∷ []) .run to ws) e
+pub record-written : (x : declared.Dispatch) (to : ℕ) (ws : List ℕ)
+    → set (set (set (set (set (set (set (set (set (set (set (set (set ws to (x .consumer)) (to + 1) (x .ledger)) (to + 2) (x .entry)) (to + 3) (x .handle)) (to + 4) (x .«batch_size»)) (to + 5) (x .«ack_set_words»)) (to + 6) (x .«ack_set» .w0)) (to + 7) (x .«ack_set» .w1)) (to + 8) (x .«ack_set» .w2)) (to + 9) (x .«ack_set» .w3)) (to + 10) (x .«redelivery_count»)) (to + 11) (x .cost)) (to + 12) (x .permits)
+    ≡ lay (record-words x) .run to ws
+unfolding record-words
+record-written x to ws =
+    thirteen-words (x .consumer) (x .ledger) (x .entry) (x .handle) (x .«batch_size») (x .«ack_set_words») (x .«ack_set» .w0) (x .«ack_set» .w1) (x .«ack_set» .w2) (x .«ack_set» .w3) (x .«redelivery_count») (x .cost) (x .permits) to ws
+
+-- the rules' dispatch with the fields of the code's record, and permits in excess form
+abbrev pub dispatch-with : declared.Dispatch → ℕ → Dispatch
+dispatch-with x permits =
+    record {
+      consumer = x .consumer;
+      message = record { id = record { ledger = x .ledger; entry = x .entry }; handle = x .handle; batch-size = x .«batch_size» };
+      ack-set-words = x .«ack_set_words»;
+      ack-set = x .«ack_set»;
+      redelivery-count = x .«redelivery_count»;
+      cost = x .cost;
+      permits = permits;
+    }
+
+-- a record whose permits are in two's complement has the flat words of that dispatch
+pub record-flat : (x : declared.Dispatch) (permits : ℕ) {d : Dispatch} → x .permits ≡ (permits + (2 ^ 64 - 2 ^ 62)) % 2 ^ 64 → dispatch-with x permits ≡ d
+    → record-words x ≡ flat d
+unfolding record-words flat
+record-flat x permits e f =
+    ap (λ (p : ℕ). x .consumer ∷ x .ledger ∷ x .entry ∷ x .handle ∷ x .«batch_size» ∷ x .«ack_set_words» ∷ x .«ack_set» .w0 ∷ x .«ack_set» .w1 ∷ x .«ack_set» .w2 ∷ x .«ack_set» .w3 ∷ x .«redelivery_count» ∷ x .cost ∷ p ∷ []) e
+    ∙ ap flat f
 
 -- some records, then others
 pub filled-append : (list : List ℕ) (m : ℕ) (a b : List Dispatch) → filled list m (a ++ b) ≡ filled (filled list m a) (m + length a) b
@@ -61,7 +81,8 @@ pub flat-length : (x : Dispatch) → length (flat x) ≡ 13
 unfolding flat
 flat-length x = refl
 
-flats-length : (l : List Dispatch) → length (flat-records l) ≡ 13 * length l
+-- so records have thirteen each
+pub flats-length : (l : List Dispatch) → length (flat-records l) ≡ 13 * length l
 unfolding flat-records
 flats-length [] = refl
 flats-length (x ∷ l) = rw (length-append (flat x) (flat-records l), flat-length x, flats-length l) (omega arith)

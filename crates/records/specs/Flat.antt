@@ -12,15 +12,9 @@ unfoldable pub filled : List ℕ → ℕ → List Dispatch → List ℕ
 filled list m [] = list
 filled list m (x ∷ l) = filled (lay (flat x) .run (m * 13) list) (suc m) l
 
--- the rules' dispatch that the code's record stands for
-unfoldable pub dispatch-of : declared.Dispatch → Dispatch
-dispatch-of x =
-    record {
-      consumer = x .consumer;
-      message = record { id = record { ledger = x .ledger; entry = x .entry }; handle = x .handle; batch-size = x .«batch_size» };
-      ack-set-words = x .«ack_set_words»;
-      ack-set = x .«ack_set»;
-      redelivery-count = x .«redelivery_count»;
-      cost = x .cost;
-      permits = x .permits;
-    }
+-- the words of the code's record, in the order of its fields
+unfoldable pub record-words : declared.Dispatch → List ℕ
+record-words x =
+    x .consumer ∷ x .ledger ∷ x .entry ∷ x .handle ∷ x .«batch_size»
+    ∷ x .«ack_set_words» ∷ x .«ack_set» .w0 ∷ x .«ack_set» .w1 ∷ x .«ack_set» .w2 ∷ x .«ack_set» .w3
+    ∷ x .«redelivery_count» ∷ x .cost ∷ x .permits ∷ []

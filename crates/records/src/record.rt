@@ -4,10 +4,10 @@ ghost use mathlib.Core.Path.{_≡_};
 ghost use Prim.Native.Nat.{_+_, _-_, _*_, _%_, _^_, _≤_};
 ghost use lib.ListN.{length};
 ghost use Rattle.words.specs.Act.{lay};
-ghost use Rattle.rules.specs.Push.{flat};
-ghost use Rattle.records.specs.Flat.{dispatch-of};
+ghost use Rattle.records.specs.Flat.{record-words};
 
-// A dispatch; the permits are in excess form, as in the store.
+// A dispatch as push records it: its numbers are the words of its flat record, in their order. The permits
+// after it are in two's complement.
 pub struct Dispatch {
     pub consumer: u64,
     pub ledger: u64,
@@ -21,8 +21,8 @@ pub struct Dispatch {
     pub permits: u64,
 }
 
-// Permits in two's complement.
-fn signed(permits: u64) -> u64
+// Permits in two's complement, from the excess form of the store.
+pub fn signed(permits: u64) -> u64
     ensures { λ r. ⌜ r ≡ (permits + (2 ^ 64 - 2 ^ 62)) % 2 ^ 64 ⌝ }
 {
     std::num::wrapping_add_u64(permits, 13835058055282163712)
@@ -31,7 +31,7 @@ fn signed(permits: u64) -> u64
 // Writes a dispatch as record `m` of a list.
 pub fn write_record(list: &mut [u64], m: usize, record: Dispatch)
     requires { ⌜ m * 13 + 13 ≤ length (now list) ⌝ }
-    ensures { λ _. ⌜ now (list .exit) ≡ lay (flat (dispatch-of «record»)) .run (m * 13) (now (list .entry)) ⌝ }
+    ensures { λ _. ⌜ now (list .exit) ≡ lay (record-words «record») .run (m * 13) (now (list .entry)) ⌝ }
 {
     let at = m * 13;
     list[at] = record.consumer;
@@ -46,5 +46,5 @@ pub fn write_record(list: &mut [u64], m: usize, record: Dispatch)
     list[at + 9] = record.ack_set.w3;
     list[at + 10] = record.redelivery_count;
     list[at + 11] = record.cost;
-    list[at + 12] = signed(record.permits);
+    list[at + 12] = record.permits;
 }

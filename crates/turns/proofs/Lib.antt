@@ -5,3 +5,4 @@ pub mod Handing
 pub mod Left
 pub mod Served
 pub mod Totals
+pub mod Zeros

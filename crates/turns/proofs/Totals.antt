@@ -2,6 +2,7 @@
 use mathlib.Core.Path.{_≡_, refl, sym, ap, _∙_}
 use mathlib.Core.List.{List, [], _∷_}
 use Prim.Native.Nat.{ℕ, suc, _+_, _*_, _≤_, _<_}
+use native.Mathlib.Numerals.{add-one}
 use native.Mathlib.Omega.{arith}
 use lib.ListN.{length, drop, drop-of-length-le, length-append, length-map}
 use lib.Seq.{drop-cons}
@@ -26,25 +27,21 @@ module _ (s : State) where
   pub carried-start : (start : List ℕ) → Carried start start 0 0
   carried-start start = record { records = omega arith; ends = refl; few = omega arith }
 
-  module _ (start permits : List ℕ) (d count : ℕ) (h : Carried start permits d count) where
-    -- the service of a dispatcher and those after it
-    pub services-step : d < length (s .dispatchers)
-        → services-from d permits
-        ≡ record { dispatcher = dispatcher-nth s d; steps = served s (dispatcher-nth s d) permits } ∷ services-from (d + 1) (served s (dispatcher-nth s d) permits .after .permits)
-    unfolding services
-    services-step k =
-        let n : suc d ≡ d + 1 = omega arith in
-        let x : Service = record { dispatcher = dispatcher-nth s d; steps = served s (dispatcher-nth s d) permits } in
-        ap (λ (l : List Dispatcher). services s l permits) (drop-cons (s .dispatchers) d zero-dispatcher k)
-        ∙ ap (λ (m : ℕ). x ∷ services-from m (served s (dispatcher-nth s d) permits .after .permits)) n
+  -- the service of a dispatcher and those after it
+  pub services-step : (permits : List ℕ) (d : ℕ) → d < length (s .dispatchers)
+      → services-from d permits
+      ≡ record { dispatcher = dispatcher-nth s d; steps = served s (dispatcher-nth s d) permits } ∷ services-from (suc d) (served s (dispatcher-nth s d) permits .after .permits)
+  unfolding services
+  services-step permits d k = ap (λ (l : List Dispatcher). services s l permits) (drop-cons (s .dispatchers) d zero-dispatcher k)
 
+  module _ (start permits : List ℕ) (d count : ℕ) (h : Carried start permits d count) where
     -- one dispatcher further
     pub carried-on : (after : List ℕ) (r : ℕ) → d < length (s .dispatchers) → r ≡ length (served s (dispatcher-nth s d) permits .made)
         → after ≡ served s (dispatcher-nth s d) permits .after .permits → r ≤ 8193 → Carried start after (d + 1) (count + r)
     unfolding permits-left all-service-records service-records
     carried-on after r k q a b =
         let x : Service = record { dispatcher = dispatcher-nth s d; steps = served s (dispatcher-nth s d) permits } in
-        let u : services-from d permits ≡ x ∷ services-from (d + 1) after = rw a (services-step k) in
+        let u : services-from d permits ≡ x ∷ services-from (d + 1) after = rw (a, add-one d) (services-step permits d k) in
         let g = ap (λ (l : List Service). length (all-service-records s l)) u in
         let y = length-append (service-records s x) (all-service-records s (services-from (d + 1) after)) in
         let z = length-map (served s (dispatcher-nth s d) permits .made) (record-of s (fixed-of s (dispatcher-nth s d))) in

@@ -13,7 +13,7 @@ use Rattle.layout.specs.Fields.{topic-nth, dispatcher-nth}
 use Rattle.layout.specs.Placed.{Topic-in, Dispatcher-in}
 use Rattle.push.specs.Local.{Local, Step, Place, Local-turn, first-with-permits}
 use Rattle.push.specs.Local.Local-turn.{stop, move}
-use Rattle.dispatcher.specs.declared.head.Head as numbers
+use Rattle.heads.specs.declared.Head as numbers
 use Rattle.turns.specs.declared.turn.Step as steps
 use Rattle.turns.specs.declared.turn.Turn as turns
 use Rattle.turns.specs.declared.turn.Turn.the-variants as variants
@@ -40,6 +40,11 @@ step-of x = record { consumer = x .consumer; position = x .position; price = x .
 unfoldable pub turn-of : List ℕ → turns.Turn → Local-turn
 turn-of permits (variants.Stop h taken) = stop (local-from permits h taken)
 turn-of permits (variants.Move x h taken) = move (step-of x) (local-from permits h taken)
+
+-- the dispatcher's four numbers after a turn; mark-delete is one of them, and no turn moves it
+unfoldable pub numbers-of : turns.Turn → numbers.Head
+numbers-of (variants.Stop h taken) = h
+numbers-of (variants.Move x h taken) = h
 
 -- the ledger of a dispatcher's topic
 abbrev pub ledger-under : State → ℕ → List StoredMessage

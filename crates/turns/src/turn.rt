@@ -2,9 +2,10 @@
 // where neither has an entry the turn stops, with next moved all the same.
 use super::choice::choose;
 use super::price::price;
-use dispatcher::head::Head;
 use dispatcher::queue::queue_count;
 use dispatcher::queue::queued;
+use heads::Head;
+use heads::dispatch_from;
 ghost use mathlib.Core.Path.{_≡_};
 ghost use mathlib.Core.Bool.{cond};
 ghost use Prim.Native.Nat.{suc, _≤_, _<_};
@@ -14,7 +15,7 @@ ghost use Rattle.rules.specs.Permits.{zero-permits};
 ghost use Rattle.layout.specs.Layout.{decode};
 ghost use Rattle.layout.specs.Fields.{dispatcher-nth};
 ghost use Rattle.push.specs.Local.{fixed-of, local-turn, take-entry, hand-over};
-ghost use Rattle.turns.specs.Turns.{local-from, turn-of, Serving};
+ghost use Rattle.turns.specs.Turns.{local-from, turn-of, numbers-of, Serving};
 
 // No permits, in excess form.
 const ZERO_PERMITS: u64 = 4_611_686_018_427_387_904;
@@ -45,7 +46,7 @@ fn place_after(place: usize, n: usize) -> usize
     place + 1
 }
 
-// The entry at position `k` goes to the consumer in slot `c`; the numbers come with queue or cursor moved on.
+// The entry at position `k` goes to the consumer in slot `c`; next and the cursor go where they are told.
 fn hand_over(
     store: &[u64],
     e: usize,
@@ -56,10 +57,13 @@ fn hand_over(
     c: usize,
     k: usize,
     head: Head,
+    next: usize,
+    cursor: usize,
     taken: usize,
 ) -> Turn
     requires { ⌜ Serving e (now store) d t n × (k < n) × (zero-permits < getD (now permits) c 0) × (zero-permits < head .«total_available_permits») ⌝ }
-    ensures { λ r. ⌜ turn-of (now (permits .exit)) r ≡ hand-over (fixed-of (decode (now (store .entry))) (dispatcher-nth (decode (now (store .entry))) d)) (now (permits .entry)) (head .next) (head .cursor) (head .«total_available_permits») taken c k ⌝ }
+    ensures turn { λ r. ⌜ turn-of (now (permits .exit)) r ≡ hand-over (fixed-of (decode (now (store .entry))) (dispatcher-nth (decode (now (store .entry))) d)) (now (permits .entry)) next cursor (head .«total_available_permits») taken c k ⌝ }
+    ensures mark_delete { λ r. ⌜ numbers-of r .«mark_delete» ≡ head .«mark_delete» ⌝ }
 {
     let cost = price(store, e, d, t, n, k);
     let left = permits[c] - cost;
@@ -70,16 +74,10 @@ fn hand_over(
         price: cost,
         permits: left,
     };
-    let charged = Head {
-        next: head.next,
-        cursor: head.cursor,
-        mark_delete: head.mark_delete,
-        total_available_permits: head.total_available_permits - cost,
-    };
-    Turn::Move(step, charged, taken)
+    Turn::Move(step, dispatch_from(head, next, cursor, cost), taken)
 }
 
-// The next entry goes to the consumer in slot `c`; next has moved.
+// The next entry goes to the consumer in slot `c`, and next moves whether there is one or not.
 fn take_entry(
     store: &[u64],
     e: usize,
@@ -89,26 +87,48 @@ fn take_entry(
     permits: &mut [u64],
     c: usize,
     head: Head,
+    next: usize,
     taken: usize,
 ) -> Turn
     requires { ⌜ Serving e (now store) d t n × (zero-permits < getD (now permits) c 0) × (zero-permits < head .«total_available_permits») ⌝ }
-    ensures { λ r. ⌜ turn-of (now (permits .exit)) r ≡ take-entry (fixed-of (decode (now (store .entry))) (dispatcher-nth (decode (now (store .entry))) d)) (local-from (now (permits .entry)) head taken) (head .next) c ⌝ }
+    ensures turn { λ r. ⌜ turn-of (now (permits .exit)) r ≡ take-entry (fixed-of (decode (now (store .entry))) (dispatcher-nth (decode (now (store .entry))) d)) (local-from (now (permits .entry)) head taken) next c ⌝ }
+    ensures mark_delete { λ r. ⌜ numbers-of r .«mark_delete» ≡ head .«mark_delete» ⌝ }
 {
+    let cursor = head.cursor;
     if taken < queue_count(store, e, d) {
         let k = queued(store, e, d, taken);
-        return hand_over(store, e, d, t, n, permits, c, k, head, taken + 1);
+        return hand_over(
+            store,
+            e,
+            d,
+            t,
+            n,
+            permits,
+            c,
+            k,
+            head,
+            next,
+            cursor,
+            taken + 1,
+        );
     }
-    let k = head.cursor;
-    if k < n {
-        let moved = Head {
-            next: head.next,
-            cursor: k + 1,
-            mark_delete: head.mark_delete,
-            total_available_permits: head.total_available_permits,
-        };
-        return hand_over(store, e, d, t, n, permits, c, k, moved, taken);
+    if cursor < n {
+        return hand_over(
+            store,
+            e,
+            d,
+            t,
+            n,
+            permits,
+            c,
+            cursor,
+            head,
+            next,
+            cursor + 1,
+            taken,
+        );
     }
-    Turn::Stop(head, taken)
+    Turn::Stop(dispatch_from(head, next, cursor, 0), taken)
 }
 
 // One turn of dispatcher `d`, whose ring is `ring`, on the numbers `permits`, `head` and `taken`.
@@ -124,7 +144,8 @@ pub fn take_turn(
     taken: usize,
 ) -> Turn
     requires { ⌜ Serving e (now store) d t n × (now ring ≡ fixed-of (decode (now store)) (dispatcher-nth (decode (now store)) d) .ring) × (head .next ≤ length (now ring)) ⌝ }
-    ensures { λ r. ⌜ turn-of (now (permits .exit)) r ≡ local-turn (fixed-of (decode (now (store .entry))) (dispatcher-nth (decode (now (store .entry))) d)) (local-from (now (permits .entry)) head taken) ⌝ }
+    ensures turn { λ r. ⌜ turn-of (now (permits .exit)) r ≡ local-turn (fixed-of (decode (now (store .entry))) (dispatcher-nth (decode (now (store .entry))) d)) (local-from (now (permits .entry)) head taken) ⌝ }
+    ensures mark_delete { λ r. ⌜ numbers-of r .«mark_delete» ≡ head .«mark_delete» ⌝ }
 {
     let size = ring.len();
     if size == 0 {
@@ -137,11 +158,6 @@ pub fn take_turn(
     if place == size {
         return Turn::Stop(head, taken);
     }
-    let moved = Head {
-        next: place_after(place, size),
-        cursor: head.cursor,
-        mark_delete: head.mark_delete,
-        total_available_permits: head.total_available_permits,
-    };
-    take_entry(store, e, d, t, n, permits, ring[place], moved, taken)
+    let next = place_after(place, size);
+    take_entry(store, e, d, t, n, permits, ring[place], head, next, taken)
 }

@@ -3,7 +3,7 @@ use mathlib.Core.Path.{ap, _∙_}
 use Prim.Native.Nat.{ℕ}
 use lib.Dec.{eqb}
 use Rattle.layout.proofs.Gets.{read-consumer-kind}
-use Rattle.commands.proofs.Records.{bit-one}
+use Rattle.dispatcher.proofs.Loads.{bit-set}
 use borrow.Author.Needs.{needs}
 use Rattle.commands.proofs.consumer.is_shared.Statement.{statement}
 use Rattle.commands.proofs.consumer.is_shared.Tie as tie
@@ -23,7 +23,7 @@ shared-slice-read-result c = search needs
 returns : tie.Need-returns
 returns c =
     rw (c .before .consumer-at .ensures)
-    (ap (λ (w : ℕ). eqb w 1) (read-consumer-kind (c .before .before .before .pre .canon) (c .before .before .before .args .i) (c .before .before .before .pre .there)) ∙ bit-one _)
+    (ap (λ (w : ℕ). eqb w 1) (read-consumer-kind (c .before .before .before .pre .canon) (c .before .before .before .args .i) (c .before .before .before .pre .there)) ∙ bit-set _)
 
 pub is-shared-spec : {M : Type 1} → statement M
 is-shared-spec =

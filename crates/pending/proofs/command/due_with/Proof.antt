@@ -1,6 +1,6 @@
 -- `pending::command::due_with` meets its contract: what the services are due, then what plain consumers are due by the permits
 -- that the services leave.
-use mathlib.Core.Path.{_≡_, sym, ap, ap₂, _∙_}
+use mathlib.Core.Path.{_≡_, ap, ap₂, _∙_}
 use mathlib.Core.List.{List}
 use Prim.Native.Nat.{ℕ, _+_}
 use native.Mathlib.Omega.{arith}
@@ -15,11 +15,6 @@ use Rattle.pending.proofs.Pushing.{all-counted, due-small}
 use borrow.Author.Needs.{needs}
 use Rattle.pending.proofs.command.due_with.Statement.{statement}
 use Rattle.pending.proofs.command.due_with.Tie as tie
-use Rattle.pending.proofs.command.due_with.Reads as reads
-use Rattle.pending.proofs.command.due_with.Lts as lts
-use Rattle.pending.proofs.command.load_permits.Reads as load-permits-reads
-use Rattle.plain.proofs.due.due_plain.Reads as due-plain-reads
-use Rattle.turns.proofs.due.due_shared.Reads as due-shared-reads
 
 -- the sum is the number due
 counted : (c : tie.After-due-plain) → c .before .before .before .before .due-shared .result + c .due-plain .result ≡ length (local-push (decode (c .before .before .before .before .before .before .before .before .before .before .before .before .args .store .now)) .dispatched)
@@ -31,30 +26,24 @@ counted c =
     let b = c .due-plain .ensures ∙ ap (λ (q : List ℕ). length (all-plain-records s (with-each (s .consumers) q))) l in
     ap₂ {A = ℕ} {B = ℕ} {C = ℕ} _+_ a b ∙ all-counted s
 
--- src/command.rt:39:5
 load-permits-requires : tie.Need-load-permits-requires
 load-permits-requires c κs = (canon-of (c .before .before .before .args .e) (c .before .before .before .args .store .now) (c .before .before .before .pre .0) (c .before .before .before .pre .1), c .before .before .before .pre .2)
 
--- src/command.rt:40:9
 due-shared-requires : tie.Need-due-shared-requires
 due-shared-requires c κs = search needs
 
--- src/command.rt:41:14
 due-plain-requires : tie.Need-due-plain-requires
 due-plain-requires c κs = search needs
 
--- src/command.rt:41:5
 add-result : tie.Need-add-result
 add-result c =
     let n = counted c in
     let f = due-small (decode (c .before .before .before .before .before .before .before .before .before .before .before .before .args .store .now)) (canon-of (c .before .before .before .before .before .before .before .before .before .before .before .before .args .e) (c .before .before .before .before .before .before .before .before .before .before .before .before .args .store .now) (c .before .before .before .before .before .before .before .before .before .before .before .before .pre .0) (c .before .before .before .before .before .before .before .before .before .before .before .before .pre .1) .shaped) in
     omega (arith, n, f)
 
--- src/command.rt:35:1
 same-length : tie.Need-same-length
 same-length c = search needs
 
--- src/command.rt:35:1
 returns : tie.Need-returns
 returns c = counted c
 

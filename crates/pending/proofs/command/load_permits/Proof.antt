@@ -1,7 +1,7 @@
 -- `pending::command::load_permits` meets its contract: the permits up to i are the consumers', those from i on as they were.
 use mathlib.Core.Path.{_≡_, refl, sym, ap, ap₂, _∙_}
 use mathlib.Core.List.{List, _++_}
-use Prim.Native.Nat.{ℕ, _-_, _≤_, _<_}
+use Prim.Native.Nat.{ℕ, _-_, _<_}
 use native.Mathlib.Numerals.{add-one}
 use native.Mathlib.Omega.{arith}
 use lib.ListN.{length, set, take, drop, length-set}
@@ -13,9 +13,6 @@ use Rattle.pending.proofs.Pushing.{length-permits, permits-nth}
 use borrow.Author.Needs.{needs}
 use Rattle.pending.proofs.command.load_permits.Statement.{statement}
 use Rattle.pending.proofs.command.load_permits.Tie as tie
-use Rattle.pending.proofs.command.load_permits.Reads as reads
-use Rattle.pending.proofs.command.load_permits.Lts as lts
-use Rattle.commands.proofs.consumer.permits.Reads as permits-reads
 
 abbrev Inv-loop : tie.InvT-loop
 Inv-loop store e list₀ i₀ list i = (length list ≡ length list₀) × (list ≡ take i (permits-now (decode store)) ++ drop i list₀)
@@ -27,31 +24,24 @@ abbrev μ-loop : tie.MeasureT-loop
 here : (c : tie.In-loop Inv-loop μ-loop) → c .before .loop .i < length (decode (c .before .before .before .before .args .store .now) .consumers)
 here c = let a = c .loop-test .taken in let b = c .before .loop .inv .0 in let p = c .before .before .before .before .pre .1 in omega (arith, a, b, p)
 
--- src/command.rt:28:5
 loop-holds : tie.Need-loop-holds Inv-loop μ-loop
 loop-holds c = (refl, refl)
 
--- src/command.rt:29:19
 permits-requires : tie.Need-permits-requires Inv-loop μ-loop
 permits-requires c κs = consumer-in (c .before .before .before .before .pre .0) (c .before .loop .i) (here c)
 
--- src/command.rt:29:9
 mul-list : tie.Need-mul-list Inv-loop μ-loop
 mul-list c = let l = here (c .before) in let f = c .before .before .before .before .before .pre .0 .shaped .consumers-fit in omega (arith, l, f)
 
--- src/command.rt:29:9
 slice-write-list : tie.Need-slice-write-list Inv-loop μ-loop
 slice-write-list c = search needs
 
--- src/command.rt:30:9
 add-i : tie.Need-add-i Inv-loop μ-loop
 add-i c = let l = here (c .before) in let f = c .before .before .before .before .before .pre .0 .shaped .consumers-fit in omega (arith, l, f)
 
--- src/command.rt:28:5
 loop-less : tie.Need-loop-less Inv-loop μ-loop
 loop-less c = let a = c .before .loop-test .taken in let b = c .before .before .loop .inv .0 in omega (arith, a, b)
 
--- src/command.rt:28:5
 loop-again : tie.Need-loop-again Inv-loop μ-loop
 loop-again c =
     let s = decode (c .before .before .before .before .before .args .store .now) in
@@ -65,11 +55,9 @@ loop-again c =
           ∙ ap (λ (k : ℕ). take k (permits-now s) ++ drop k list) (sym (add-one i)),
     )
 
--- src/command.rt:23:1
 same-length : tie.Need-same-length Inv-loop μ-loop
 same-length c = c .before .loop .inv .0
 
--- src/command.rt:23:1
 returns : tie.Need-returns Inv-loop μ-loop
 returns c =
     let s = decode (c .before .before .before .before .args .store .now) in

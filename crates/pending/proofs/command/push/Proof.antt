@@ -1,66 +1,72 @@
--- `pending::command::push` meets its contract: 15 with the number due, or all of it dispatched.
-use Prim.Native.Nat.{_/_}
+-- `pending::command::push` meets its contract: 15 with the number due, or all of it dispatched. The list has room if it has
+-- room for all that waits, or else for the number due.
+use mathlib.Core.Logic.{⊎-elim}
+use Prim.Native.Nat.{_/_, _≤_}
 use native.Mathlib.Omega.{arith}
 use lib.ListN.{length}
+use Rattle.layout.specs.Layout.{decode}
+use Rattle.frame.proofs.Frame.{canon-of}
+use Rattle.push.specs.Whole.{local-push}
+use Rattle.pending.proofs.Pushing.{due-most}
 use Rattle.pending.proofs.Answering.{answers-short, answers-done}
 use borrow.Author.Needs.{needs}
 use Rattle.pending.proofs.command.push.Statement.{statement}
 use Rattle.pending.proofs.command.push.Tie as tie
-use Rattle.pending.proofs.command.push.Reads as reads
-use Rattle.pending.proofs.command.push.Lts as lts
-use Rattle.commands.proofs.answers.entries.Reads as entries-reads
-use Rattle.commands.proofs.answers.value.Reads as value-reads
-use Rattle.pending.proofs.command.due.Reads as due-reads
-use Rattle.pending.proofs.command.push_pending.Reads as push-pending-reads
 
--- src/command.rt:84:9
+-- the list has room for what is due
+enough : (c : tie.Joined1) → length (local-push (decode (c .before .before .before .before .before .before .before .args .store .now)) .dispatched) ≤ length (c .before .before .before .before .before .before .before .args .list .now) / 13
+enough c =
+    ⊎-elim (λ w. let n = w .2 .ensures in let l = w .3 .left in omega (arith, n, l))
+    (λ w. let m = due-most (decode (c .before .before .before .before .before .before .before .args .store .now)) in let n = c .before .most-due .ensures in let l = w .left in omega (arith, m, n, l)) (c .if1 .came)
+
 entries-requires : tie.Need-entries-requires
 entries-requires c κs = search needs
 
--- src/command.rt:85:9
+most-due-requires : tie.Need-most-due-requires
+most-due-requires c κs = canon-of (c .before .entries .result) (c .before .before .before .before .before .args .store .now) (c .before .before .before .before .before .pre) (c .before .entries .ensures)
+
 due-requires : tie.Need-due-requires
 due-requires c κs = search needs
 
--- src/command.rt:87:16
 value-requires : tie.Need-value-requires
 value-requires c κs = search needs
 
--- src/command.rt:87:16
 add-result : tie.Need-add-result
 add-result c = search needs
 
--- src/command.rt:87:9
 same-length : tie.Need-same-length
 same-length c = search needs
 
--- src/command.rt:87:9
 returns : tie.Need-returns
 returns c =
-    let r = answers-short (c .before .before .before .before .before .before .before .before .args .store .now) (c .before .before .before .before .before .before .before .before .pre) (length (c .before .before .before .before .before .before .before .before .args .list .now) / 13) (c .before .before .due .result) (c .value .result) (c .before .before .due .ensures) (c .value .ensures)
-    (c .before .before .before .before .before .before .before .before .args .list .now) (c .before .if1 .taken) in
+    let a = c .before .before .before .before .before .before .before .before .before .before .before .args in
+    let r = answers-short (a .store .now) (c .before .before .before .before .before .before .before .before .before .before .before .pre) (length (a .list .now) / 13) (c .before .before .due .result) (c .value .result) (c .before .before .due .ensures) (c .value .ensures)
+    (a .list .now) (c .before .if2 .taken) in
     (r .0, (r .1, r .2))
 
--- src/command.rt:89:5
 push-pending-requires : tie.Need-push-pending-requires
-push-pending-requires c κs = search needs
+push-pending-requires c κs =
+    let f = enough (c .before .before) in
+    (c .before .before .before .before .before .before .before .before .before .pre, c .before .before .before .before .before .entries .ensures, omega (arith, f))
 
--- src/command.rt:90:5
 value-requires-2 : tie.Need-value-requires-2
 value-requires-2 c κs = search needs
 
--- src/command.rt:78:1
 same-length-2 : tie.Need-same-length-2
 same-length-2 c = search needs
 
--- src/command.rt:78:1
 same-length-3 : tie.Need-same-length-3
 same-length-3 c = search needs
 
--- src/command.rt:78:1
 returns-2 : tie.Need-returns-2
 returns-2 c =
-    let r = answers-done (c .before .before .before .before .before .before .before .before .before .before .before .before .before .before .before .args .store .now) (c .before .before .before .before .before .before .before .before .before .before .before .before .before .before .before .pre) (length (c .before .before .before .before .before .before .before .before .before .before .before .before .before .before .before .args .list .now) / 13) (c .before .before .before .before .before .before .before .before .before .due .result) (c .value2 .result) (c .before .before .before .before .before .before .before .before .before .due .ensures) (c .value2 .ensures)
-    (c .before .before .before .before .before .before .before .before .before .before .before .before .before .before .before .args .list .now) (c .before .before .before .before .before .before .before .before .if1 .left) (let l = c .before .before .before .before .before .before .before .before .if1 .left in omega (arith, l)) (c .before .before .before .before .before .push-pending .ensures .0) (c .before .before .before .before .before .push-pending .ensures .1) in
+    let a = c .before .before .before .before .before .before .before .before .before .before .before .before .before .before .before .args in
+    let p = c .before .before .before .before .before .push-pending in
+    let f = enough (c .before .before .before .before .before .before .before .before) in
+    let n = p .ensures .0 in
+    let fits : p .result ≤ length (a .list .now) / 13 = omega (arith, f, n) in
+    let r = answers-done (a .store .now) (c .before .before .before .before .before .before .before .before .before .before .before .before .before .before .before .pre) (length (a .list .now) / 13) (p .result) (c .value2 .result) (p .ensures .0) (c .value2 .ensures)
+    (a .list .now) fits (omega (arith, fits)) (p .ensures .1 .0) (p .ensures .1 .1) in
     (r .0, (r .1, r .2))
 
 pub push-spec : {M : Type 1} → statement M
@@ -68,6 +74,7 @@ push-spec =
     tie.close
     (tie.spec
     entries-requires
+    most-due-requires
     due-requires
     value-requires
     add-result

@@ -10,18 +10,13 @@ use Rattle.layout.specs.Layout.{decode, put}
 use Rattle.layout.specs.Whole.{Shaped-dispatcher}
 use Rattle.frame.proofs.Frame.{canon-of}
 use Rattle.push.specs.Shared.{services, permits-left, all-service-records, served-dispatcher}
-use Rattle.push.specs.Whole.{permits-now, local-push}
+use Rattle.push.specs.Whole.{permits-now}
 use Rattle.records.specs.Flat.{filled}
 use Rattle.records.proofs.Filled.{filled-length}
-use Rattle.pending.proofs.Pushing.{length-permits, left, shared-records, all-counted, served-rows, canon-now, readable-on, permits-on, room-on, pushed-words, pushed-records}
+use Rattle.pending.proofs.Pushing.{length-permits, left, shared-records, all-counted, served-rows, canon-now, readable-on, permits-on, room-on, pushed-count, pushed-words, pushed-records}
 use borrow.Author.Needs.{needs}
 use Rattle.pending.proofs.command.push_with.Statement.{statement}
 use Rattle.pending.proofs.command.push_with.Tie as tie
-use Rattle.pending.proofs.command.push_with.Reads as reads
-use Rattle.pending.proofs.command.push_with.Lts as lts
-use Rattle.pending.proofs.command.load_permits.Reads as load-permits-reads
-use Rattle.pending.proofs.shared.push_pending_shared.Reads as push-pending-shared-reads
-use Rattle.plain.proofs.serve.serve_plain.Reads as serve-plain-reads
 
 -- what the shared part leaves, by the permits in the store
 module _ (c : tie.After-push-pending-shared) where
@@ -49,11 +44,9 @@ module _ (c : tie.After-push-pending-shared) where
   fits-told : All (Shaped-dispatcher (c .before .before .before .before .before .before .before .before .before .before .before .before .args .e)) (served-rows s)
   fits-told = subst (λ (q : List ℕ). All (Shaped-dispatcher (c .before .before .before .before .before .before .before .before .before .before .before .before .args .e)) (map (served-dispatcher s) (services s (s .dispatchers) q))) loaded (c .push-pending-shared .ensures .1 .1 .1 .1)
 
--- src/command.rt:60:5
 load-permits-requires : tie.Need-load-permits-requires
 load-permits-requires c κs = (canon-of (c .before .before .before .before .before .args .e) (c .before .before .before .before .before .args .store .now) (c .before .before .before .before .before .pre .0) (c .before .before .before .before .before .pre .1), c .before .before .before .before .before .pre .2)
 
--- src/command.rt:61:9
 push-pending-shared-requires : tie.Need-push-pending-shared-requires
 push-pending-shared-requires c κs =
     let p = c .before .before .before .before .before .before .before .before .before .before .before .pre in
@@ -68,7 +61,6 @@ push-pending-shared-requires c κs =
       subst (λ (l : List ℕ). length (all-service-records s (services s (s .dispatchers) l)) * 13 ≤ length (c .before .before .before .before .before .before .before .before .before .before .before .args .list .now)) (sym q) few,
     )
 
--- src/command.rt:62:5
 serve-plain-requires : tie.Need-serve-plain-requires
 serve-plain-requires c κs =
     let d = c .before .before .before .before .before .before .before .before .before in
@@ -84,19 +76,15 @@ serve-plain-requires c κs =
       room-on ws (p .0) (p .1) f a b (value-told d) (rw l (p .3)),
     )
 
--- src/command.rt:55:1
 same-length : tie.Need-same-length
 same-length c = search needs
 
--- src/command.rt:55:1
 same-length-2 : tie.Need-same-length-2
 same-length-2 c = search needs
 
--- src/command.rt:55:1
 same-length-3 : tie.Need-same-length-3
 same-length-3 c = search needs
 
--- src/command.rt:55:1
 returns : tie.Need-returns
 returns c =
     let d = c .before .before .before .before .before .before .before .before .before .before .before .before .before .before in
@@ -105,8 +93,11 @@ returns c =
     let f = fits-told d in
     let a = words-told d in
     let b = permits-told d in (
-      pushed-words ws (p .0) (p .1) f a b (c .before .before .before .before .serve-plain .ensures .0),
-      pushed-records ws (p .0) (p .1) f a b (c .before .before .before .before .before .before .before .before .before .before .before .before .before .before .before .before .before .before .before .before .before .before .before .before .before .before .args .list .now) (c .before .before .before .before .before .before .before .before .before .before .before .before .before .before .push-pending-shared .result) (value-told d) (records-told d) (c .before .before .before .before .serve-plain .ensures .1),
+      pushed-count ws (p .0) (p .1) f a b (value-told d) (c .before .before .before .before .serve-plain .ensures .0),
+      (
+        pushed-words ws (p .0) (p .1) f a b (c .before .before .before .before .serve-plain .ensures .1 .0),
+        pushed-records ws (p .0) (p .1) f a b (c .before .before .before .before .before .before .before .before .before .before .before .before .before .before .before .before .before .before .before .before .before .before .before .before .before .before .args .list .now) (c .before .before .before .before .before .before .before .before .before .before .before .before .before .before .push-pending-shared .result) (value-told d) (records-told d) (c .before .before .before .before .serve-plain .ensures .1 .1),
+      ),
     )
 
 pub push-with-spec : {M : Type 1} → statement M

@@ -1,11 +1,11 @@
 -- `pending::deliver::deliver` meets its contract: the record of the step, and its entry in flight.
-use mathlib.Core.Path.{_∙_}
+use mathlib.Core.Path.{ap, _∙_}
 use Rattle.layout.proofs.Placed.{consumer-in}
+use Rattle.rules.specs.Push.{flat}
 use Rattle.layout.specs.Layout.{decode}
 use Rattle.layout.specs.Fields.{dispatcher-nth}
 use Rattle.push.specs.Local.{fixed-of}
 use Rattle.push.specs.Applied.{record-of}
-use Rattle.records.specs.Flat.{dispatch-of}
 use Rattle.turns.specs.Turns.{step-of}
 use Rattle.pending.proofs.Records.{one-filled, record-found, flight-found}
 use borrow.Author.Needs.{needs}
@@ -51,8 +51,8 @@ returns c =
     let f = fixed-of (decode ws) (dispatcher-nth (decode ws) (c .before .before .before .before .before .before .before .before .before .before .before .before .before .before .args .d)) in
     let id = c .before .before .before .before .before .before .before .before .before .before .consumer-id .result in (
       flight-found ws (decode ws) (c .before .before .before .before .before .before .before .before .before .before .before .before .before .before .args .d) id x (c .before .before .before .before .before .before .before .before .before .before .consumer-id .ensures) (c .before .before .append-flight .ensures),
-      one-filled (c .before .before .before .before .before .before .before .before .before .before .before .before .before .before .args .list .now) (c .before .before .before .before .before .before .before .before .before .before .before .before .before .before .args .m) (dispatch-of (c .before .before .before .before .before .before .before .before .record-to .result)) (record-of (decode ws) f x)
-          (c .before .before .before .before .before .before .write-record .ensures) (c .before .before .before .before .before .before .before .before .record-to .ensures ∙ record-found (decode ws) f id x (c .before .before .before .before .before .before .before .before .before .before .consumer-id .ensures)),
+      one-filled (c .before .before .before .before .before .before .before .before .before .before .before .before .before .before .args .list .now) (c .before .before .before .before .before .before .before .before .before .before .before .before .before .before .args .m) (record-of (decode ws) f x)
+          (c .before .before .before .before .before .before .write-record .ensures) (c .before .before .before .before .before .before .before .before .record-to .ensures ∙ ap flat (record-found (decode ws) f id x (c .before .before .before .before .before .before .before .before .before .before .consumer-id .ensures))),
     )
 
 pub deliver-spec : {M : Type 1} → statement M

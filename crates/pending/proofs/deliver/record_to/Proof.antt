@@ -23,12 +23,16 @@ load-mark-requires c κs = search needs
 ack-set-words-requires : tie.Need-ack-set-words-requires
 ack-set-words-requires c κs = batch-read (c .before .before .before .before .pre .0) (c .before .before .before .before .args .step .position) (c .before .before .before .before .pre .1) (c .before .before .load-message .result) (c .before .before .load-message .ensures)
 
+-- src/deliver.rt:58:18
+signed-requires : tie.Need-signed-requires
+signed-requires c κs = search needs
+
 -- src/deliver.rt:38:1
 returns : tie.Need-returns
 returns c =
-    record-read (c .before .before .before .before .before .pre .0) (c .before .before .before .before .before .args .step .position) (c .before .before .before .before .before .pre .1) (c .before .before .before .load-message .result) (c .before .before .before .load-message .ensures)
-    (c .before .before .before .before .before .args .id) (c .ack-set-words .result) (c .before .before .load-mark .result) (c .before .before .before .before .before .args .step) refl (c .before .before .load-mark .ensures) (c .ack-set-words .ensures)
+    record-read (c .before .before .before .before .before .before .pre .0) (c .before .before .before .before .before .before .args .step .position) (c .before .before .before .before .before .before .pre .1) (c .before .before .before .before .load-message .result) (c .before .before .before .before .load-message .ensures)
+    (c .before .before .before .before .before .before .args .id) (c .before .ack-set-words .result) (c .signed .result) (c .before .before .before .load-mark .result) (c .before .before .before .before .before .before .args .step) refl (c .before .before .before .load-mark .ensures) (c .before .ack-set-words .ensures) (c .signed .ensures)
 
 pub record-to-spec : {M : Type 1} → statement M
 record-to-spec =
-    tie.close (tie.spec load-message-requires load-mark-requires ack-set-words-requires returns)
+    tie.close (tie.spec load-message-requires load-mark-requires ack-set-words-requires signed-requires returns)

@@ -10,9 +10,9 @@ use Rattle.layout.specs.Fields.{dispatcher-nth}
 use Rattle.push.specs.Local.{local-turn}
 use Rattle.push.specs.Local.Local-turn.{stop, move}
 use Rattle.turns.specs.declared.turn.Turn as turns
-use Rattle.turns.specs.Turns.{turn-of, local-from, step-of}
+use Rattle.turns.specs.Turns.{turn-of, numbers-of, local-from, step-of}
 use Rattle.turns.proofs.Left.{left}
-use Rattle.pending.proofs.Writing.{fixed, Writing, writing-start, serving-on, ring-on, next-on, entry-in, consumer-in, flight-room, list-room, left-on, writing-on, taken-there, permits-end, count-end, records-end, fits-end, words-end}
+use Rattle.pending.proofs.Writing.{fixed, Writing, writing-start, serving-on, ring-on, next-on, entry-in, consumer-in, flight-room, list-room, left-on, writing-on, taken-there, mark-there, permits-end, count-end, records-end, fits-end, words-end}
 use borrow.Author.Needs.{needs}
 use Rattle.pending.proofs.serve.serve_turns.Statement.{statement}
 use Rattle.pending.proofs.serve.serve_turns.Tie as tie
@@ -37,14 +37,24 @@ told-stop : (c : tie.After-last Inv-loop μ-loop)
     → stop (local-from (c .before .before .before .before .take-turn .last .1 .1 .1 .1 .1 .1 .0) (c .last .given .0 .0) (c .last .given .0 .1 .0))
     ≡ local-turn (fixed (c .before .before .before .before .before .before .before .loop .store) (c .before .before .before .before .before .before .before .before .before .before .before .before .before .before .args .d)) (local-from (c .before .before .before .before .before .before .before .loop .permits) (c .before .before .before .before .before .before .before .loop .head) (c .before .before .before .before .before .before .before .loop .taken))
 unfolding turn-of
-told-stop c = sym (ap (λ (t : turns.Turn). turn-of (c .before .before .before .before .take-turn .last .1 .1 .1 .1 .1 .1 .0) t) (c .last .given .1)) ∙ c .before .before .before .before .take-turn .ensures
+told-stop c = sym (ap (λ (t : turns.Turn). turn-of (c .before .before .before .before .take-turn .last .1 .1 .1 .1 .1 .1 .0) t) (c .last .given .1)) ∙ c .before .before .before .before .take-turn .ensures .0
 
 -- or it handed out an entry
 told-move : (c : tie.After-step Inv-loop μ-loop)
     → move (step-of (c .step .given .0 .0)) (local-from (c .before .before .before .before .take-turn .last .1 .1 .1 .1 .1 .1 .0) (c .step .given .0 .1 .0) (c .step .given .0 .1 .1 .0))
     ≡ local-turn (fixed (c .before .before .before .before .before .before .before .loop .store) (c .before .before .before .before .before .before .before .before .before .before .before .before .before .before .args .d)) (local-from (c .before .before .before .before .before .before .before .loop .permits) (c .before .before .before .before .before .before .before .loop .head) (c .before .before .before .before .before .before .before .loop .taken))
 unfolding turn-of
-told-move c = sym (ap (λ (t : turns.Turn). turn-of (c .before .before .before .before .take-turn .last .1 .1 .1 .1 .1 .1 .0) t) (c .step .given .1)) ∙ c .before .before .before .before .take-turn .ensures
+told-move c = sym (ap (λ (t : turns.Turn). turn-of (c .before .before .before .before .take-turn .last .1 .1 .1 .1 .1 .1 .0) t) (c .step .given .1)) ∙ c .before .before .before .before .take-turn .ensures .0
+
+-- mark-delete is as it was, where the turn stopped
+kept-stop : (c : tie.After-last Inv-loop μ-loop) → c .last .given .0 .0 .«mark_delete» ≡ c .before .before .before .before .before .before .before .loop .head .«mark_delete»
+unfolding numbers-of
+kept-stop c = sym (ap (λ (t : turns.Turn). numbers-of t .«mark_delete») (c .last .given .1)) ∙ c .before .before .before .before .take-turn .ensures .1
+
+-- and where it handed out an entry
+kept-move : (c : tie.After-step Inv-loop μ-loop) → c .step .given .0 .1 .0 .«mark_delete» ≡ c .before .before .before .before .before .before .before .loop .head .«mark_delete»
+unfolding numbers-of
+kept-move c = sym (ap (λ (t : turns.Turn). numbers-of t .«mark_delete») (c .step .given .1)) ∙ c .before .before .before .before .take-turn .ensures .1
 
 -- src/serve.rt:49:9
 load-head-requires : tie.Need-load-head-requires Inv-loop μ-loop
@@ -77,7 +87,11 @@ finish-requires : tie.Need-finish-requires Inv-loop μ-loop
 finish-requires c κs =
     let p = c .before .before .before .before .before .before .before .before .before .before .before .before .before .before .before .before .pre in
     let w = c .before .before .before .before .before .before .before .before .before .loop .inv .3 in
-    (w .moved .here, taken-there (p .0) w (c .before .before .before .before .before .before .take-turn .last .1 .1 .1 .1 .1 .1 .0) (c .before .before .last .given .0 .0) (c .before .before .last .given .0 .1 .0) (told-stop (c .before .before)))
+    let rs = c .before .before .before .before .before .before .take-turn .last .1 .1 .1 .1 .1 .1 .0 in
+    let k = c .before .before .last .given .0 .0 in
+    let n = c .before .before .last .given .0 .1 .0 in
+    let t = told-stop (c .before .before) in
+    (w .moved .here, taken-there (p .0) w rs k n t, mark-there (p .0) w rs k n t (kept-stop (c .before .before)))
 
 -- src/serve.rt:56:17
 same-length : tie.Need-same-length Inv-loop μ-loop
@@ -152,7 +166,7 @@ loop-again c =
       search needs,
       search needs,
       search needs,
-      writing-on (p .0) w z rs k n (told-move (c .before .before .before .before .before .before .before .before)) (c .before .before .before .before .deliver .ensures .0) (c .before .before .before .before .deliver .ensures .1),
+      writing-on (p .0) w z rs k n (told-move (c .before .before .before .before .before .before .before .before)) (c .before .before .before .before .deliver .ensures .0) (c .before .before .before .before .deliver .ensures .1) (kept-move (c .before .before .before .before .before .before .before .before)),
     )
 
 pub serve-turns-spec : {M : Type 1} → statement M

@@ -1,6 +1,6 @@
 -- `plain::due::waiting` meets its contract. What is past the end of the ledger does not wait, also where the cursor is.
 use mathlib.Core.Path.{_≡_, ap, _∙_}
-use Prim.Native.Nat.{ℕ, _+_, _-_, min}
+use Prim.Native.Nat.{ℕ}
 use native.Mathlib.Omega.{arith}
 use lib.ListN.{length}
 use Rattle.rules.specs.State.{ledger-of}
@@ -8,6 +8,7 @@ use Rattle.layout.specs.Layout.{decode}
 use Rattle.layout.specs.Fields.{consumer-nth}
 use Rattle.store.proofs.LedgerWords.{ledger-fits}
 use Rattle.push.specs.Plain.{ledger-for}
+use Rattle.plain.proofs.Entries.{wait}
 use borrow.Author.Needs.{needs}
 use Rattle.plain.proofs.due.waiting.Statement.{statement}
 use Rattle.plain.proofs.due.waiting.Tie as tie
@@ -16,10 +17,6 @@ use Rattle.plain.proofs.due.waiting.Tie as tie
 entries-are : (c : tie.After-ledger-length)
     → c .ledger-length .result ≡ length (ledger-for (decode (c .before .before .before .args .store .now)) (consumer-nth (decode (c .before .before .before .args .store .now)) (c .before .before .before .args .i)))
 entries-are c = c .ledger-length .ensures ∙ ap (λ (t : ℕ). length (ledger-of (decode (c .before .before .before .args .store .now)) t)) (c .before .topic .ensures)
-
--- in numbers
-wait : (l g k : ℕ) {l′ g′ k′ s : ℕ} → l′ ≡ l → g′ ≡ g → k′ ≡ k → s ≡ min k′ g′ → l′ + (g′ - s) ≡ l + (g - k)
-wait l g k {l′} {g′} {k′} {s} a b c d = let e : g′ - s ≡ g - k = omega arith in omega arith
 
 topic-requires : tie.Need-topic-requires
 topic-requires c κs = search needs

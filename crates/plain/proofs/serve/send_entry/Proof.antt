@@ -1,8 +1,8 @@
 -- `plain::serve::send_entry` meets its contract: the record of the entry at its position.
 use mathlib.Core.Path.{ap, _∙_}
-use Prim.Native.Nat.{_+_, _*_, _-_}
+use mathlib.Core.List.{List}
+use Prim.Native.Nat.{ℕ, _+_, _*_, _-_}
 use Rattle.words.specs.Act.{lay}
-use Rattle.rules.specs.Outcome.{Dispatch}
 use Rattle.rules.specs.Push.{flat}
 use Rattle.layout.specs.Layout.{decode}
 use Rattle.layout.specs.Fields.{consumer-nth}
@@ -45,8 +45,8 @@ returns c =
     let s = decode (a .store .now) in
     let x = consumer-nth s (a .i) in
     c .before .before .write-record .ensures
-    ∙ ap (λ (d : Dispatch). lay (flat d) .run (a .m * 13) (a .list .now))
-    (c .before .before .before .before .plain-record .ensures ∙ entry-is (ledger-for s x) x (a .permits) (a .j) (h .ledger) (c .before .before .before .before .before .consumer-id .ensures) (c .before .before .before .before .before .before .position .ensures))
+    ∙ ap (λ (l : List ℕ). lay l .run (a .m * 13) (a .list .now))
+    (c .before .before .before .before .plain-record .ensures ∙ ap flat (entry-is (ledger-for s x) x (a .permits) (a .j) (h .ledger) (c .before .before .before .before .before .consumer-id .ensures) (c .before .before .before .before .before .before .position .ensures)))
 
 pub send-entry-spec : {M : Type 1} → statement M
 send-entry-spec =

@@ -3,7 +3,7 @@ use Prim.Native.Nat.{_-_, _≤_, _<_}
 use native.Mathlib.Omega.{arith}
 use lib.ListN.{length}
 use Rattle.layout.specs.Layout.{decode}
-use Rattle.plain.proofs.Served.{Going, going-first, going-in, going-readable, going-room, going-on, going-long, going-words, going-records}
+use Rattle.plain.proofs.Served.{Going, going-first, going-in, going-readable, going-room, going-on, going-long, going-count, going-words, going-records}
 use borrow.Author.Needs.{needs}
 use Rattle.plain.proofs.serve.serve_plain.Statement.{statement}
 use Rattle.plain.proofs.serve.serve_plain.Tie as tie
@@ -55,7 +55,7 @@ returns c =
     let p = c .before .before .before .before .before .pre in
     let g = c .before .loop .inv .1 in
     let h : length (decode (c .before .before .before .before .before .args .store .now) .consumers) ≤ c .before .loop .i = omega (arith, p .2) in
-    (going-words g h, going-records g h)
+    (going-count g h, (going-words g h, going-records g h))
 
 pub serve-plain-spec : {M : Type 1} → statement M
 serve-plain-spec =

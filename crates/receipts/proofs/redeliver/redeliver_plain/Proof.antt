@@ -3,7 +3,7 @@ use mathlib.Core.Path.{_≡_, refl, sym, ap, _∙_}
 use native.Mathlib.Omega.{arith}
 use Prim.Native.Nat.{ℕ, _+_, _≤_, _<_}
 use mathlib.Core.List.{_++_}
-use lib.ListN.{length}
+use lib.ListN.{length, length-append}
 use borrow.Author.Needs.{needs}
 use Rattle.rules.specs.State.{ledger-of}
 use Rattle.rules.specs.Commands.{found-positions, with-reading}
@@ -14,7 +14,6 @@ use Rattle.groups.proofs.Walks.{stands-few}
 use Rattle.frame.proofs.Frame.{refused-with, done-with-nothing}
 use Rattle.commands.proofs.Found.{live-canon, live-in, live-valid, live-slot}
 use Rattle.receipts.proofs.Finds.{found-few}
-use Rattle.receipts.proofs.Joins.{append-length}
 use Rattle.receipts.proofs.Plain.{plain-over, plain-joins}
 use Rattle.receipts.proofs.redeliver.redeliver_plain.Statement.{statement}
 use Rattle.receipts.proofs.redeliver.redeliver_plain.Tie as tie
@@ -39,7 +38,7 @@ add-n c =
     let fp = found-positions (ledger-of s (consumer-nth s (a .i) .pair .topic)) (groups-from (a .list .now) 0) in
     let n1 = c .before .before .nacked-count .ensures in
     let n2 : c .found-count .result ≡ length fp = c .found-count .ensures ∙ ap (λ (n : ℕ). length (found-positions (ledger-of s n) (groups-from (a .list .now) 0))) tp in
-    let n3 = append-length nk fp in
+    let n3 = length-append nk fp in
     let f = live-in h .nacked-fit in
     let g = found-few (ledger-of s (consumer-nth s (a .i) .pair .topic)) (groups-from (a .list .now) 0) in
     let m = stands-few (a .list .now) 0 (p .2) in
@@ -59,7 +58,7 @@ returns c =
     let fp = found-positions (ledger-of s (consumer-nth s (a .i) .pair .topic)) (groups-from (a .list .now) 0) in
     let n1 = c .before .before .before .nacked-count .ensures in
     let n2 : c .before .found-count .result ≡ length fp = c .before .found-count .ensures ∙ ap (λ (n : ℕ). length (found-positions (ledger-of s n) (groups-from (a .list .now) 0))) tp in
-    let n3 = append-length nk fp in
+    let n3 = length-append nk fp in
     refused-with (a .store .now) _ (h .spelt) (plain-over s (a .i) (a .consumer) (a .list .now) (live-slot h ∙ rw (p .1)) (p .1) (live-valid h) (h .there) (p .2) (p .3) (let t = c .if1 .taken in omega arith))
 
 join-found-requires : tie.Need-join-found-requires
@@ -73,7 +72,7 @@ join-found-requires c κs =
     let fp = found-positions (ledger-of s (consumer-nth s (a .i) .pair .topic)) (groups-from (a .list .now) 0) in
     let n1 = c .before .before .before .before .nacked-count .ensures in
     let n2 : c .before .before .found-count .result ≡ length fp = c .before .before .found-count .ensures ∙ ap (λ (n : ℕ). length (found-positions (ledger-of s n) (groups-from (a .list .now) 0))) tp in
-    let n3 = append-length nk fp in
+    let n3 = length-append nk fp in
     (live-in h, p .2, rw tp (let t = c .before .if1 .left in omega arith))
 
 same-length-2 : tie.Need-same-length-2
@@ -90,7 +89,7 @@ returns-2 c =
     let fp = found-positions (ledger-of s (consumer-nth s (a .i) .pair .topic)) (groups-from (a .list .now) 0) in
     let n1 = c .before .before .before .before .before .before .before .nacked-count .ensures in
     let n2 : c .before .before .before .before .before .found-count .result ≡ length fp = c .before .before .before .before .before .found-count .ensures ∙ ap (λ (n : ℕ). length (found-positions (ledger-of s n) (groups-from (a .list .now) 0))) tp in
-    let n3 = append-length nk fp in
+    let n3 = length-append nk fp in
     done-with-nothing (a .store .now) _ (h .spelt) (plain-joins s (a .i) (a .consumer) (a .list .now) (live-slot h ∙ rw (p .1)) (p .1) (live-valid h) (h .there) (p .2) (p .3) (let t = c .before .before .before .before .if1 .left in omega arith))
     (c .before .before .join-found .ensures ∙ ap (λ (n : ℕ). put (a .store .now) (set-consumer s (a .i) (with-reading (consumer-nth s (a .i)) (consumer-nth s (a .i) .cursor) (nk ++ found-positions (ledger-of s n) (groups-from (a .list .now) 0))))) tp)
 

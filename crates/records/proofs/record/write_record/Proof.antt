@@ -115,9 +115,6 @@ mul-list-12 c = search needs
 slice-write-list-12 : tie.Need-slice-write-list-12
 slice-write-list-12 c = simp length-set (search needs)
 
-signed-requires : tie.Need-signed-requires
-signed-requires c κs = search needs
-
 add-list-12 : tie.Need-add-list-12
 add-list-12 c = search needs
 
@@ -131,7 +128,7 @@ same-length : tie.Need-same-length
 same-length c = simp length-set refl
 
 returns : tie.Need-returns
-returns c = record-written (c .before .before .args .«record») (c .signed .result) (c .before .before .args .m * 13) (c .before .before .args .list .now) (c .signed .ensures)
+returns c = record-written (c .args .«record») (c .args .m * 13) (c .args .list .now)
 
 pub write-record-spec : {M : Type 1} → statement M
 write-record-spec =
@@ -173,7 +170,6 @@ write-record-spec =
     add-list-11
     mul-list-12
     slice-write-list-12
-    signed-requires
     add-list-12
     mul-list-13
     slice-write-list-13

@@ -29,12 +29,12 @@ abbrev μ-loop : tie.MeasureT-loop
 -- what the turn came to: a stop
 stopped : (c : tie.After-enum-told Inv-loop μ-loop) → local-turn (fixed-of (decode (c .before .before .before .before .before .before .before .before .before .before .before .args .store .now)) (dispatcher-nth (decode (c .before .before .before .before .before .before .before .before .before .before .before .args .store .now)) (c .before .before .before .before .before .before .before .before .before .before .before .args .d))) (local-from (c .before .before .before .before .before .before .loop .permits) (c .before .before .before .before .before .before .loop .head) (c .before .before .before .before .before .before .loop .taken)) ≡ stop (local-from (c .before .before .before .before .take-turn .last .1 .1 .1 .1 .1 .1 .0) (c .enum-told .given .0 .0) (c .enum-told .given .0 .1 .0))
 unfolding turn-of
-stopped c = sym (c .before .before .before .before .take-turn .ensures) ∙ ap (λ (t : turns.Turn). turn-of (c .before .before .before .before .take-turn .last .1 .1 .1 .1 .1 .1 .0) t) (c .enum-told .given .1)
+stopped c = sym (c .before .before .before .before .take-turn .ensures .0) ∙ ap (λ (t : turns.Turn). turn-of (c .before .before .before .before .take-turn .last .1 .1 .1 .1 .1 .1 .0) t) (c .enum-told .given .1)
 
 -- or a move
 moved : (c : tie.After-known-told Inv-loop μ-loop) → local-turn (fixed-of (decode (c .before .before .before .before .before .before .before .before .before .before .before .before .args .store .now)) (dispatcher-nth (decode (c .before .before .before .before .before .before .before .before .before .before .before .before .args .store .now)) (c .before .before .before .before .before .before .before .before .before .before .before .before .args .d))) (local-from (c .before .before .before .before .before .before .before .loop .permits) (c .before .before .before .before .before .before .before .loop .head) (c .before .before .before .before .before .before .before .loop .taken)) ≡ move (step-of (c .before .turn .given .0 .0)) (local-from (c .before .before .before .before .before .take-turn .last .1 .1 .1 .1 .1 .1 .0) (c .before .turn .given .0 .1 .0) (c .before .turn .given .0 .1 .1 .0))
 unfolding turn-of
-moved c = sym (c .before .before .before .before .before .take-turn .ensures) ∙ ap (λ (t : turns.Turn). turn-of (c .before .before .before .before .before .take-turn .last .1 .1 .1 .1 .1 .1 .0) t) (c .before .turn .given .1)
+moved c = sym (c .before .before .before .before .before .take-turn .ensures .0) ∙ ap (λ (t : turns.Turn). turn-of (c .before .before .before .before .before .take-turn .last .1 .1 .1 .1 .1 .1 .0) t) (c .before .turn .given .1)
 
 load-head-requires : tie.Need-load-head-requires Inv-loop μ-loop
 load-head-requires c κs = c .before .before .before .pre .0 .here

@@ -1,42 +1,61 @@
 -- `turns::turn::hand_over` meets its contract.
+use mathlib.Core.Path.{ap, _∙_}
+use Prim.Native.Nat.{_-_}
+use lib.ListN.{getD, set}
+use Rattle.heads.specs.declared.Head as numbers
+use Rattle.heads.specs.Moves.{dispatched}
 use Rattle.layout.specs.Layout.{decode}
 use Rattle.layout.specs.Fields.{dispatcher-nth}
 use Rattle.push.specs.Local.{fixed-of}
-use Rattle.turns.specs.Turns.{turn-of, local-from, step-of}
+use Rattle.push.specs.Local.Local-turn.{move}
+use Rattle.turns.specs.Turns.{turn-of, numbers-of, local-from, step-of}
 use Rattle.turns.proofs.Handing.{above-in, handed}
 use borrow.Author.Needs.{needs}
 use Rattle.turns.proofs.turn.hand_over.Statement.{statement}
 use Rattle.turns.proofs.turn.hand_over.Tie as tie
 
+-- src/turn.rt:68:9
 price-requires : tie.Need-price-requires
 price-requires c κs = search needs
 
+-- src/turn.rt:69:16
 mul-left : tie.Need-mul-left
 mul-left c = let h = above-in (c .before .before .before .args .permits .now) (c .before .before .before .args .c) (c .before .before .before .pre .2) in search needs
 
+-- src/turn.rt:69:16
 slice-read-left : tie.Need-slice-read-left
 slice-read-left c = above-in (c .before .before .before .before .args .permits .now) (c .before .before .before .before .args .c) (c .before .before .before .before .pre .2)
 
+-- src/turn.rt:69:16
 sub-left : tie.Need-sub-left
 sub-left c = search needs
 
+-- src/turn.rt:70:5
 mul-permits : tie.Need-mul-permits
 mul-permits c = let h = above-in (c .before .before .before .before .args .permits .now) (c .before .before .before .before .args .c) (c .before .before .before .before .pre .2) in search needs
 
+-- src/turn.rt:70:5
 slice-write-permits : tie.Need-slice-write-permits
 slice-write-permits c = above-in (c .before .before .before .before .args .permits .now) (c .before .before .before .before .args .c) (c .before .before .before .before .pre .2)
 
-sub-t17 : tie.Need-sub-t17
-sub-t17 c = search needs
+-- src/turn.rt:77:22
+dispatch-from-requires : tie.Need-dispatch-from-requires
+dispatch-from-requires c κs = search needs
 
+-- src/turn.rt:50:1
 same-length : tie.Need-same-length
 same-length c = search needs
 
+-- src/turn.rt:50:1
 returns : tie.Need-returns
-unfolding turn-of local-from step-of
+unfolding turn-of numbers-of local-from step-of dispatched
 returns c =
     let a = c .before .before .before .before .before .args in
-    handed (fixed-of (decode (a .store .now)) (dispatcher-nth (decode (a .store .now)) (a .d))) (a .permits .now) (a .head .next) (a .head .cursor) (a .head .«total_available_permits») (a .taken) (a .c) (a .k) (c .before .before .price .result) (c .before .before .price .ensures .0)
+    let left = getD (a .permits .now) (a .c) 0 - c .before .before .price .result in (
+      ap (λ (h : numbers.Head). move (record { consumer = a .c; position = a .k; price = c .before .before .price .result; permits = left }) (local-from (set (a .permits .now) (a .c) left) h (a .taken))) (c .dispatch-from .ensures)
+          ∙ handed (fixed-of (decode (a .store .now)) (dispatcher-nth (decode (a .store .now)) (a .d))) (a .permits .now) (a .next) (a .cursor) (a .head .«total_available_permits») (a .taken) (a .c) (a .k) (c .before .before .price .result) (c .before .before .price .ensures .0),
+      ap (λ (h : numbers.Head). h .«mark_delete») (c .dispatch-from .ensures),
+    )
 
 pub hand-over-spec : {M : Type 1} → statement M
 hand-over-spec =
@@ -48,6 +67,6 @@ hand-over-spec =
     sub-left
     mul-permits
     slice-write-permits
-    sub-t17
+    dispatch-from-requires
     same-length
     returns)

@@ -1,0 +1,4 @@
+pub mod ArrayLoan
+pub mod Loans
+pub mod Making
+pub mod Partway

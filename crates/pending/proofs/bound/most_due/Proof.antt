@@ -1,0 +1,27 @@
+-- `pending::bound::most_due` meets its contract: the two sums are small.
+use native.Mathlib.Omega.{arith}
+use Rattle.layout.specs.Layout.{decode}
+use Rattle.pending.proofs.Most.{most-small}
+use borrow.Author.Needs.{needs}
+use Rattle.pending.proofs.bound.most_due.Statement.{statement}
+use Rattle.pending.proofs.bound.most_due.Tie as tie
+
+waiting-shared-requires : tie.Need-waiting-shared-requires
+waiting-shared-requires c κs = search needs
+
+waiting-plain-requires : tie.Need-waiting-plain-requires
+waiting-plain-requires c κs = search needs
+
+add-result : tie.Need-add-result
+add-result c =
+    let f = most-small (decode (c .before .before .before .args .store .now)) (c .before .before .before .pre .shaped) in
+    let a = c .before .waiting-shared .ensures in
+    let b = c .waiting-plain .ensures in
+    omega (arith, f, a, b)
+
+returns : tie.Need-returns
+returns c = search needs
+
+pub most-due-spec : {M : Type 1} → statement M
+most-due-spec =
+    tie.close (tie.spec waiting-shared-requires waiting-plain-requires add-result returns)

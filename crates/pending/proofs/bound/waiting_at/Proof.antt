@@ -1,0 +1,86 @@
+-- `pending::bound::waiting_at` meets its contract: the queue, and the ledger from the cursor on.
+use mathlib.Core.Path.{_≡_, ap, _∙_}
+use Prim.Native.Nat.{ℕ}
+use native.Mathlib.Omega.{arith}
+use lib.ListN.{length, getD}
+use Rattle.rules.specs.State.{ledger-of}
+use Rattle.layout.specs.Layout.{decode}
+use Rattle.layout.specs.Fields.{dispatcher-nth}
+use Rattle.layout.proofs.GetsDispatcher.{read-dispatcher-topic}
+use Rattle.store.proofs.LedgerWords.{ledger-fits}
+use Rattle.heads.specs.declared.Head as numbers
+use Rattle.dispatcher.specs.Values.{head-of}
+use Rattle.turns.specs.Turns.{ledger-under}
+use Rattle.plain.proofs.Entries.{wait}
+use Rattle.pending.specs.Bound.{waiting-at}
+use borrow.Author.Needs.{needs}
+use Rattle.pending.proofs.bound.waiting_at.Statement.{statement}
+use Rattle.pending.proofs.bound.waiting_at.Tie as tie
+
+-- the length of the dispatcher's ledger
+entries-are : (c : tie.After-ledger-length)
+    → c .ledger-length .result ≡ length (ledger-under (decode (c .before .before .before .before .args .store .now)) (c .before .before .before .before .args .d))
+entries-are c =
+    let a = c .before .before .before .before .args in
+    let h = c .before .before .before .before .pre in
+    c .ledger-length .ensures
+    ∙ ap (λ (k : ℕ). length (ledger-of (decode (a .store .now)) (getD (a .store .now) k 0))) (c .before .before .dispatcher-at .ensures)
+    ∙ ap (λ (t : ℕ). length (ledger-of (decode (a .store .now)) t)) (read-dispatcher-topic (h .canon) (a .d) (h .there))
+
+dispatcher-at-requires : tie.Need-dispatcher-at-requires
+dispatcher-at-requires c κs = search needs
+
+mul-ledger-length : tie.Need-mul-ledger-length
+mul-ledger-length c = search needs
+
+shared-slice-read-ledger-length : tie.Need-shared-slice-read-ledger-length
+shared-slice-read-ledger-length c = search needs
+
+ledger-length-requires : tie.Need-ledger-length-requires
+ledger-length-requires c κs = search needs
+
+load-head-requires : tie.Need-load-head-requires
+load-head-requires c κs = search needs
+
+smaller-requires : tie.Need-smaller-requires
+smaller-requires c κs = search needs
+
+queue-count-requires : tie.Need-queue-count-requires
+queue-count-requires c κs = search needs
+
+sub-result : tie.Need-sub-result
+sub-result c = search needs
+
+add-result : tie.Need-add-result
+add-result c =
+    let a = c .before .before .before .before .before .before .before .args in
+    let h = c .before .before .before .before .before .before .before .pre in
+    let n = entries-are (c .before .before .before) in
+    let k = c .queue-count .ensures in
+    let f = h .lists-fit .queue-fits in
+    let g = ledger-fits (h .canon) (dispatcher-nth (decode (a .store .now)) (a .d) .pair .topic) in
+    let m = h .canon .E-to in
+    omega (arith, n, k, f, g, m)
+
+returns : tie.Need-returns
+unfolding waiting-at head-of
+returns c =
+    let a = c .before .before .before .before .before .before .before .args in
+    let x = dispatcher-nth (decode (a .store .now)) (a .d) in
+    wait (length (x .redelivery)) (length (ledger-under (decode (a .store .now)) (a .d))) (x .cursor) (c .queue-count .ensures) (entries-are (c .before .before .before))
+    (ap (λ (h : numbers.Head). h .cursor) (c .before .before .load-head .ensures)) (c .before .smaller .ensures)
+
+pub waiting-at-spec : {M : Type 1} → statement M
+waiting-at-spec =
+    tie.close
+    (tie.spec
+    dispatcher-at-requires
+    mul-ledger-length
+    shared-slice-read-ledger-length
+    ledger-length-requires
+    load-head-requires
+    smaller-requires
+    queue-count-requires
+    sub-result
+    add-result
+    returns)
