@@ -59,6 +59,11 @@ module _ (q : ℕ → Bool) where
   each-stop n i h f =
       by-test (each-below q n) (λ t. never-both (q i) (each-at n i t h) f) sym
 
+  -- the numbers below n fail where fewer do
+  pub each-less : (n i : ℕ) → i ≤ n → each-below q i ≡ false → each-below q n ≡ false
+  each-less n i h f =
+      by-test (each-below q n) (λ t. never-both (each-below q i) (each-given i (λ j l. each-at n j t (omega arith))) f) (λ t. t)
+
   -- all have passed
   pub each-end : (n i : ℕ) → i ≤ n → n ≤ i → each-below q i ≡ true → true ≡ each-below q n
   each-end n i h k e = let s : i ≡ n = omega arith in sym (rw s at e)

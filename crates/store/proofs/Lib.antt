@@ -17,6 +17,7 @@ pub mod LedgerWords
 pub mod Ledgers
 pub mod Lookups
 pub mod MarkBits
+pub mod MarkRuns
 pub mod MarkWords
 pub mod Moving
 pub mod Opened
@@ -27,6 +28,7 @@ pub mod Ranges
 pub mod Rings
 pub mod Rooms
 pub mod RowLists
+pub mod RowOrder
 pub mod Spelt
 pub mod Stamps
 pub mod Tables

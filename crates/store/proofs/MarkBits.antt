@@ -1,4 +1,4 @@
--- The bits of a mark tested word by word, as `bits_below` and `mark_valid` do it.
+-- The bits of a mark tested word by word, as `bits_below` and `mark_fits` do it.
 use mathlib.Core.Path.{_≡_, refl}
 use mathlib.Core.Bool.{Bool, true, false, cond, _&&_, and-true, and-eq-true-iff}
 use mathlib.Core.List.{List, [], _∷_}

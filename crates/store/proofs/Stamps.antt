@@ -1,7 +1,7 @@
--- Positions told apart by stamps: what the loop of `places_fresh` turns on. A position carries the stamp exactly where it did
--- before or was passed, so that a position that carries it is not fresh.
+-- Positions told apart by stamps: what the loops of `places_fresh` and `flight_fresh` turn on. A position carries the stamp
+-- exactly where it did before or was passed, so that a position that carries it is not fresh.
 use mathlib.Core.Path.{_≡_, refl, sym, ap, _∙_, subst}
-use mathlib.Core.Bool.{Bool, true, false, not, _&&_, _||_, or-false, or-true, false≢true}
+use mathlib.Core.Bool.{Bool, true, false, not, _&&_, _||_, or-false, or-true, and-false, and-assoc, false≢true}
 use mathlib.Core.List.{List}
 use Prim.Native.Nat.{ℕ, _+_, _≤_, _<_}
 use native.Mathlib.Omega.{arith}
@@ -12,7 +12,7 @@ use borrow.Author.Tests.{eqb-true, eqb-false, eq-eqb, ne-eqb, ltb-true, lt-ltb, 
 use Rattle.rules.proofs.Table.{by-test}
 use Rattle.store.specs.Below.{each-below, some-below}
 use Rattle.store.specs.Rows.{row, among}
-use Rattle.store.specs.Places.{fresh-place, fresh-places, stamped, Under, Placed, holders-right, places-right}
+use Rattle.store.specs.Places.{fresh-place, fresh-places, stamped, Under, Placed, Flown, held-right, holders-right, places-right}
 use Rattle.store.proofs.Below.{each-turn, each-stop, each-same, some-next}
 use Rattle.store.proofs.Among.{among-none}
 use Rattle.store.proofs.Spelt.{fails, passes}
@@ -100,6 +100,34 @@ module _ (ws : List ℕ) (first w cursor stamp : ℕ) (before : List ℕ) where
     placed-end n h k =
         let e : i ≡ n = omega arith in subst (λ (m : ℕ). Placed ws first w m cursor stamp before now true) e so-far
 
+-- ---- entries in flight: a holder and a position each
+
+module _ (ws : List ℕ) (ring count first cursor stamp : ℕ) (before : List ℕ) where
+  -- a holder that is not in the ring
+  pub flown-unheld : (n i : ℕ) {now : List ℕ} → i < n → held-right ws ring count first i ≡ false
+      → Placed ws (first + 1) 2 i cursor stamp before now true → Flown ws ring count first n cursor stamp before now false
+  unfolding holders-right
+  flown-unheld n i h f so-far =
+      record {
+        answer = fails _ (sym (each-stop (held-right ws ring count first) n i h f));
+        seen = λ e. absurd (false≢true e);
+        others = so-far .others;
+      }
+
+  -- a position that is not fresh
+  pub flown-stale : (n : ℕ) {now : List ℕ} → Placed ws (first + 1) 2 n cursor stamp before now false → Flown ws ring count first n cursor stamp before now false
+  flown-stale n placed =
+      record {
+        answer = sym (rw (← placed .answer) (and-false (holders-right ws ring count first n)));
+        seen = λ e. absurd (false≢true e);
+        others = placed .others;
+      }
+
+  -- all are passed
+  pub flown-end : (n : ℕ) {now : List ℕ} → holders-right ws ring count first n ≡ true → Placed ws (first + 1) 2 n cursor stamp before now true
+      → Flown ws ring count first n cursor stamp before now true
+  flown-end n held placed = record { answer = passes held (placed .answer); seen = placed .seen; others = placed .others }
+
 -- ---- one pass after another
 
 -- what was seen matters only below the cursor
@@ -129,26 +157,36 @@ module _ (ws : List ℕ) (e at : ℕ) {count n m cursor : ℕ} (ring : count ≡
   unfolding places-right
   parts = rw (ring, flight, queue, top)
 
-  -- a holder that is not in the ring
-  pub holders-wrong : holders-right ws (at + 12) count (at + 175 + e) n ≡ false → false ≡ places-right ws e at
-  holders-wrong f = fails _ f ∙ sym parts
+  module _ (stamp : ℕ) {before mid : List ℕ} (unused : Under before stamp) {r : Bool}
+      (first : Flown ws (at + 12) count (at + 175 + e) n cursor stamp before mid r) where
+    -- where the positions in flight stand
+    place : at + 175 + e + 1 ≡ at + 176 + e
+    place = omega arith
 
-  module _ (right : holders-right ws (at + 12) count (at + 175 + e) n ≡ true) (stamp : ℕ) {before mid : List ℕ} (unused : Under before stamp)
-      {r : Bool} (first : Placed ws (at + 176 + e) 2 n cursor stamp before mid r) where
-    -- whether the positions in flight are fresh
-    flight-answer : r ≡ fresh-places ws (at + 176 + e) 2 n cursor (λ p. false)
-    flight-answer = first .answer ∙ fresh-seen ws (at + 176 + e) 2 n cursor (stamped before stamp) (λ p. false) (λ p h. not-stamped before stamp p unused)
+    -- whether they are fresh, and their holders in the ring
+    flight-answer : r ≡ (holders-right ws (at + 12) count (at + 175 + e) n && fresh-places ws (at + 176 + e) 2 n cursor (λ p. false))
+    flight-answer =
+        first .answer
+        ∙ ap (λ (b : Bool). holders-right ws (at + 12) count (at + 175 + e) n && b)
+        (rw place (fresh-seen ws (at + 176 + e) 2 n cursor (stamped before stamp) (λ p. false) (λ p h. not-stamped before stamp p unused)))
 
-    -- they are not
+    -- the two tests, and that of those queued
+    grouped : places-right ws e at
+        ≡ (holders-right ws (at + 12) count (at + 175 + e) n && fresh-places ws (at + 176 + e) 2 n cursor (λ p. false)
+        && fresh-places ws (at + 174) 1 m cursor (λ p. among ws (at + 176 + e) 2 n p))
+    grouped =
+        parts ∙ sym (and-assoc (holders-right ws (at + 12) count (at + 175 + e) n) (fresh-places ws (at + 176 + e) 2 n cursor (λ p. false))
+        (fresh-places ws (at + 174) 1 m cursor (λ p. among ws (at + 176 + e) 2 n p)))
+
+    -- one of the two fails
     pub flight-wrong : r ≡ false → false ≡ places-right ws e at
-    flight-wrong f = passes right (fails _ (sym flight-answer ∙ f)) ∙ sym parts
+    flight-wrong f = fails _ (sym flight-answer ∙ f) ∙ sym grouped
 
-    -- they are: those queued decide
+    -- both pass: those queued decide
     pub queue-decides : cursor ≤ length before → r ≡ true → {after : List ℕ} {q : Bool} → Placed ws (at + 174) 1 m cursor stamp mid after q → q ≡ places-right ws e at
     queue-decides room t second =
-        passes right
-        (passes (sym flight-answer ∙ t)
+        passes (sym flight-answer ∙ t)
         (second .answer
         ∙ fresh-seen ws (at + 174) 1 m cursor (stamped mid stamp) (λ p. among ws (at + 176 + e) 2 n p)
-        (λ p h. first .seen t p (omega arith) ∙ ap (λ (b : Bool). b || among ws (at + 176 + e) 2 n p) (not-stamped before stamp p unused))))
-        ∙ sym parts
+        (λ p h. (rw place at (first .seen t p (omega arith))) ∙ ap (λ (b : Bool). b || among ws (at + 176 + e) 2 n p) (not-stamped before stamp p unused)))
+        ∙ sym grouped

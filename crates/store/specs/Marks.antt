@@ -2,9 +2,11 @@
 use Prim.Native.Nat.{ℕ, _+_, _*_, _^_}
 use mathlib.Core.Bool.{Bool, cond, not, _&&_}
 use mathlib.Core.List.{List, [], _∷_}
+use lib.Bits.{bitOr}
 use lib.Dec.{eqb, ltb}
 use lib.ListN.{getD}
 use Rattle.bits.specs.Bits.{bits-empty, bits-below}
+use Rattle.bits.specs.declared.UnackedBits.{UnackedBits}
 use Rattle.store.specs.Below.{each-below}
 use Rattle.store.specs.Rows.{row, row-second, two-among, twos-distinct}
 
@@ -12,10 +14,23 @@ use Rattle.store.specs.Rows.{row, row-second, two-among, twos-distinct}
 abbrev pub bits-at : List ℕ → ℕ → List ℕ
 bits-at ws at = getD ws (at + 2) 0 ∷ getD ws (at + 3) 0 ∷ getD ws (at + 4) 0 ∷ getD ws (at + 5) 0 ∷ []
 
+-- whether a redelivery count and the words of bits suit an entry of a batch size
+abbrev pub mark-fits : ℕ → List ℕ → ℕ → Bool
+mark-fits count bits batch = ltb count (2 ^ 32) && cond (ltb 1 batch) (bits-below batch bits) (bits-empty bits)
+
 -- whether the mark at an offset suits an entry of a batch size
 unfoldable pub mark-right : List ℕ → ℕ → ℕ → Bool
-mark-right ws at batch =
-    ltb (getD ws (at + 1) 0) (2 ^ 32) && cond (ltb 1 batch) (bits-below batch (bits-at ws at)) (bits-empty (bits-at ws at))
+mark-right ws at batch = mark-fits (getD ws (at + 1) 0) (bits-at ws at) batch
+
+-- bits together with those of the mark at an offset
+abbrev pub joined : UnackedBits → List ℕ → ℕ → UnackedBits
+joined b ws at =
+    record {
+      w0 = bitOr (b .w0) (getD ws (at + 2) 0);
+      w1 = bitOr (b .w1) (getD ws (at + 3) 0);
+      w2 = bitOr (b .w2) (getD ws (at + 4) 0);
+      w3 = bitOr (b .w3) (getD ws (at + 5) 0);
+    }
 
 -- whether mark k suits entry k of a ledger
 abbrev pub mark-suits : List ℕ → ℕ → ℕ → ℕ → Bool

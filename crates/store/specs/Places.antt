@@ -40,6 +40,12 @@ pub record Placed (ws : List ℕ) (first w n cursor stamp : ℕ) (before after :
   pub seen : r ≡ true → (p : ℕ) → p < length before → stamped after stamp p ≡ (stamped before stamp p || among ws first w n p)
   pub others : Under before (stamp + 1) → Under after (stamp + 1)
 
+-- what a pass over n entries in flight, a holder and a position each, answers and leaves
+pub record Flown (ws : List ℕ) (ring count first n cursor stamp : ℕ) (before after : List ℕ) (r : Bool) : Type 0 where
+  pub answer : r ≡ (holders-right ws ring count first n && fresh-places ws (first + 1) 2 n cursor (stamped before stamp))
+  pub seen : r ≡ true → (p : ℕ) → p < length before → stamped after stamp p ≡ (stamped before stamp p || among ws (first + 1) 2 n p)
+  pub others : Under before (stamp + 1) → Under after (stamp + 1)
+
 -- the places of the dispatcher at an offset: holders in the ring, positions in flight and then queued fresh
 unfoldable pub places-right : List ℕ → ℕ → ℕ → Bool
 places-right ws e at =

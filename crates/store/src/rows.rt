@@ -1,12 +1,13 @@
 // Rows of words: n rows of `width` words from `first` on, each known by its first word or its first
-// two. Whether one is there, and whether all are distinct. Nothing here knows what the words mean.
+// two. Whether one is there, whether all are distinct, whether they ascend. Nothing here knows what the
+// words mean.
 ghost use mathlib.Core.Path.{_≡_};
 ghost use mathlib.Core.Bool.{true};
 ghost use Prim.Native.Nat.{_+_, _*_, _≤_, _<_};
 ghost use lib.Dec.{ltb, leb};
 ghost use lib.ListN.{length};
 ghost use Rattle.store.specs.Below.{each-below};
-ghost use Rattle.store.specs.Rows.{row, among, rows-distinct, two-among, twos-distinct};
+ghost use Rattle.store.specs.Rows.{row, among, rows-distinct, two-among, twos-distinct, pair-above, above-last, twos-ascend};
 
 // A row that starts with a word: the first such row, or the number of rows where there is none.
 pub fn row_of(store: &[u64], first: usize, width: usize, n: usize, a: u64) -> usize
@@ -79,18 +80,113 @@ pub fn two_among(store: &[u64], first: usize, width: usize, n: usize, a: u64, b:
     false
 }
 
-// Whether no two rows start with the same two words.
+// Whether two words are above another two: by the first words, or by the second where the first are
+// the same.
+fn is_above(a: u64, b: u64, c: u64, d: u64) -> bool
+    ensures { λ r. ⌜ r ≡ pair-above a b c d ⌝ }
+{
+    if a == c {
+        return d < b;
+    }
+    c < a
+}
+
+// Whether no two rows start with the same two words. Two words above all before them are not compared,
+// so that ascending rows are passed over once.
 pub fn twos_distinct(store: &[u64], first: usize, width: usize, n: usize) -> bool
     requires { ⌜ (2 ≤ width) × (first + n * width ≤ length (now store)) ⌝ }
     ensures { λ r. ⌜ r ≡ twos-distinct (now (store .entry)) first width n ⌝ }
 {
+    let mut x = 0;
+    let mut y = 0;
     let mut i = 0;
     while i < n {
         let at = first + i * width;
-        if two_among(store, first, width, i, store[at], store[at + 1]) {
+        let a = store[at];
+        let b = store[at + 1];
+        if is_above(a, b, x, y) {
+            x = a;
+            y = b;
+        } else if two_among(store, first, width, i, a, b) {
             return false;
         }
         i += 1;
     }
     true
+}
+
+// Whether the rows ascend by their two words.
+pub fn twos_ascend(store: &[u64], first: usize, width: usize, n: usize) -> bool
+    requires { ⌜ (2 ≤ width) × (first + n * width ≤ length (now store)) ⌝ }
+    ensures { λ r. ⌜ r ≡ twos-ascend (now (store .entry)) first width n ⌝ }
+{
+    let mut i = 0;
+    while i + 1 < n {
+        let at = first + i * width;
+        let next = first + (i + 1) * width;
+        if !is_above(store[next], store[next + 1], store[at], store[at + 1]) {
+            return false;
+        }
+        i += 1;
+    }
+    true
+}
+
+// Whether one of the rows, which ascend, starts with two words: the half that cannot have it is left
+// out again and again.
+fn two_searched(store: &[u64], first: usize, width: usize, n: usize, a: u64, b: u64) -> bool
+    requires room { ⌜ (2 ≤ width) × (first + n * width ≤ length (now store)) ⌝ }
+    requires ascend { ⌜ twos-ascend (now store) first width n ≡ true ⌝ }
+    ensures { λ r. ⌜ r ≡ two-among (now (store .entry)) first width n a b ⌝ }
+{
+    let mut low = 0;
+    let mut high = n;
+    while low < high {
+        let middle = low + (high - low) / 2;
+        let at = first + middle * width;
+        if is_above(a, b, store[at], store[at + 1]) {
+            low = middle + 1;
+        } else if is_above(store[at], store[at + 1], a, b) {
+            high = middle;
+        } else {
+            return true;
+        }
+    }
+    false
+}
+
+// Whether two words are above those of the last row.
+fn above_last(store: &[u64], first: usize, width: usize, n: usize, a: u64, b: u64) -> bool
+    requires { ⌜ (2 ≤ width) × (first + n * width ≤ length (now store)) ⌝ }
+    ensures { λ r. ⌜ r ≡ above-last (now (store .entry)) first width n a b ⌝ }
+{
+    if n == 0 {
+        return false;
+    }
+    let at = first + (n - 1) * width;
+    is_above(a, b, store[at], store[at + 1])
+}
+
+// Whether one of the rows starts with two words, where it is known whether they ascend. Words above
+// the last of ascending rows are not searched for.
+pub fn two_found(
+    store: &[u64],
+    first: usize,
+    width: usize,
+    n: usize,
+    ascend: bool,
+    a: u64,
+    b: u64,
+) -> bool
+    requires room { ⌜ (2 ≤ width) × (first + n * width ≤ length (now store)) ⌝ }
+    requires ascend { ⌜ ascend ≡ twos-ascend (now store) first width n ⌝ }
+    ensures { λ r. ⌜ r ≡ two-among (now (store .entry)) first width n a b ⌝ }
+{
+    if ascend {
+        if above_last(store, first, width, n, a, b) {
+            return false;
+        }
+        return two_searched(store, first, width, n, a, b);
+    }
+    two_among(store, first, width, n, a, b)
 }

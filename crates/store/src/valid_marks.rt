@@ -1,6 +1,7 @@
 // A dispatcher's marks and outside ids against the ledger of its topic, which stands from `ledger` on
 // in rows of four words: a mark for each entry, and no outside id among the entries.
-use super::rows::two_among;
+use super::rows::two_found;
+use super::rows::twos_ascend;
 use super::rows::twos_distinct;
 use super::stretch::word;
 use bits::UnackedBits;
@@ -9,7 +10,7 @@ ghost use Prim.Native.Nat.{_+_, _*_, _≤_, _<_, min};
 ghost use lib.ListN.{length, getD};
 ghost use Rattle.bits.specs.Bits.{bits-below};
 ghost use Rattle.bits.specs.Four.{words};
-ghost use Rattle.store.specs.Marks.{mark-right, marks-right, absent, outside-right};
+ghost use Rattle.store.specs.Marks.{mark-fits, joined, marks-right, absent, outside-right};
 
 // A batch size, or 256 where it is greater.
 fn capped(batch: u64) -> u64
@@ -35,21 +36,14 @@ fn bits_below(bits: UnackedBits, batch: u64) -> bool
     bits.w3 <= full.w3
 }
 
-// Whether the mark at `at` suits an entry of a batch size. Most marks have no bits, and need no look
-// at the size.
-fn mark_valid(store: &[u64], at: usize, batch: u64) -> bool
-    requires { ⌜ at + 6 ≤ length (now store) ⌝ }
-    ensures { λ r. ⌜ r ≡ mark-right (now (store .entry)) at batch ⌝ }
+// Whether a count and bits suit an entry of a batch size. Most marks have no bits, and need no look at
+// the size.
+fn mark_fits(count: u64, bits: UnackedBits, batch: u64) -> bool
+    ensures { λ r. ⌜ r ≡ mark-fits count (words bits) batch ⌝ }
 {
-    if 0xffff_ffff < store[at + 1] {
+    if 0xffff_ffff < count {
         return false;
     }
-    let bits = UnackedBits {
-        w0: store[at + 2],
-        w1: store[at + 3],
-        w2: store[at + 4],
-        w3: store[at + 5],
-    };
     if bits.bits_empty() {
         return true;
     }
@@ -59,7 +53,22 @@ fn mark_valid(store: &[u64], at: usize, batch: u64) -> bool
     bits_below(bits, batch)
 }
 
-// Whether n marks are one for each entry, and each suits its entry.
+// The bits together with those of the mark at `at`.
+fn joined(bits: UnackedBits, store: &[u64], at: usize) -> UnackedBits
+    requires { ⌜ at + 6 ≤ length (now store) ⌝ }
+    ensures { λ r. ⌜ r ≡ joined bits (now (store .entry)) at ⌝ }
+{
+    UnackedBits {
+        w0: bits.w0 | store[at + 2],
+        w1: bits.w1 | store[at + 3],
+        w2: bits.w2 | store[at + 4],
+        w3: bits.w3 | store[at + 5],
+    }
+}
+
+// Whether n marks are one for each entry, and each suits its entry. The marks of entries that follow
+// each other and have one batch size are or-ed together and tested once: no count or-ed is too great,
+// and no bit too high, unless one mark's is.
 pub fn marks_valid(store: &[u64], ledger: usize, entries: usize, first: usize, n: usize) -> bool
     requires { ⌜ (ledger + entries * 4 ≤ length (now store)) × (first + entries * 6 ≤ length (now store)) ⌝ }
     ensures { λ r. ⌜ r ≡ marks-right (now (store .entry)) ledger entries first n ⌝ }
@@ -67,25 +76,42 @@ pub fn marks_valid(store: &[u64], ledger: usize, entries: usize, first: usize, n
     if n != entries {
         return false;
     }
+    let mut batch = 0;
+    let mut count = 0;
+    let mut bits = UnackedBits::fresh_unacked_bits(0);
     let mut i = 0;
     while i < n {
-        if !mark_valid(store, first + i * 6, store[ledger + i * 4 + 3]) {
-            return false;
+        let next = store[ledger + i * 4 + 3];
+        if next != batch {
+            if !mark_fits(count, bits, batch) {
+                return false;
+            }
+            batch = next;
+            count = 0;
+            bits = UnackedBits::fresh_unacked_bits(0);
         }
+        let at = first + i * 6;
+        count |= store[at + 1];
+        bits = joined(bits, store, at);
         i += 1;
     }
-    true
+    mark_fits(count, bits, batch)
 }
 
-// Whether none of n ids stands in the ledger.
+// Whether none of n ids stands in the ledger. Where the ledger's ids ascend, as they mostly do, each is
+// searched for by halves.
 fn ids_absent(store: &[u64], first: usize, n: usize, ledger: usize, entries: usize) -> bool
     requires { ⌜ (first + n * 2 ≤ length (now store)) × (ledger + entries * 4 ≤ length (now store)) ⌝ }
     ensures { λ r. ⌜ r ≡ absent (now (store .entry)) first n ledger entries ⌝ }
 {
+    if n == 0 {
+        return true;
+    }
+    let ascend = twos_ascend(store, ledger, 4, entries);
     let mut i = 0;
     while i < n {
         let at = first + i * 2;
-        if two_among(store, ledger, 4, entries, store[at], store[at + 1]) {
+        if two_found(store, ledger, 4, entries, ascend, store[at], store[at + 1]) {
             return false;
         }
         i += 1;

@@ -8,7 +8,7 @@ ghost use Prim.Native.Nat.{_+_, _*_, _≤_, _<_};
 ghost use lib.Dec.{ltb};
 ghost use lib.ListN.{length, getD};
 ghost use Rattle.store.specs.Rows.{among};
-ghost use Rattle.store.specs.Places.{holders-right, Under, Placed, Tested, places-right};
+ghost use Rattle.store.specs.Places.{Under, Placed, Flown, Tested, places-right};
 ghost use Rattle.store.specs.Dispatchers.{Dispatcher-room};
 
 // The slot of a holder among the ring's ids; a number from `count` on where it is none of them.
@@ -25,11 +25,21 @@ fn holder_slot(store: &[u64], ring: usize, count: usize, guess: usize, id: u64) 
     row_of(store, ring, 1, count, id)
 }
 
-// Whether n entries in flight are held by ring ids. Holders come in the order of the ring, so each is
-// looked for first in the slot after the last one.
-fn holders_in_ring(store: &[u64], ring: usize, count: usize, first: usize, n: usize) -> bool
-    requires { ⌜ (ring + count ≤ length (now store)) × (first + n * 2 ≤ length (now store)) ⌝ }
-    ensures { λ r. ⌜ r ≡ holders-right (now (store .entry)) ring count first n ⌝ }
+// Whether n entries in flight, a holder and a position each, are held by ring ids, and their positions
+// are below the cursor, carry no stamp yet and are distinct; each is stamped. Holders come in the order
+// of the ring, so each is looked for first in the slot after the last one.
+fn flight_fresh(
+    store: &[u64],
+    ring: usize,
+    count: usize,
+    first: usize,
+    n: usize,
+    cursor: usize,
+    stamps: &mut [u8],
+    stamp: u8,
+) -> bool
+    requires { ⌜ (ring + count ≤ length (now store)) × (first + n * 2 ≤ length (now store)) × (cursor ≤ length (now stamps)) ⌝ }
+    ensures { λ r. ⌜ Flown (now (store .entry)) ring count first n cursor stamp (now (stamps .entry)) (now (stamps .exit)) r ⌝ }
 {
     let mut guess = 0;
     let mut i = 0;
@@ -39,6 +49,14 @@ fn holders_in_ring(store: &[u64], ring: usize, count: usize, first: usize, n: us
             return false;
         }
         guess = slot + 1;
+        let position = word(store, first + 1 + i * 2);
+        if cursor <= position {
+            return false;
+        }
+        if stamps[position] == stamp {
+            return false;
+        }
+        stamps[position] = stamp;
         i += 1;
     }
     true
@@ -81,10 +99,17 @@ pub fn places_valid(store: &[u64], e: usize, at: usize, stamps: &mut [u8], stamp
 {
     let cursor = word(store, at + 3);
     let n = word(store, at + 174 + e);
-    if !holders_in_ring(store, at + 12, word(store, at + 11), at + 175 + e, n) {
-        return false;
-    }
-    if !places_fresh(store, at + 176 + e, 2, n, cursor, stamps, stamp) {
+    let count = word(store, at + 11);
+    if !flight_fresh(
+        store,
+        at + 12,
+        count,
+        at + 175 + e,
+        n,
+        cursor,
+        stamps,
+        stamp,
+    ) {
         return false;
     }
     places_fresh(

@@ -55,7 +55,8 @@ fn is_new(store: &[u64], e: usize, t: usize, m: usize, ledger: u64, entry: u64) 
 }
 
 // Whether the messages of topic t are valid and no id stands twice. An id greater than all before
-// it is new; only one that is not greater is compared with each of them.
+// it is new; only one that is not greater is compared with each of them. Most are of the same ledger
+// as the last and greater, which is asked first.
 fn messages_valid(store: &[u64], e: usize, t: usize) -> bool
     requires { ⌜ Canon-store e (now store) × (t < length (decode (now store) .topics)) ⌝ }
     ensures { λ r. ⌜ r ≡ (all valid-message (topic-nth (decode (now (store .entry))) t .messages) && distinct same-id (map (λ (x : StoredMessage). x .id) (topic-nth (decode (now (store .entry))) t .messages))) ⌝ }
@@ -72,6 +73,13 @@ fn messages_valid(store: &[u64], e: usize, t: usize) -> bool
         }
         let x = store[at];
         let y = store[at + 1];
+        if x == ledger {
+            if entry < y {
+                entry = y;
+                m += 1;
+                continue;
+            }
+        }
         if is_after(x, y, ledger, entry) {
             ledger = x;
             entry = y;

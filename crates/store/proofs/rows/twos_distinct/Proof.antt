@@ -1,34 +1,62 @@
--- `store::rows::twos_distinct` meets its contract. The loop's invariant: the rows before i are distinct.
+-- `store::rows::twos_distinct` meets its contract. The loop's invariant: the rows before i are distinct, and none is above the
+-- two words x and y.
 use borrow.Author.Needs.{needs}
-use mathlib.Core.Path.{_≡_, refl}
-use mathlib.Core.Bool.{true}
-use Prim.Native.Nat.{_+_, _*_, _-_, _≤_}
+use mathlib.Core.Path.{_≡_, refl, sym, ap, _∙_}
+use mathlib.Core.Bool.{true, false, not}
+use mathlib.Core.Logic.{⊎-elim}
+use Prim.Native.Nat.{ℕ, _+_, _*_, _-_, _≤_, _<_}
+use native.Mathlib.Nat.{not-suc-le-zero}
 use native.Mathlib.Omega.{arith}
 use lib.ListN.{length}
 use Rattle.store.specs.Below.{each-below}
-use Rattle.store.specs.Rows.{two-differs, twos-distinct}
+use Rattle.store.specs.Rows.{row, row-second, pair-above, two-differs, twos-distinct}
 use Rattle.store.proofs.Below.{refuted, upheld, each-turn, each-stop, each-end}
 use Rattle.store.proofs.Among.{row-ends}
+use Rattle.store.proofs.RowOrder.{most-new, most-raised, most-kept}
 use Rattle.store.proofs.rows.twos_distinct.Statement.{statement}
 use Rattle.store.proofs.rows.twos_distinct.Tie as tie
 
 abbrev Inv-loop : tie.InvT-loop
-Inv-loop store first width n i₀ i = (i ≤ n) × (twos-distinct store first width i ≡ true)
+Inv-loop store first width n x₀ y₀ i₀ x y i =
+    (i ≤ n) × (twos-distinct store first width i ≡ true)
+    × ((j : ℕ) → j < i → pair-above (row store first width j) (row-second store first width j) x y ≡ false)
 
 abbrev μ-loop : tie.MeasureT-loop
-μ-loop store first width n i₀ i = n - i
+μ-loop store first width n x₀ y₀ i₀ x y i = n - i
 
 -- the row of a turn lies in the store
 inside : (c : tie.In-loop Inv-loop μ-loop)
-    → c .before .before .before .args .first + (c .before .loop .i * c .before .before .before .args .width + c .before .before .before .args .width) ≤ length
-    (c .before .before .before .args .store .now)
+    → c .before .before .before .args .first + (c .before .loop .i * c .before .before .before .args .width + c .before .before .before .args .width) ≤ length (c .before .before .before .args .store .now)
 inside c =
-    row-ends (c .before .before .before .args .first) (c .before .before .before .args .width) (c .before .before .before .args .n) (c .before .loop .i)
-    (length (c .before .before .before .args .store .now)) (c .loop-test .taken) (c .before .before .before .pre .1)
+    row-ends (c .before .before .before .args .first) (c .before .before .before .args .width) (c .before .before .before .args .n) (c .before .loop .i) (length (c .before .before .before .args .store .now)) (c .loop-test .taken) (c .before .before .before .pre .1)
+
+-- it differs from those before it
+new : (c : tie.Joined1 Inv-loop μ-loop) → two-differs (c .before .before .before .before .before .before .before .args .store .now) (c .before .before .before .before .before .before .before .args .first) (c .before .before .before .before .before .before .before .args .width) (c .before .before .before .before .before .loop .i) ≡ true
+new c =
+    let a = c .before .before .before .before .before .before .before .args in
+    let l = c .before .before .before .before .before .loop in
+    ⊎-elim
+    (λ w. ap not (most-new (a .store .now) (a .first) (a .width) (l .i) (l .x) (l .y) (l .inv .2) (row (a .store .now) (a .first) (a .width) (l .i))
+    (row-second (a .store .now) (a .first) (a .width) (l .i)) (sym (c .before .is-above .ensures) ∙ w .0 .taken)))
+    (λ w. upheld (w .1 .ensures) (w .2 .left))
+    (c .if1 .came)
+
+-- and none up to it is above the two words that are kept
+most : (c : tie.Joined1 Inv-loop μ-loop) (j : ℕ) → j < c .before .before .before .before .before .loop .i + 1
+    → pair-above (row (c .before .before .before .before .before .before .before .args .store .now) (c .before .before .before .before .before .before .before .args .first) (c .before .before .before .before .before .before .before .args .width) j) (row-second (c .before .before .before .before .before .before .before .args .store .now) (c .before .before .before .before .before .before .before .args .first) (c .before .before .before .before .before .before .before .args .width) j) (c .if1 .x) (c .if1 .y) ≡ false
+most c j h =
+    let a = c .before .before .before .before .before .before .before .args in
+    let l = c .before .before .before .before .before .loop in
+    ⊎-elim
+    (λ w. rw (w .1, w .2)
+    (most-raised (a .store .now) (a .first) (a .width) (l .i) (l .x) (l .y) (l .inv .2) (sym (c .before .is-above .ensures) ∙ w .0 .taken) j h))
+    (λ w. rw (w .3, w .4)
+    (most-kept (a .store .now) (a .first) (a .width) (l .i) (l .x) (l .y) (l .inv .2) (sym (c .before .is-above .ensures) ∙ w .0 .left) j h))
+    (c .if1 .came)
 
 loop-holds : tie.Need-loop-holds Inv-loop μ-loop
 unfolding twos-distinct each-below
-loop-holds c = (search needs, refl)
+loop-holds c = (search needs, refl, λ j h. absurd (not-suc-le-zero h))
 
 mul-at : tie.Need-mul-at Inv-loop μ-loop
 mul-at c = let k = inside c in search needs
@@ -36,30 +64,33 @@ mul-at c = let k = inside c in search needs
 add-at : tie.Need-add-at Inv-loop μ-loop
 add-at c = let k = inside c in search needs
 
-mul-two-among : tie.Need-mul-two-among Inv-loop μ-loop
-mul-two-among c = let k = inside c in search needs
+mul-a : tie.Need-mul-a Inv-loop μ-loop
+mul-a c = let k = inside c in search needs
 
-shared-slice-read-two-among : tie.Need-shared-slice-read-two-among Inv-loop μ-loop
-shared-slice-read-two-among c = let k = inside (c .before) in search needs
+shared-slice-read-a : tie.Need-shared-slice-read-a Inv-loop μ-loop
+shared-slice-read-a c = let k = inside (c .before) in search needs
 
-add-two-among : tie.Need-add-two-among Inv-loop μ-loop
-add-two-among c = let k = inside (c .before) in search needs
+add-b : tie.Need-add-b Inv-loop μ-loop
+add-b c = let k = inside (c .before) in search needs
 
-mul-two-among-2 : tie.Need-mul-two-among-2 Inv-loop μ-loop
-mul-two-among-2 c = let k = inside (c .before) in search needs
+mul-b : tie.Need-mul-b Inv-loop μ-loop
+mul-b c = let k = inside (c .before) in search needs
 
-shared-slice-read-two-among-2 : tie.Need-shared-slice-read-two-among-2 Inv-loop μ-loop
-shared-slice-read-two-among-2 c = let k = inside (c .before .before) in search needs
+shared-slice-read-b : tie.Need-shared-slice-read-b Inv-loop μ-loop
+shared-slice-read-b c = let k = inside (c .before .before) in search needs
+
+is-above-requires : tie.Need-is-above-requires Inv-loop μ-loop
+is-above-requires c κs = search needs
 
 two-among-requires : tie.Need-two-among-requires Inv-loop μ-loop
-two-among-requires c κs = let k = inside (c .before .before) in (search needs, omega arith)
+two-among-requires c κs = let k = inside (c .before .before .before .before) in (search needs, omega arith)
 
 returns : tie.Need-returns Inv-loop μ-loop
 unfolding twos-distinct
 returns c =
-    let a = c .before .before .before .before .before .before .before .args in
-    each-stop (two-differs (a .store .now) (a .first) (a .width)) (a .n)
-    (c .before .before .before .before .before .loop .i) (c .before .before .before .before .loop-test .taken) (refuted (c .before .two-among .ensures) (c .if1 .taken))
+    let a = c .before .before .before .before .before .before .before .before .before .args in
+    each-stop (two-differs (a .store .now) (a .first) (a .width)) (a .n) (c .before .before .before .before .before .before .before .loop .i) (c .before .before .before .before .before .before .loop-test .taken)
+    (refuted (c .before .two-among .ensures) (c .if2 .taken))
 
 add-i : tie.Need-add-i Inv-loop μ-loop
 add-i c = search needs
@@ -72,9 +103,8 @@ unfolding twos-distinct
 loop-again c =
     let a = c .before .before .before .before .before .before .before .args in (
       search needs,
-      each-turn (two-differs (a .store .now) (a .first) (a .width))
-          (c .before .before .before .before .before .loop .i) (c .before .before .before .before .before .loop .inv .1)
-          (upheld (c .before .two-among .ensures) (c .if1 .left)),
+      each-turn (two-differs (a .store .now) (a .first) (a .width)) (c .before .before .before .before .before .loop .i) (c .before .before .before .before .before .loop .inv .1) (new c),
+      most c,
     )
 
 returns-2 : tie.Need-returns-2 Inv-loop μ-loop
@@ -93,11 +123,12 @@ twos-distinct-spec =
     loop-holds
     mul-at
     add-at
-    mul-two-among
-    shared-slice-read-two-among
-    add-two-among
-    mul-two-among-2
-    shared-slice-read-two-among-2
+    mul-a
+    shared-slice-read-a
+    add-b
+    mul-b
+    shared-slice-read-b
+    is-above-requires
     two-among-requires
     returns
     add-i

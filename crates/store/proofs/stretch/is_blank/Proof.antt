@@ -1,18 +1,15 @@
 -- `store::stretch::is_blank` meets its contract. The loop's invariant: what was or-ed so far is 0 and the rest is blank
 -- exactly where the whole stretch is.
-use mathlib.Core.Path.{_≡_, refl, sym, _∙_, ap}
-use mathlib.Core.Bool.{Bool, _&&_}
-use Prim.Native.Nat.{_≤_, _<_, _-_, _+_}
-use native.Mathlib.Omega.{arith}
+use mathlib.Core.Path.{_≡_, refl, _∙_}
+use mathlib.Core.Bool.{_&&_}
+use Prim.Native.Nat.{_≤_, _-_}
 use lib.Dec.{eqb}
-use lib.ListN.{length, getD, drop}
+use lib.ListN.{length, drop}
 use borrow.Author.Needs.{needs}
 use Rattle.words.specs.Words.{blank}
-use Rattle.store.proofs.Blank.{blank-next, blank-end, and-true, or-turn}
+use Rattle.store.proofs.Blank.{or-sixteen}
 use Rattle.store.proofs.stretch.is_blank.Statement.{statement}
 use Rattle.store.proofs.stretch.is_blank.Tie as tie
-use Rattle.store.proofs.stretch.is_blank.Reads as reads
-use Rattle.store.proofs.stretch.is_blank.Lts as lts
 
 abbrev Inv-loop : tie.InvT-loop
 Inv-loop store from to any₀ i₀ any i =
@@ -25,11 +22,17 @@ abbrev μ-loop : tie.MeasureT-loop
 loop-holds : tie.Need-loop-holds Inv-loop μ-loop
 loop-holds c = (search needs, search needs, refl)
 
-mul-any : tie.Need-mul-any Inv-loop μ-loop
-mul-any c = search needs
+sub-loop : tie.Need-sub-loop Inv-loop μ-loop
+sub-loop c = search needs
 
-shared-slice-read-any : tie.Need-shared-slice-read-any Inv-loop μ-loop
-shared-slice-read-any c = search needs
+eight-words-requires : tie.Need-eight-words-requires Inv-loop μ-loop
+eight-words-requires c κs = search needs
+
+add-eight-words : tie.Need-add-eight-words Inv-loop μ-loop
+add-eight-words c = search needs
+
+eight-words-requires-2 : tie.Need-eight-words-requires-2 Inv-loop μ-loop
+eight-words-requires-2 c κs = search needs
 
 add-i : tie.Need-add-i Inv-loop μ-loop
 add-i c = search needs
@@ -38,28 +41,19 @@ loop-less : tie.Need-loop-less Inv-loop μ-loop
 loop-less c = search needs
 
 loop-again : tie.Need-loop-again Inv-loop μ-loop
-loop-again c =
-    let ws = c .before .before .before .args .store .now in
-    let i = c .before .before .loop .i in
-    let to = c .before .before .before .args .to in
-    let h : i < to = omega arith in
-    let l : i < length ws = omega arith in (
-      search needs,
-      search needs,
-      or-turn (c .before .before .loop .any) (getD ws i 0) (blank (to - (i + 1)) (drop (i + 1) ws))
-          ∙ ap (λ (b : Bool). eqb (c .before .before .loop .any) 0 && b) (sym (blank-next ws i to h l))
-          ∙ c .before .before .loop .inv .2,
-    )
+loop-again c = (
+  search needs,
+  search needs,
+  or-sixteen (c .before .before .before .loop .any) (c .before .eight-words .result) (c .eight-words2 .result) (c .before .before .before .before .before .args .store .now) (c .before .before .before .loop .i) (c .before .before .before .before .before .args .to)
+      (c .before .before .loop-test .taken) (c .before .eight-words .ensures) (c .eight-words2 .ensures)
+      ∙ c .before .before .before .loop .inv .2,
+)
+
+rest-blank-requires : tie.Need-rest-blank-requires Inv-loop μ-loop
+rest-blank-requires c κs = search needs
 
 returns : tie.Need-returns Inv-loop μ-loop
-returns c =
-    let ws = c .before .before .args .store .now in
-    let i = c .before .loop .i in
-    let to = c .before .before .args .to in
-    let h : to ≤ i = omega arith in
-    sym (and-true (eqb (c .before .loop .any) 0))
-    ∙ ap (λ (b : Bool). eqb (c .before .loop .any) 0 && b) (sym (blank-end ws i to h))
-    ∙ c .before .loop .inv .2
+returns c = c .rest-blank .ensures ∙ c .before .before .loop .inv .2
 
 pub is-blank-spec : {M : Type 1} → statement M
 is-blank-spec =
@@ -68,9 +62,12 @@ is-blank-spec =
     Inv-loop
     μ-loop
     loop-holds
-    mul-any
-    shared-slice-read-any
+    sub-loop
+    eight-words-requires
+    add-eight-words
+    eight-words-requires-2
     add-i
     loop-less
     loop-again
+    rest-blank-requires
     returns)

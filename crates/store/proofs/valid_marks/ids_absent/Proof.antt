@@ -10,10 +10,17 @@ use Rattle.store.proofs.valid_marks.ids_absent.Statement.{statement}
 use Rattle.store.proofs.valid_marks.ids_absent.Tie as tie
 
 abbrev Inv-loop : tie.InvT-loop
-Inv-loop store first n ledger entries i₀ i = (i ≤ n) × (absent store first i ledger entries ≡ true)
+Inv-loop store first n ledger entries ascend i₀ i = (i ≤ n) × (absent store first i ledger entries ≡ true)
 
 abbrev μ-loop : tie.MeasureT-loop
-μ-loop store first n ledger entries i₀ i = n - i
+μ-loop store first n ledger entries ascend i₀ i = n - i
+
+returns : tie.Need-returns Inv-loop μ-loop
+unfolding absent each-below
+returns c = rw (c .if1 .taken)
+
+twos-ascend-requires : tie.Need-twos-ascend-requires Inv-loop μ-loop
+twos-ascend-requires c κs = (search needs, search needs)
 
 loop-holds : tie.Need-loop-holds Inv-loop μ-loop
 unfolding absent each-below
@@ -25,31 +32,30 @@ mul-at c = search needs
 add-at : tie.Need-add-at Inv-loop μ-loop
 add-at c = search needs
 
-mul-two-among : tie.Need-mul-two-among Inv-loop μ-loop
-mul-two-among c = search needs
+mul-two-found : tie.Need-mul-two-found Inv-loop μ-loop
+mul-two-found c = search needs
 
-shared-slice-read-two-among : tie.Need-shared-slice-read-two-among Inv-loop μ-loop
-shared-slice-read-two-among c = search needs
+shared-slice-read-two-found : tie.Need-shared-slice-read-two-found Inv-loop μ-loop
+shared-slice-read-two-found c = search needs
 
-add-two-among : tie.Need-add-two-among Inv-loop μ-loop
-add-two-among c = search needs
+add-two-found : tie.Need-add-two-found Inv-loop μ-loop
+add-two-found c = search needs
 
-mul-two-among-2 : tie.Need-mul-two-among-2 Inv-loop μ-loop
-mul-two-among-2 c = search needs
+mul-two-found-2 : tie.Need-mul-two-found-2 Inv-loop μ-loop
+mul-two-found-2 c = search needs
 
-shared-slice-read-two-among-2 : tie.Need-shared-slice-read-two-among-2 Inv-loop μ-loop
-shared-slice-read-two-among-2 c = search needs
+shared-slice-read-two-found-2 : tie.Need-shared-slice-read-two-found-2 Inv-loop μ-loop
+shared-slice-read-two-found-2 c = search needs
 
-two-among-requires : tie.Need-two-among-requires Inv-loop μ-loop
-two-among-requires c κs = (search needs, search needs)
+two-found-requires : tie.Need-two-found-requires Inv-loop μ-loop
+two-found-requires c κs = ((search needs, search needs), c .before .before .before .before .twos-ascend .ensures)
 
-returns : tie.Need-returns Inv-loop μ-loop
+returns-2 : tie.Need-returns-2 Inv-loop μ-loop
 unfolding absent
-returns c =
-    let a = c .before .before .before .before .before .before .before .args in
-    each-stop (absent-id (a .store .now) (a .first) (a .ledger) (a .entries)) (a .n) (c .before .before .before .before .before .loop .i)
-    (c .before .before .before .before .loop-test .taken)
-    (refuted (c .before .two-among .ensures) (c .if1 .taken))
+returns-2 c =
+    let a = c .before .before .before .before .before .before .before .before .before .args in
+    each-stop (absent-id (a .store .now) (a .first) (a .ledger) (a .entries)) (a .n) (c .before .before .before .before .before .loop .i) (c .before .before .before .before .loop-test .taken)
+    (refuted (c .before .two-found .ensures) (c .if2 .taken))
 
 add-i : tie.Need-add-i Inv-loop μ-loop
 add-i c = search needs
@@ -60,17 +66,16 @@ loop-less c = search needs
 loop-again : tie.Need-loop-again Inv-loop μ-loop
 unfolding absent
 loop-again c =
-    let a = c .before .before .before .before .before .before .before .args in (
+    let a = c .before .before .before .before .before .before .before .before .before .args in (
       search needs,
-      each-turn (absent-id (a .store .now) (a .first) (a .ledger) (a .entries)) (c .before .before .before .before .before .loop .i)
-          (c .before .before .before .before .before .loop .inv .1)
-          (upheld (c .before .two-among .ensures) (c .if1 .left)),
+      each-turn (absent-id (a .store .now) (a .first) (a .ledger) (a .entries)) (c .before .before .before .before .before .loop .i) (c .before .before .before .before .before .loop .inv .1)
+          (upheld (c .before .two-found .ensures) (c .if2 .left)),
     )
 
-returns-2 : tie.Need-returns-2 Inv-loop μ-loop
+returns-3 : tie.Need-returns-3 Inv-loop μ-loop
 unfolding absent
-returns-2 c =
-    let a = c .before .before .before .args in
+returns-3 c =
+    let a = c .before .before .before .before .before .args in
     each-end (absent-id (a .store .now) (a .first) (a .ledger) (a .entries)) (a .n) (c .before .loop .i) (c .before .loop .inv .0) (c .loop-test .left)
     (c .before .loop .inv .1)
 
@@ -80,17 +85,19 @@ ids-absent-spec =
     (tie.spec
     Inv-loop
     μ-loop
+    returns
+    twos-ascend-requires
     loop-holds
     mul-at
     add-at
-    mul-two-among
-    shared-slice-read-two-among
-    add-two-among
-    mul-two-among-2
-    shared-slice-read-two-among-2
-    two-among-requires
-    returns
+    mul-two-found
+    shared-slice-read-two-found
+    add-two-found
+    mul-two-found-2
+    shared-slice-read-two-found-2
+    two-found-requires
+    returns-2
     add-i
     loop-less
     loop-again
-    returns-2)
+    returns-3)

@@ -1,61 +1,98 @@
--- `store::valid_marks::marks_valid` meets its contract. The loop's invariant: the marks before i suit their entries.
+-- `store::valid_marks::marks_valid` meets its contract. The loop's invariant: what is or-ed of the run fits its batch size exactly
+-- where all marks before i suit their entries.
 use borrow.Author.Needs.{needs}
-use mathlib.Core.Path.{_≡_, refl}
-use mathlib.Core.Bool.{true}
-use Prim.Native.Nat.{_-_, _≤_}
+use mathlib.Core.Path.{_≡_, sym, _∙_}
+use mathlib.Core.Logic.{⊎-elim}
+use Prim.Native.Nat.{_+_, _*_, _-_, _≤_}
+use native.Mathlib.Omega.{arith}
+use lib.ListN.{getD}
 use borrow.Author.Tests.{eq-eqb, ne-eqb}
+use Rattle.bits.specs.Four.{words}
 use Rattle.store.specs.Below.{each-below}
-use Rattle.store.specs.Marks.{mark-suits, marks-right}
-use Rattle.store.proofs.Below.{each-turn, each-stop, each-end}
+use Rattle.store.specs.Marks.{mark-fits, mark-suits, marks-right}
 use Rattle.store.proofs.Spelt.{fails, passes, answered-no, answered-yes}
+use Rattle.store.proofs.MarkRuns.{fits-none, run-turn, run-stop}
 use Rattle.store.proofs.valid_marks.marks_valid.Statement.{statement}
 use Rattle.store.proofs.valid_marks.marks_valid.Tie as tie
 
 abbrev Inv-loop : tie.InvT-loop
-Inv-loop store ledger entries first n i₀ i = (i ≤ n) × (each-below (mark-suits store ledger first) i ≡ true)
+Inv-loop store ledger entries first n batch₀ count₀ bits₀ i₀ batch count bits i =
+    (i ≤ n) × (mark-fits count (words bits) batch ≡ each-below (mark-suits store ledger first) i)
 
 abbrev μ-loop : tie.MeasureT-loop
-μ-loop store ledger entries first n i₀ i = n - i
+μ-loop store ledger entries first n batch₀ count₀ bits₀ i₀ batch count bits i = n - i
+
+-- the run, after the batch size of the next entry was looked at: it is the entry's
+run : (c : tie.Joined2 Inv-loop μ-loop)
+    → (mark-fits (c .if2 .count) (words (c .if2 .bits)) (c .if2 .batch)
+    ≡ each-below (mark-suits (c .before .before .before .before .before .before .before .args .store .now) (c .before .before .before .before .before .before .before .args .ledger) (c .before .before .before .before .before .before .before .args .first)) (c .before .before .before .loop .i))
+    × (c .if2 .batch ≡ getD (c .before .before .before .before .before .before .before .args .store .now) (c .before .before .before .before .before .before .before .args .ledger + c .before .before .before .loop .i * 4 + 3) 0)
+run c =
+    ⊎-elim
+    (λ w. (
+      rw (w .5, w .6) (fits-none (w .3 .result) (c .if2 .batch) (w .3 .ensures) ∙ sym (sym (c .before .before .before .loop .inv .1) ∙ answered-yes (w .1 .ensures) (w .2 .left))),
+      w .4,
+    ))
+    (λ w. (rw (w .1, w .2, w .3) (c .before .before .before .loop .inv .1), w .1 ∙ sym (w .0 .left)))
+    (c .if2 .came)
 
 returns : tie.Need-returns Inv-loop μ-loop
 unfolding marks-right
 returns c = fails _ (ne-eqb _ _ (c .if1 .taken))
 
+fresh-unacked-bits-requires : tie.Need-fresh-unacked-bits-requires Inv-loop μ-loop
+fresh-unacked-bits-requires c κs = search needs
+
 loop-holds : tie.Need-loop-holds Inv-loop μ-loop
 unfolding each-below
-loop-holds c = (search needs, refl)
+loop-holds c = (search needs, fits-none (c .fresh-unacked-bits .result) 0 (c .fresh-unacked-bits .ensures))
 
-mul-mark-valid : tie.Need-mul-mark-valid Inv-loop μ-loop
-mul-mark-valid c = search needs
+mul-next : tie.Need-mul-next Inv-loop μ-loop
+mul-next c = search needs
 
-add-mark-valid : tie.Need-add-mark-valid Inv-loop μ-loop
-add-mark-valid c = search needs
+add-next : tie.Need-add-next Inv-loop μ-loop
+add-next c = search needs
 
-mul-mark-valid-2 : tie.Need-mul-mark-valid-2 Inv-loop μ-loop
-mul-mark-valid-2 c = search needs
+add-next-2 : tie.Need-add-next-2 Inv-loop μ-loop
+add-next-2 c = search needs
 
-add-mark-valid-2 : tie.Need-add-mark-valid-2 Inv-loop μ-loop
-add-mark-valid-2 c = search needs
+mul-next-2 : tie.Need-mul-next-2 Inv-loop μ-loop
+mul-next-2 c = search needs
 
-add-mark-valid-3 : tie.Need-add-mark-valid-3 Inv-loop μ-loop
-add-mark-valid-3 c = search needs
+shared-slice-read-next : tie.Need-shared-slice-read-next Inv-loop μ-loop
+shared-slice-read-next c = search needs
 
-mul-mark-valid-3 : tie.Need-mul-mark-valid-3 Inv-loop μ-loop
-mul-mark-valid-3 c = search needs
-
-shared-slice-read-mark-valid : tie.Need-shared-slice-read-mark-valid Inv-loop μ-loop
-shared-slice-read-mark-valid c = search needs
-
-mark-valid-requires : tie.Need-mark-valid-requires Inv-loop μ-loop
-mark-valid-requires c κs = search needs
+mark-fits-requires : tie.Need-mark-fits-requires Inv-loop μ-loop
+mark-fits-requires c κs = search needs
 
 returns-2 : tie.Need-returns-2 Inv-loop μ-loop
 unfolding marks-right
 returns-2 c =
-    let a = c .before .before .before .before .before .before .before .args in
-    passes (eq-eqb (a .n) (a .entries) (c .before .before .before .before .before .if1 .left))
-    (each-stop (mark-suits (a .store .now) (a .ledger) (a .first)) (a .n) (c .before .before .before .before .loop .i) (c .before .before .before .loop-test .taken)
-    (answered-no (c .before .mark-valid .ensures) (c .if2 .taken)))
+    let a = c .before .before .before .before .before .before .before .before .before .args in
+    passes (eq-eqb (a .n) (a .entries) (c .before .before .before .before .before .before .before .if1 .left))
+    (run-stop (a .store .now) (a .ledger) (a .first) (a .n) (c .before .before .before .before .before .loop .i) (c .before .before .before .before .before .loop .inv .0)
+    (answered-no (c .before .mark-fits .ensures) (c .if3 .taken)) (c .before .before .before .before .before .loop .inv .1))
+
+fresh-unacked-bits-requires-2 : tie.Need-fresh-unacked-bits-requires-2 Inv-loop μ-loop
+fresh-unacked-bits-requires-2 c κs = search needs
+
+mul-at : tie.Need-mul-at Inv-loop μ-loop
+mul-at c = search needs
+
+add-at : tie.Need-add-at Inv-loop μ-loop
+add-at c = search needs
+
+add-count : tie.Need-add-count Inv-loop μ-loop
+add-count c = search needs
+
+mul-count : tie.Need-mul-count Inv-loop μ-loop
+mul-count c = search needs
+
+shared-slice-read-count : tie.Need-shared-slice-read-count Inv-loop μ-loop
+shared-slice-read-count c = search needs
+
+joined-requires : tie.Need-joined-requires Inv-loop μ-loop
+joined-requires c κs = search needs
 
 add-i : tie.Need-add-i Inv-loop μ-loop
 add-i c = search needs
@@ -65,18 +102,23 @@ loop-less c = search needs
 
 loop-again : tie.Need-loop-again Inv-loop μ-loop
 loop-again c =
-    let a = c .before .before .before .before .before .before .before .args in (
+    let a = c .before .before .before .before .before .before .before .before .before .before .args in
+    let s = run (c .before .before .before) in (
       search needs,
-      each-turn (mark-suits (a .store .now) (a .ledger) (a .first)) (c .before .before .before .before .loop .i) (c .before .before .before .before .loop .inv .1)
-          (answered-yes (c .before .mark-valid .ensures) (c .if2 .left)),
+      run-turn (a .store .now) (a .ledger) (a .first) (c .before .before .before .before .before .before .loop .i) (c .before .before .before .if2 .count) (c .before .before .before .if2 .batch) (c .before .before .before .if2 .bits) (c .joined .result)
+          (s .0) (s .1) (c .joined .ensures),
     )
+
+mark-fits-requires-2 : tie.Need-mark-fits-requires-2 Inv-loop μ-loop
+mark-fits-requires-2 c κs = search needs
 
 returns-3 : tie.Need-returns-3 Inv-loop μ-loop
 unfolding marks-right
 returns-3 c =
-    let a = c .before .before .before .before .args in
-    passes (eq-eqb (a .n) (a .entries) (c .before .before .if1 .left))
-    (each-end (mark-suits (a .store .now) (a .ledger) (a .first)) (a .n) (c .before .loop .i) (c .before .loop .inv .0) (c .loop-test .left) (c .before .loop .inv .1))
+    let a = c .before .before .before .before .before .before .args in
+    let e : c .before .before .loop .i ≡ a .n = omega arith in
+    passes (eq-eqb (a .n) (a .entries) (c .before .before .before .before .if1 .left))
+    (c .mark-fits2 .ensures ∙ (rw e at (c .before .before .loop .inv .1)))
 
 pub marks-valid-spec : {M : Type 1} → statement M
 marks-valid-spec =
@@ -85,17 +127,24 @@ marks-valid-spec =
     Inv-loop
     μ-loop
     returns
+    fresh-unacked-bits-requires
     loop-holds
-    mul-mark-valid
-    add-mark-valid
-    mul-mark-valid-2
-    add-mark-valid-2
-    add-mark-valid-3
-    mul-mark-valid-3
-    shared-slice-read-mark-valid
-    mark-valid-requires
+    mul-next
+    add-next
+    add-next-2
+    mul-next-2
+    shared-slice-read-next
+    mark-fits-requires
     returns-2
+    fresh-unacked-bits-requires-2
+    mul-at
+    add-at
+    add-count
+    mul-count
+    shared-slice-read-count
+    joined-requires
     add-i
     loop-less
     loop-again
+    mark-fits-requires-2
     returns-3)

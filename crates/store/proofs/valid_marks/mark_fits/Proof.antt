@@ -1,0 +1,40 @@
+-- `store::valid_marks::mark_fits` meets its contract: the count is tested, then the bits by the batch size.
+use borrow.Author.Needs.{needs}
+use mathlib.Core.Path.{sym, _∙_}
+use Rattle.bits.specs.Four.{words}
+use Rattle.store.proofs.Spelt.{fails, passes}
+use Rattle.store.proofs.Ranges.{count-over, count-fits}
+use Rattle.store.proofs.MarkBits.{bits-clear, bits-single, bits-batch}
+use Rattle.store.proofs.valid_marks.mark_fits.Statement.{statement}
+use Rattle.store.proofs.valid_marks.mark_fits.Tie as tie
+
+returns : tie.Need-returns
+returns c = fails _ (count-over _ (c .if1 .taken))
+
+bits-empty-requires : tie.Need-bits-empty-requires
+bits-empty-requires c κs = search needs
+
+returns-2 : tie.Need-returns-2
+returns-2 c =
+    let a = c .before .before .before .args in
+    passes (count-fits _ (c .before .before .if1 .left))
+    (bits-clear (a .batch) (words (a .bits)) (sym (c .before .bits-empty .ensures) ∙ c .if2 .taken))
+
+returns-3 : tie.Need-returns-3
+returns-3 c =
+    let a = c .before .before .before .before .args in
+    passes (count-fits _ (c .before .before .before .if1 .left))
+    (bits-single (a .batch) (words (a .bits)) (sym (c .before .before .bits-empty .ensures) ∙ c .before .if2 .left) (c .if3 .taken))
+
+bits-below-requires : tie.Need-bits-below-requires
+bits-below-requires c κs = search needs
+
+returns-4 : tie.Need-returns-4
+returns-4 c =
+    let a = c .before .before .before .before .before .args in
+    passes (count-fits _ (c .before .before .before .before .if1 .left)) (bits-batch (a .batch) (words (a .bits)) (c .before .if3 .left) (c .bits-below .ensures))
+
+pub mark-fits-spec : {M : Type 1} → statement M
+mark-fits-spec =
+    tie.close
+    (tie.spec returns bits-empty-requires returns-2 returns-3 bits-below-requires returns-4)
