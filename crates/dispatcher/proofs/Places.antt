@@ -1,15 +1,18 @@
 -- The ring, the queue and what is in flight as the code reads and writes them.
-use mathlib.Core.Path.{_≡_, ap₂}
+use mathlib.Core.Path.{_≡_, sym, ap₂}
 use mathlib.Core.List.{List, [], _∷_, _++_}
 use Prim.Native.Nat.{ℕ, suc, _+_, _-_, _*_, _≤_, _<_}
 use native.Mathlib.Omega.{arith}
 use lib.ListN.{length, getD, set, take, drop}
+use lib.Seq.{set-getD}
 use Rattle.words.specs.Act.{lay, close}
+use Rattle.rules.specs.State.{with-dispatchers}
 use Rattle.rules.specs.Dispatcher.{with-attached, with-places}
 use Rattle.layout.specs.Layout.{decode, put}
 use Rattle.layout.specs.Offsets.{dispatcher-at, flight-in, held-in}
-use Rattle.layout.specs.Fields.{zero-held, dispatcher-nth, set-dispatcher}
+use Rattle.layout.specs.Fields.{zero-held, zero-dispatcher, dispatcher-nth, set-dispatcher}
 use Rattle.layout.specs.Placed.{Dispatcher-in}
+use Rattle.layout.proofs.Store.{put-decode}
 use Rattle.layout.proofs.GetsDispatcher.{read-ring-count, read-ring, read-queue-count, read-queue, read-flight-count, read-holder, read-position}
 use Rattle.layout.proofs.SetsDispatcher as layout
 use Rattle.dispatcher.specs.Held.{held-of, held-at}
@@ -18,6 +21,12 @@ use Rattle.dispatcher.specs.Held.{held-of, held-at}
 pub two-words : (a b to : ℕ) (ws : List ℕ) → set (set ws to a) (to + 1) b ≡ lay (a ∷ b ∷ []) .run to ws
 unfolding lay
 two-words a b to ws = let n : to + 1 ≡ suc to = omega arith in rw n
+
+-- words that stay are those of a dispatcher whose queue loses no position
+pub dropped-none : {e : ℕ} {ws : List ℕ} (d n : ℕ) → Dispatcher-in e ws d → n ≡ 0
+    → ws ≡ put ws (set-dispatcher (decode ws) d (with-places (dispatcher-nth (decode ws) d) (drop n (dispatcher-nth (decode ws) d .redelivery)) (dispatcher-nth (decode ws) d .in-flight)))
+unfolding with-places set-dispatcher with-dispatchers
+dropped-none {e} {ws} d n h z = rw (z, set-getD (decode ws .dispatchers) d zero-dispatcher) (sym (put-decode (h .canon)))
 
 module _ {e : ℕ} {ws : List ℕ} (d at : ℕ) (h : Dispatcher-in e ws d) (a : at ≡ dispatcher-at e d) where
   -- ---- in flight

@@ -40,11 +40,14 @@ pub fn append_queue(store: &mut [u64], e: usize, d: usize, k: usize)
     store[at + 173] = (n + 1) as u64;
 }
 
-// The first `n` positions leave the queue of dispatcher `d`.
+// The first `n` positions leave the queue of dispatcher `d`; none, and no word is moved.
 pub fn drop_queue(store: &mut [u64], e: usize, d: usize, n: usize)
     requires { ⌜ Dispatcher-in e (now store) d × (n ≤ length (dispatcher-nth (decode (now store)) d .redelivery)) ⌝ }
     ensures { λ _. ⌜ now (store .exit) ≡ put (now (store .entry)) (set-dispatcher (decode (now (store .entry))) d (with-places (dispatcher-nth (decode (now (store .entry))) d) (drop n (dispatcher-nth (decode (now (store .entry))) d .redelivery)) (dispatcher-nth (decode (now (store .entry))) d .in-flight))) ⌝ }
 {
+    if n == 0 {
+        return;
+    }
     let at = dispatcher_at(e, d);
     let count = word(store, at + 173);
     close_gap(store, at + 174, n, count - n);

@@ -1,35 +1,38 @@
--- `dispatcher::queue::drop_queue` meets its contract: the gap is closed, then the count lowered.
+-- `dispatcher::queue::drop_queue` meets its contract: nothing to drop, or the gap is closed and then the count lowered.
 use mathlib.Core.Path.{_≡_, _∙_}
 use Prim.Native.Nat.{_+_, _≤_}
 use native.Mathlib.Omega.{arith}
 use lib.ListN.{length}
 use Rattle.layout.specs.Layout.{decode}
 use Rattle.layout.specs.Fields.{dispatcher-nth}
-use Rattle.dispatcher.proofs.Places.{queue-counted, dropped-queue}
+use Rattle.dispatcher.proofs.Places.{queue-counted, dropped-queue, dropped-none}
 use borrow.Author.Needs.{needs}
 use Rattle.dispatcher.proofs.queue.drop_queue.Statement.{statement}
 use Rattle.dispatcher.proofs.queue.drop_queue.Tie as tie
 
 -- the count is the number of queued positions
-counted : (c : tie.After-word) → c .word .result ≡ length (dispatcher-nth (decode (c .before .before .before .before .args .store .now)) (c .before .before .before .before .args .d) .redelivery)
-counted c = c .word .ensures ∙ queue-counted (c .before .before .before .before .args .d) (c .before .before .dispatcher-at .result) (c .before .before .before .before .pre .0) (c .before .before .dispatcher-at .ensures)
+counted : (c : tie.After-word) → c .word .result ≡ length (dispatcher-nth (decode (c .before .before .before .before .before .args .store .now)) (c .before .before .before .before .before .args .d) .redelivery)
+counted c = c .word .ensures ∙ queue-counted (c .before .before .before .before .before .args .d) (c .before .before .dispatcher-at .result) (c .before .before .before .before .before .pre .0) (c .before .before .dispatcher-at .ensures)
 
 -- so many are there
-there : (c : tie.After-word) → c .before .before .before .before .args .n ≤ c .word .result
+there : (c : tie.After-word) → c .before .before .before .before .before .args .n ≤ c .word .result
 there c =
     let n = counted c in
-    let h = c .before .before .before .before .pre .1 in
+    let h = c .before .before .before .before .before .pre .1 in
     omega arith
 
 -- their words lie in the store
-inside : (c : tie.After-word) → c .before .before .dispatcher-at .result + 174 + c .word .result ≤ length (c .before .before .before .before .args .store .now)
+inside : (c : tie.After-word) → c .before .before .dispatcher-at .result + 174 + c .word .result ≤ length (c .before .before .before .before .before .args .store .now)
 inside c =
     let n = counted c in
-    let f = c .before .before .before .before .pre .0 .lists-fit .queue-fits in
+    let f = c .before .before .before .before .before .pre .0 .lists-fit .queue-fits in
     let a = c .before .before .dispatcher-at .ensures in
-    let i = c .before .before .before .before .pre .0 .inside in
-    let l = c .before .before .before .before .pre .0 .canon .long in
+    let i = c .before .before .before .before .before .pre .0 .inside in
+    let l = c .before .before .before .before .before .pre .0 .canon .long in
     omega arith
+
+returns : tie.Need-returns
+returns c = dropped-none (c .before .before .args .d) (c .before .before .args .n) (c .before .before .pre .0) (c .if1 .taken)
 
 dispatcher-at-requires : tie.Need-dispatcher-at-requires
 dispatcher-at-requires c κs = search needs
@@ -67,13 +70,15 @@ slice-write-store c = search needs
 same-length : tie.Need-same-length
 same-length c = search needs
 
-returns : tie.Need-returns
-returns c = dropped-queue (c .before .before .before .before .before .before .before .before .args .d) (c .before .before .before .before .before .before .dispatcher-at .result) (c .before .before .before .before .before .before .before .before .pre .0) (c .before .before .before .before .before .before .dispatcher-at .ensures) (c .before .before .before .before .before .before .before .before .args .n) (c .before .before .before .before .word .result) (c .before .before .before .before .before .before .before .before .pre .1) (counted (c .before .before .before .before)) (c .before .before .close-gap .ensures)
+returns-2 : tie.Need-returns-2
+returns-2 c =
+    dropped-queue (c .before .before .before .before .before .before .before .before .before .args .d) (c .before .before .before .before .before .before .dispatcher-at .result) (c .before .before .before .before .before .before .before .before .before .pre .0) (c .before .before .before .before .before .before .dispatcher-at .ensures) (c .before .before .before .before .before .before .before .before .before .args .n) (c .before .before .before .before .word .result) (c .before .before .before .before .before .before .before .before .before .pre .1) (counted (c .before .before .before .before)) (c .before .before .close-gap .ensures)
 
 pub drop-queue-spec : {M : Type 1} → statement M
 drop-queue-spec =
     tie.close
     (tie.spec
+    returns
     dispatcher-at-requires
     add-word
     word-requires
@@ -85,4 +90,4 @@ drop-queue-spec =
     mul-store
     slice-write-store
     same-length
-    returns)
+    returns-2)
