@@ -1,18 +1,20 @@
 -- Message ids in order: an id greater than all before it is none of them.
-use mathlib.Core.Path.{_≡_, refl, sym, subst}
+use mathlib.Core.Path.{_≡_, refl, sym, _∙_, subst}
 use mathlib.Core.Logic.{_⊎_, inl, inr, ⊎-elim}
 use mathlib.Core.Bool.{true, false, not}
 use mathlib.Core.List.{List, [], _∷_, map}
 use Prim.Native.Nat.{ℕ, _≤_, _<_}
 use native.Mathlib.Omega.{arith}
-use lib.Dec.{leb, ltb}
-use borrow.Author.Tests.{ltb-true, ltb-false, leb-true, leb-false, lt-ltb, le-ltb, eq-eqb, ne-eqb}
+use lib.Dec.{eqb, leb, ltb}
+use borrow.Author.Tests.{ltb-true, ltb-false, leb-true, leb-false, eqb-true, lt-ltb, le-ltb, eq-eqb, ne-eqb}
 use Rattle.rules.specs.Table.{all, any}
 use Rattle.rules.specs.State.{Id, same-id, StoredMessage}
 use Rattle.rules.specs.Ledger.{at-or-after}
 use Rattle.rules.proofs.Says.{Says, says-or, says-and, says-ltb, says-eqb, says-leb}
 use Rattle.rules.proofs.Table.{by-test, never-both, all-parts, all-weaker}
 use Rattle.rules.proofs.State.{decides-ids}
+use Rattle.store.specs.Rows.{pair-above}
+use Rattle.store.proofs.RowOrder.{above-first, above-second}
 
 -- what the order's test says
 says-after : (a b : Id) → Says (at-or-after a b) ((b .ledger < a .ledger) ⊎ ((a .ledger ≡ b .ledger) × (b .entry ≤ a .entry)))
@@ -47,7 +49,7 @@ after-trans a b c e f =
     (says-after a b .gives e)
 
 -- the order by the ledgers, where they differ
-pub by-ledger : (a b : Id) → (b .ledger ≡ a .ledger → ⊥) → ltb (a .ledger) (b .ledger) ≡ not (at-or-after a b)
+by-ledger : (a b : Id) → (b .ledger ≡ a .ledger → ⊥) → ltb (a .ledger) (b .ledger) ≡ not (at-or-after a b)
 unfolding at-or-after
 by-ledger a b f =
     rw (ne-eqb (a .ledger) (b .ledger) (λ q. f (sym q)))
@@ -63,6 +65,15 @@ by-entry a b q =
     (by-test (leb (b .entry) (a .entry))
     (λ t. let x : b .entry ≤ a .entry = leb-true (b .entry) (a .entry) t in rw t (le-ltb (a .entry) (b .entry) (omega arith)))
     (λ t. let x : a .entry < b .entry = leb-false (b .entry) (a .entry) t in rw t (lt-ltb (a .entry) (b .entry) (omega arith))))
+
+-- two words are above another two exactly where the one id is greater than the other
+pub above-after : (a b c d : ℕ) → pair-above a b c d ≡ not (at-or-after (record { ledger = c; entry = d }) (record { ledger = a; entry = b }))
+above-after a b c d =
+    by-test (eqb a c)
+    (λ t. let q = eqb-true a c t in sym (above-second a b c d q) ∙ by-entry (record { ledger = c; entry = d }) (record { ledger = a; entry = b }) q)
+    (λ t.
+    let n : a ≡ c → ⊥ = λ q. never-both (eqb a c) (eq-eqb a c q) t in
+    sym (above-first a b c d n) ∙ by-ledger (record { ledger = c; entry = d }) (record { ledger = a; entry = b }) n)
 
 -- an id by its two words
 pub id-read : (i : Id) {x y : ℕ} → x ≡ i .ledger → y ≡ i .entry → record { ledger = x; entry = y } ≡ i

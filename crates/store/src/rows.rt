@@ -82,7 +82,7 @@ pub fn two_among(store: &[u64], first: usize, width: usize, n: usize, a: u64, b:
 
 // Whether two words are above another two: by the first words, or by the second where the first are
 // the same.
-fn is_above(a: u64, b: u64, c: u64, d: u64) -> bool
+pub fn is_above(a: u64, b: u64, c: u64, d: u64) -> bool
     ensures { λ r. ⌜ r ≡ pair-above a b c d ⌝ }
 {
     if a == c {

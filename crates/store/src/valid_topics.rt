@@ -2,6 +2,7 @@
 // an entry, batch sizes at most 256, and no id twice in a ledger. The store is spelt as it should
 // be, so that counts are within their room; every word is below 2^64.
 use super::find::find_topic;
+use super::rows::is_above;
 use super::stretch::word;
 ghost use mathlib.Core.Path.{_≡_};
 ghost use mathlib.Core.Bool.{not, _&&_};
@@ -11,21 +12,10 @@ ghost use lib.Dec.{eqb};
 ghost use lib.ListN.{length, getD, take};
 ghost use Rattle.rules.specs.Table.{all, any, distinct};
 ghost use Rattle.rules.specs.State.{same-id, StoredMessage, Topic};
-ghost use Rattle.rules.specs.Ledger.{at-or-after};
 ghost use Rattle.rules.specs.Valid.{valid-message, valid-topic};
 ghost use Rattle.layout.specs.Layout.{decode};
 ghost use Rattle.layout.specs.Canon.{Canon-store};
 ghost use Rattle.layout.specs.Fields.{topic-nth};
-
-// Whether the first id is greater than the second: by ledger, then by entry.
-fn is_after(ledger: u64, entry: u64, ledger2: u64, entry2: u64) -> bool
-    ensures { λ r. ⌜ r ≡ not (at-or-after (record { ledger = ledger2; entry = entry2 }) (record { ledger = ledger; entry = entry })) ⌝ }
-{
-    if ledger == ledger2 {
-        return entry2 < entry;
-    }
-    ledger2 < ledger
-}
 
 // Whether the two words at `at` are another id than the given one.
 fn is_other(store: &[u64], at: usize, ledger: u64, entry: u64) -> bool
@@ -80,7 +70,7 @@ fn messages_valid(store: &[u64], e: usize, t: usize) -> bool
                 continue;
             }
         }
-        if is_after(x, y, ledger, entry) {
+        if is_above(x, y, ledger, entry) {
             ledger = x;
             entry = y;
         } else if !is_new(store, e, t, m, x, y) {

@@ -20,7 +20,7 @@ use Rattle.layout.specs.Offsets.{topic-at, message-in}
 use Rattle.layout.proofs.Gets.{messages-short, read-message-count, read-message-ledger, read-message-entry, read-message-handle, read-message-batch}
 use Rattle.store.proofs.Spelt.{fails, passes, answered-no, answered-yes}
 use Rattle.store.proofs.Inside.{topic-inside}
-use Rattle.store.proofs.Ids.{by-entry, id-read, Bounded}
+use Rattle.store.proofs.Ids.{by-entry, above-after, id-read, Bounded}
 use Rattle.store.proofs.Topics.{ids, message-words, messages-valid, message-steps, next-greater, next-new}
 use Rattle.store.proofs.Prefixes.{Passed, passed-start, passed-stop, passed-end}
 use Rattle.store.proofs.valid_topics.messages_valid.Statement.{statement}
@@ -28,7 +28,7 @@ use Rattle.store.proofs.valid_topics.messages_valid.Tie as tie
 use Rattle.store.proofs.valid_topics.messages_valid.Reads as reads
 use Rattle.store.proofs.valid_topics.messages_valid.Lts as lts
 use Rattle.store.proofs.stretch.word.Reads as word-reads
-use Rattle.store.proofs.valid_topics.is_after.Reads as is-after-reads
+use Rattle.store.proofs.rows.is_above.Reads as is-above-reads
 use Rattle.store.proofs.valid_topics.is_new.Reads as is-new-reads
 
 abbrev Inv-loop : tie.InvT-loop
@@ -175,8 +175,8 @@ loop-again c =
     (sym (by-entry g x (c .before .if2 .taken)) ∙ lt-ltb (g .entry) (x .entry) (c .if3 .taken)) in
     (omega arith, n .0, subst (λ (k : ℕ). Bounded (record { ledger = k; entry = x .entry }) (take (m + 1) l)) (c .before .if2 .taken) (n .1))
 
-is-after-requires : tie.Need-is-after-requires Inv-loop μ-loop
-is-after-requires c κs = search needs
+is-above-requires : tie.Need-is-above-requires Inv-loop μ-loop
+is-above-requires c κs = search needs
 
 is-new-requires : tie.Need-is-new-requires Inv-loop μ-loop
 is-new-requires c κs = let h = here (c .before .before .before .before .before .before .before) in (c .before .before .before .before .before .before .before .before .before .before .before .pre .0, c .before .before .before .before .before .before .before .before .before .before .before .pre .1, omega arith)
@@ -203,11 +203,11 @@ loop-again-2 c =
     ⊎-elim
     (λ w.
     let n = next-greater l m (greatest (c .before .before .before .before .before .before .before .before)) (current (c .before .before .before .before .before .before .before)) h (id (c .before .before .before .before .before .before .before)) (c .before .before .before .before .before .before .before .before .loop .inv .1) (c .before .before .before .before .before .before .before .before .loop .inv .2) r
-    (sym (c .before .is-after .ensures) ∙ w .0 .taken) in
+    (sym (c .before .is-above .ensures ∙ above-after _ _ _ _) ∙ w .0 .taken) in
     (omega arith, n .0, rw (w .1, w .2) (n .1)))
     (λ w.
     let n = next-new l m (greatest (c .before .before .before .before .before .before .before .before)) (current (c .before .before .before .before .before .before .before)) h (id (c .before .before .before .before .before .before .before)) (c .before .before .before .before .before .before .before .before .loop .inv .1) (c .before .before .before .before .before .before .before .before .loop .inv .2) r
-    (sym (c .before .is-after .ensures) ∙ w .0 .left) (answered-yes (w .1 .ensures) (w .2 .left)) in
+    (sym (c .before .is-above .ensures ∙ above-after _ _ _ _) ∙ w .0 .left) (answered-yes (w .1 .ensures) (w .2 .left)) in
     (omega arith, n .0, rw (w .3, w .4) (n .1)))
     (c .if4 .came)
 
@@ -244,7 +244,7 @@ messages-valid-spec =
     add-m
     loop-less
     loop-again
-    is-after-requires
+    is-above-requires
     is-new-requires
     returns-2
     add-m-2
