@@ -1,5 +1,5 @@
 -- The calls over words are the calls over states: what a call leaves in a store decodes to the state after it by the rule,
--- and spells a state again. Demand 3 over words follows from demand 3 over states.
+-- and spells a state again.
 use mathlib.Core.Path.{_≡_, refl, sym, ap, _∙_, subst}
 use mathlib.Core.Bool.{Bool, true, false, not}
 use mathlib.Core.List.{List, [], _∷_}
@@ -16,10 +16,8 @@ use Rattle.rules.specs.Outcome.Value.{nothing}
 use Rattle.rules.specs.Valid.{valid}
 use Rattle.rules.specs.Calls as rules
 use Rattle.rules.specs.Calls.{Call, needed, opened, opening, rule, state-after, fits, answer-word}
-use Rattle.rules.specs.Demand.{Reached, at-opening, after-call, after-calls, never-replaces, Honest, Demand-3}
 use Rattle.rules.proofs.Valid.{says-valid}
 use Rattle.rules.proofs.Kept.{opened-valid, valid-kept, entries-kept}
-use Rattle.rules.proofs.Demand.{demand-3}
 use Rattle.layout.specs.Layout.{decode, spells, put}
 use Rattle.layout.specs.Calls.{outcome, words-after, answer, after, run, open-outcome, open-after}
 use Rattle.layout.proofs.Valid.{valid-shaped}
@@ -142,30 +140,3 @@ module _ (ws : List ℕ) (e leak noop : ℕ) (h : 1 ≤ e) (k : e ≤ 4096) (l :
   open-spells =
       ap spells open-put
       ∙ put-spells ws (opened e (not (eqb leak 0)) (not (eqb noop 0))) (just-opened e (not (eqb leak 0)) (not (eqb noop 0)) h k)
-
--- ---- demand 3
-
--- the state of a history is the state after its calls
-pub state-reached : (r : Reached) (calls : List Call) → after-calls r calls .state ≡ rules.run (r .state) calls
-unfolding after-calls after-call rules.run
-state-reached r [] = refl
-state-reached r (x ∷ calls) = state-reached (after-call r x) calls
-
--- a history with another name for its state
-honest-as : (r : Reached) (s : State) → s ≡ r .state → Honest r → Honest (record { state = s; book = r .book })
-honest-as r s q h = subst (λ (t : State). Honest (record { state = t; book = r .book })) (sym q) h
-
--- demand 3 over words: a store opened with the leak switch off and given any list of calls in which no live id is replaced
-pub demand-words : (ws : List ℕ) (e noop : ℕ) (calls : List Call) → 1 ≤ e → e ≤ 4096 → needed e ≤ length ws → all fits calls ≡ true
-    → never-replaces (at-opening e false (not (eqb noop 0))) calls ≡ true
-    → Honest
-    (record { state = decode (run (open-after ws e 0 noop) calls); book = after-calls (at-opening e false (not (eqb noop 0))) calls .book })
-unfolding Demand-3 at-opening
-demand-words ws e noop calls h k l f q =
-    let r : Reached = at-opening e false (not (eqb noop 0)) in
-    let w : List ℕ = open-after ws e 0 noop in
-    honest-as (after-calls r calls) (decode (run w calls))
-    (decode-run w calls (open-spells ws e 0 noop h k l) f
-    ∙ ap (λ (s : State). rules.run s calls) (open-decode ws e 0 noop h k l)
-    ∙ sym (state-reached r calls))
-    (demand-3 e (not (eqb noop 0)) calls h k q)

@@ -16,4 +16,6 @@ pub mod Blank
 pub mod Sets
 pub mod SetsDispatcher
 pub mod Calls
+pub mod FewDue
+pub mod Demand
 pub mod Placed

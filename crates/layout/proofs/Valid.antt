@@ -40,7 +40,7 @@ unfolding ledger-of topic-of
 ledger-fits s n h = found-fits (s .entries) n (s .topics) h
 
 -- a valid dispatcher: queue and flight together fit E
-dispatcher-shaped : (s : State) → All (Shaped-topic (s .entries)) (s .topics) → (d : Dispatcher) → Valid-dispatcher s d
+pub dispatcher-shaped : (s : State) → All (Shaped-topic (s .entries)) (s .topics) → (d : Dispatcher) → Valid-dispatcher s d
     → Shaped-dispatcher (s .entries) d
 dispatcher-shaped s t d v =
     let held : List ℕ = map (λ (h : Held). h .position) (d .in-flight) in
@@ -60,7 +60,7 @@ dispatcher-shaped s t d v =
     }
 
 -- each element, seen by what is valid of it
-all-valid : {A : Type 0} {P Q : A → Type 0} → ((a : A) → P a → Q a) → (l : List A) → Every P l → All Q l
+pub all-valid : {A : Type 0} {P Q : A → Type 0} → ((a : A) → P a → Q a) → (l : List A) → Every P l → All Q l
 all-valid {Q = Q} f l h = every-all {P = Q} l (λ a m. f a (h a m))
 
 -- a valid state is shaped

@@ -1,6 +1,7 @@
 pub mod Records
 pub mod Layout
 pub mod Calls
+pub mod Demand
 pub mod Offsets
 pub mod Whole
 pub mod Canon

@@ -8,7 +8,7 @@ use Rattle.rules.specs.Dispatcher.{balance-check}
 use Rattle.rules.specs.Calls.{Call}
 use Rattle.rules.specs.Demand.{at-opening, after-calls, never-replaces, Demand-3}
 use Rattle.rules.proofs.Demand.Calls.{history-keeps}
-use Rattle.rules.proofs.Demand.Honest.{honest}
+use Rattle.rules.proofs.Demand.Accounted.{accounted}
 use Rattle.rules.proofs.Demand.Balance.{balance-check-is-total}
 pub mod Invariant
 pub mod Known
@@ -27,14 +27,14 @@ pub mod Handed
 pub mod Turn
 pub mod Push
 pub mod Calls
-pub mod Honest
+pub mod Accounted
 pub mod Balance
 pub mod Needed
 
 -- demand 3
 pub demand-3 : Demand-3
 unfolding Demand-3
-demand-3 e noop calls low high never = honest (after-calls (at-opening e false noop) calls) (history-keeps e noop calls never)
+demand-3 e noop calls low high never = accounted (after-calls (at-opening e false noop) calls) (history-keeps e noop calls never)
 
 -- after every such list the balance check of every dispatcher is its total
 pub balance-checks : (e : ℕ) (noop : Bool) (calls : List Call) → never-replaces (at-opening e false noop) calls ≡ true

@@ -8,3 +8,4 @@ pub mod State
 pub mod Ledger
 pub mod Demand
 pub mod Kept
+pub mod Answers

@@ -1,5 +1,5 @@
 -- Opening, the eight calls with their rule, and lists of calls. Exported functions' contracts and demand 3 speak of these.
-use Prim.Native.Nat.{ℕ, _+_, _*_, _%_, _^_}
+use Prim.Native.Nat.{ℕ, _+_, _*_, _/_, _%_, _^_}
 use mathlib.Core.Bool.{Bool, true, false, not, _&&_}
 use mathlib.Core.List.{List, [], _∷_}
 use lib.Dec.{leb, ltb}
@@ -112,3 +112,11 @@ unfoldable pub answer-word : Outcome → ℕ
 answer-word (refused n) = n
 answer-word (short n) = n % 2 ^ 56 * 256 + 15
 answer-word (done v s) = value-number v % 2 ^ 56 * 256
+
+-- the refusal's number in an answer, 0 when done
+unfoldable pub number-in : ℕ → ℕ
+number-in a = a % 256
+
+-- the value in an answer, modulo 2 ^ 56
+unfoldable pub value-in : ℕ → ℕ
+value-in a = a / 256

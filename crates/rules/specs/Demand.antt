@@ -9,7 +9,7 @@ use lib.ListN.{length}
 use Rattle.rules.specs.Permits.{zero-permits, reading}
 use Rattle.rules.specs.Table.{keep, member, count}
 use Rattle.rules.specs.State.{Id, Pair, Held, Dispatcher, State}
-use Rattle.rules.specs.Ledger.{message-at}
+use Rattle.rules.specs.Ledger.{position-of, holds-id, message-at}
 use Rattle.rules.specs.Outcome.{Outcome}
 use Rattle.rules.specs.Outcome.Outcome.{refused, short, done}
 use Rattle.rules.specs.Calls.{Call, rule, state-after, opened}
@@ -53,17 +53,21 @@ is-done (refused n) = false
 is-done (short n) = false
 is-done (done v s) = true
 
--- whether a call is a subscribe of an id that the book has as live, done other than as a no-op
+-- whether a call is a subscribe of an id that the book has as live
+unfoldable pub subscribes-live : Book → Call → Bool
+subscribes-live b (Append topic m) = false
+subscribes-live b (Subscribe i kind p) = is-live (b .who i)
+subscribes-live b (Flow i grant) = false
+subscribes-live b (Ack i list) = false
+subscribes-live b (Seek i target) = false
+subscribes-live b (Redeliver i list) = false
+subscribes-live b (Close i) = false
+subscribes-live b (Push room) = false
+
+-- whether a call is such a subscribe, done other than as a no-op
 unfoldable pub replaces : Reached → Call → Bool
-replaces r (Append topic m) = false
-replaces r (Subscribe i kind p) =
-    is-live (r .book .who i) && is-done (rule (r .state) (Subscribe i kind p)) && not (r .state .live-id-subscribe-is-noop)
-replaces r (Flow i grant) = false
-replaces r (Ack i list) = false
-replaces r (Seek i target) = false
-replaces r (Redeliver i list) = false
-replaces r (Close i) = false
-replaces r (Push room) = false
+replaces r x =
+    subscribes-live (r .book) x && is-done (rule (r .state) x) && not (r .state .live-id-subscribe-is-noop)
 
 -- whether no call of a list is such a subscribe
 unfoldable pub never-replaces : Reached → List Call → Bool
@@ -109,17 +113,23 @@ pub record No-leak (b : Book) (d : Dispatcher) : Type 0 where
   pub balance-reading :
       reading (d .total-available-permits)
       ≡ subℕ (sum-over grants-of (b .who) (b .attached (d .pair))) (sum-over costs-of (b .who) (b .attached (d .pair)))
-  -- what was handed out and is not complete stands exactly once, among what attached consumers hold and in the queue
+  -- each id that was handed out and is not complete is in the book's list of the topic
+  pub in-list :
+      (i : Id) → b .handed-out (d .pair) i ≡ true → b .acked (d .pair) i .complete ≡ false
+      → holds-id i (b .topics (d .pair .topic)) ≡ true
+  -- and its position there stands exactly once, among what attached consumers hold and in the queue
   pub once :
-      (k : ℕ) → k < length (b .topics (d .pair .topic)) → b .handed-out (d .pair) (id-at b (d .pair) k) ≡ true
-      → b .acked (d .pair) (id-at b (d .pair) k) .complete ≡ false
-      → count k (held-by-any (b .attached (d .pair)) (d .in-flight)) + count k (d .redelivery) ≡ 1
+      (i : Id) → b .handed-out (d .pair) i ≡ true → b .acked (d .pair) i .complete ≡ false
+      → count (position-of i (b .topics (d .pair .topic))) (held-by-any (b .attached (d .pair)) (d .in-flight))
+      + count (position-of i (b .topics (d .pair .topic))) (d .redelivery)
+      ≡ 1
   -- every position below mark-delete is one of the list and complete
   pub mark-delete-in-list : d .mark-delete ≤ length (b .topics (d .pair .topic))
   pub below-mark-delete : (k : ℕ) → k < d .mark-delete → b .acked (d .pair) (id-at b (d .pair) k) .complete ≡ true
 
--- what demand 3 says of a state and its book
-pub record Honest (r : Reached) : Type 0 where
+-- what demand 3 says of a state and its book: every permit and every message is accounted for (the customer's "a low
+-- reading is honest")
+pub record Accounted (r : Reached) : Type 0 where
   -- the dispatchers are exactly the pairs that shared subscribes made
   pub pairs : map (λ (d : Dispatcher). d .pair) (r .state .dispatchers) ≡ r .book .pairs
   pub dispatchers : (d : Dispatcher) → List·Memᴰ d (r .state .dispatchers) → No-leak (r .book) d
@@ -128,4 +138,4 @@ pub record Honest (r : Reached) : Type 0 where
 unfoldable pub Demand-3 : Type 0
 Demand-3 =
     (e : ℕ) (noop : Bool) (calls : List Call) → 1 ≤ e → e ≤ 4096 → never-replaces (at-opening e false noop) calls ≡ true
-    → Honest (after-calls (at-opening e false noop) calls)
+    → Accounted (after-calls (at-opening e false noop) calls)

@@ -6,7 +6,7 @@ use mathlib.Core.Bool.{false, cond, not, _||_}
 use mathlib.Core.List.{List, [], _∷_, _++_, map}
 use mathlib.Core.Option.{Option, none, some}
 use lib.Dec.{eqb, leb, ltb}
-use lib.ListN.{length, take, drop}
+use lib.ListN.{length, getD, take, drop}
 use Rattle.bits.specs.Bits.{bits-empty, word-count}
 use Rattle.bits.specs.Four.{words}
 use Rattle.rules.specs.Permits.{above-zero}
@@ -203,3 +203,21 @@ flat x =
 unfoldable pub flat-records : List Dispatch → List ℕ
 flat-records [] = []
 flat-records (x ∷ l) = flat x ++ flat-records l
+
+-- the record that 13 words spell, the first ones of some words
+unfoldable pub record-read : List ℕ → Dispatch
+record-read ws =
+    record {
+      consumer = getD ws 0 0;
+      message = record { id = record { ledger = getD ws 1 0; entry = getD ws 2 0 }; handle = getD ws 3 0; batch-size = getD ws 4 0 };
+      ack-set-words = getD ws 5 0;
+      ack-set = record { w0 = getD ws 6 0; w1 = getD ws 7 0; w2 = getD ws 8 0; w3 = getD ws 9 0 };
+      redelivery-count = getD ws 10 0;
+      cost = getD ws 11 0;
+      permits = (getD ws 12 0 + 2 ^ 62) % 2 ^ 64;
+    }
+
+-- the first n records that words spell
+unfoldable pub records-read : ℕ → List ℕ → List Dispatch
+records-read zero ws = []
+records-read (suc n) ws = record-read ws ∷ records-read n (drop 13 ws)

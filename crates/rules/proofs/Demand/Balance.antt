@@ -18,7 +18,7 @@ use Rattle.rules.proofs.Table.{count-append, count-self}
 use Rattle.rules.proofs.State.{decides-pairs}
 use Rattle.rules.proofs.Demand.Invariant.{Invariant}
 use Rattle.rules.proofs.Demand.Known.{known, ring-live}
-use Rattle.rules.proofs.Demand.Honest.{own}
+use Rattle.rules.proofs.Demand.Accounted.{own}
 
 module _ (s : State) (b : Book) (h : Invariant s b) (p : Pair) where
   -- a consumer live under the pair adds its permits

@@ -12,7 +12,7 @@ use Rattle.rules.specs.Ledger.{position-of, message-at}
 use Rattle.rules.specs.Calls.{Call, rule, opened}
 use Rattle.rules.specs.Calls.Call.{Append, Subscribe, Flow, Ack, Seek, Redeliver, Close, Push}
 use Rattle.rules.specs.Book.{empty-book}
-use Rattle.rules.specs.Demand.{Reached, at-opening, after-call, after-calls, replaces, never-replaces, sum-over}
+use Rattle.rules.specs.Demand.{Reached, at-opening, after-call, after-calls, is-live, subscribes-live, replaces, never-replaces, sum-over}
 use Rattle.rules.proofs.Table.{Once}
 use Rattle.rules.proofs.Demand.Invariant.{acked-by, Invariant}
 use Rattle.rules.proofs.Demand.Outcomes.{Keeps, keeps-after}
@@ -56,7 +56,7 @@ at-start e noop = record {
 
 -- each call's outcome keeps it
 outcome-keeps : (r : Reached) (x : Call) → Good r → replaces r x ≡ false → Keeps (r .state) (r .book) x (rule (r .state) x)
-unfolding rule replaces
+unfolding rule replaces subscribes-live is-live
 outcome-keeps r (Append topic m) h e = append-keeps (r .state) (r .book) h topic m
 outcome-keeps r (Subscribe i kind p) h e = subscribe-keeps (r .state) (r .book) h i kind p e
 outcome-keeps r (Flow i grant) h e = flow-keeps (r .state) (r .book) h i grant

@@ -13,7 +13,7 @@ use Rattle.rules.specs.State.Kind.{shared}
 use Rattle.rules.specs.Calls.{Call}
 use Rattle.rules.specs.Calls.Call.{Subscribe, Flow, Close}
 use Rattle.rules.specs.Book.{empty-book, updated, with-who, with-attached-ids, with-pair, enter-subscribe, enter-flow, enter-close, enter-done, records-of, told, enter}
-use Rattle.rules.specs.Demand.{at-opening, after-call, after-calls, is-live, is-done, replaces, never-replaces, sum-over, grants-of, costs-of, Honest}
+use Rattle.rules.specs.Demand.{at-opening, after-call, after-calls, is-live, is-done, subscribes-live, replaces, never-replaces, sum-over, grants-of, costs-of, Accounted}
 use Rattle.rules.proofs.Computes.{computes}
 
 -- a subscription
@@ -33,15 +33,15 @@ pub record Needed : Type 0 where
   -- with the leak switch on, no live id is replaced
   pub replaces-none : never-replaces (at-opening 1 true false) granted-and-closed ≡ true
   -- and the total is -4 with nobody attached
-  pub leaks : Honest (after-calls (at-opening 1 true false) granted-and-closed) → ⊥
+  pub leaks : Accounted (after-calls (at-opening 1 true false) granted-and-closed) → ⊥
   -- with the leak switch off and a live id replaced, the total is 4 with nobody attached
-  pub strays : Honest (after-calls (at-opening 1 false false) granted-and-replaced) → ⊥
+  pub strays : Accounted (after-calls (at-opening 1 false false) granted-and-replaced) → ⊥
 
 -- by computation
 pub both-exclusions-needed : Needed
 unfolding computes
     empty-book updated with-who with-attached-ids with-pair enter-subscribe enter-flow enter-close enter-done records-of told enter
-    at-opening after-call after-calls is-live is-done replaces never-replaces sum-over grants-of costs-of
+    at-opening after-call after-calls is-live is-done subscribes-live replaces never-replaces sum-over grants-of costs-of
 both-exclusions-needed = record {
   replaces-none = refl;
   leaks = λ h. let e : negsuc 3 ≡ pos 0 = h .dispatchers _ (List·Memᴰ·head refl) .balance-reading in pos-ne-negsuc 0 3 (sym e);

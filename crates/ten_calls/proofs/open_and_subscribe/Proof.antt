@@ -1,12 +1,12 @@
--- `honest::arrive` meets its contract: the opening, then three calls in a row.
+-- `ten_calls::open_and_subscribe` meets its contract: the opening, then three calls in a row.
 use Rattle.broker.specs.Exports.{kind-from}
-use Rattle.honest.specs.Morning.{arrivals, counter}
-use Rattle.honest.proofs.Runs.{ran-from, ran-on, ran-last}
+use Rattle.ten_calls.specs.TenCalls.{subscribing, subscription}
+use Rattle.ten_calls.proofs.Runs.{ran-from, ran-on, ran-last}
 use borrow.Author.Needs.{needs}
-use Rattle.honest.proofs.arrive.Statement.{statement}
-use Rattle.honest.proofs.arrive.Tie as tie
-use Rattle.honest.proofs.arrive.Reads as reads
-use Rattle.honest.proofs.arrive.Lts as lts
+use Rattle.ten_calls.proofs.open_and_subscribe.Statement.{statement}
+use Rattle.ten_calls.proofs.open_and_subscribe.Tie as tie
+use Rattle.ten_calls.proofs.open_and_subscribe.Reads as reads
+use Rattle.ten_calls.proofs.open_and_subscribe.Lts as lts
 use Rattle.broker.proofs.broker_append.Reads as broker-append-reads
 use Rattle.broker.proofs.broker_open.Reads as broker-open-reads
 use Rattle.broker.proofs.broker_subscribe.Reads as broker-subscribe-reads
@@ -27,14 +27,14 @@ same-length : tie.Need-same-length
 same-length c = search needs
 
 returns : tie.Need-returns
-unfolding arrivals counter kind-from
+unfolding subscribing subscription kind-from
 returns c =
     ran-from _ _ _ _ (c .before .before .before .before .before .before .before .before .before .before .before .before .before .before .broker-open .ensures .1)
     (ran-on _ _ _ _ _ (c .before .before .before .before .before .before .before .before .before .before .broker-append .ensures .1)
     (ran-on _ _ _ _ _ (c .before .before .before .before .before .before .broker-subscribe .ensures .1) (ran-last _ _ _ (c .before .before .broker-subscribe2 .ensures .1))))
 
-pub arrive-spec : {M : Type 1} → statement M
-arrive-spec =
+pub open-and-subscribe-spec : {M : Type 1} → statement M
+open-and-subscribe-spec =
     tie.close
     (tie.spec
     broker-open-requires

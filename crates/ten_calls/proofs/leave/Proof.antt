@@ -1,12 +1,12 @@
--- `honest::settle` meets its contract: four calls in a row.
+-- `ten_calls::leave` meets its contract: four calls in a row.
 use Rattle.broker.specs.Exports.{target-from}
-use Rattle.honest.specs.Morning.{settlement}
-use Rattle.honest.proofs.Runs.{ran-on, ran-last}
+use Rattle.ten_calls.specs.TenCalls.{leaving}
+use Rattle.ten_calls.proofs.Runs.{ran-on, ran-last}
 use borrow.Author.Needs.{needs}
-use Rattle.honest.proofs.settle.Statement.{statement}
-use Rattle.honest.proofs.settle.Tie as tie
-use Rattle.honest.proofs.settle.Reads as reads
-use Rattle.honest.proofs.settle.Lts as lts
+use Rattle.ten_calls.proofs.leave.Statement.{statement}
+use Rattle.ten_calls.proofs.leave.Tie as tie
+use Rattle.ten_calls.proofs.leave.Reads as reads
+use Rattle.ten_calls.proofs.leave.Lts as lts
 use Rattle.broker.proofs.broker_ack.Reads as broker-ack-reads
 use Rattle.broker.proofs.broker_close.Reads as broker-close-reads
 use Rattle.broker.proofs.broker_redeliver.Reads as broker-redeliver-reads
@@ -28,14 +28,14 @@ same-length : tie.Need-same-length
 same-length c = search needs
 
 returns : tie.Need-returns
-unfolding settlement target-from
+unfolding leaving target-from
 returns c =
     ran-on _ _ _ _ _ (c .before .before .before .before .before .before .before .before .before .before .before .before .before .before .broker-ack .ensures .1)
     (ran-on _ _ _ _ _ (c .before .before .before .before .before .before .before .before .before .before .broker-redeliver .ensures .1)
     (ran-on _ _ _ _ _ (c .before .before .before .before .before .before .broker-seek .ensures .1) (ran-last _ _ _ (c .before .before .broker-close .ensures .1))))
 
-pub settle-spec : {M : Type 1} → statement M
-settle-spec =
+pub leave-spec : {M : Type 1} → statement M
+leave-spec =
     tie.close
     (tie.spec
     broker-ack-requires
