@@ -21,9 +21,8 @@ use Rattle.rules.specs.Dispatcher.{drop-complete, advance-mark-delete}
 use Rattle.rules.specs.Commands.{with-groups, ack, ack-groups, ack-shared}
 use Rattle.rules.specs.Calls.{rule, bit-of, value-number}
 use Rattle.rules.specs.Calls.Call.{Ack}
-use Rattle.rules.specs.Valid.{Valid, Valid-dispatcher}
+use Rattle.rules.specs.Valid.{Valid-dispatcher}
 use Rattle.rules.proofs.Says.{every-head, every-tail}
-use Rattle.rules.proofs.Kept.Records.{message-valid-at}
 use Rattle.layout.specs.Layout.{decode}
 use Rattle.layout.specs.Canon.{Canon-store}
 use Rattle.layout.specs.Fields.{consumer-nth, dispatcher-nth, set-dispatcher}
@@ -150,11 +149,10 @@ module _ (s : State) (x : Dispatcher) (v : Valid-dispatcher s x) where
   valid-delete = let m = v .mark-delete-in-ledger in let o = v .entry-marks .one-each in omega arith
 
 -- groups may be acknowledged
-pub valid-ackable : {e : ℕ} {ws : List ℕ} (d topic : ℕ) → Canon-store e ws → Valid (decode ws) → d < length (decode ws .dispatchers)
+pub valid-ackable : {e : ℕ} {ws : List ℕ} (d topic : ℕ) → Canon-store e ws → d < length (decode ws .dispatchers)
     → Valid-dispatcher (decode ws) (dispatcher-nth (decode ws) d) → dispatcher-nth (decode ws) d .pair .topic ≡ topic → Ackable e ws d topic
-valid-ackable {e} {ws} d topic c v h w q =
+valid-ackable {e} {ws} d topic c h w q =
     record {
       within = dispatcher-in c d h;
       one-each = w .entry-marks .one-each ∙ ap (λ (n : ℕ). length (ledger-of (decode ws) n)) q;
-      batches = λ k l. message-valid-at (decode ws) topic k v l .batch-range;
     }

@@ -2,13 +2,13 @@
 -- as many, its outside ids are never fewer, and the rest stays as it was.
 use mathlib.Core.Path.{_≡_, refl, sym, ap, _∙_, subst}
 use mathlib.Core.List.{List, [], _∷_}
-use Prim.Native.Nat.{ℕ, _≤_, _<_}
+use Prim.Native.Nat.{ℕ, _≤_}
 use native.Mathlib.Omega.{arith}
 use lib.Dec.{ltb}
 use lib.Seq.{set-getD}
 use lib.ListN.{length, length-set}
 use Rattle.rules.specs.State.{Id, StoredMessage, Dispatcher, State, ledger-of, topic-of, with-dispatchers}
-use Rattle.rules.specs.Ledger.{position-of, message-at, batch-size-of}
+use Rattle.rules.specs.Ledger.{position-of, batch-size-of}
 use Rattle.rules.specs.Groups.{Group}
 use Rattle.rules.specs.Dispatcher.{with-marks, mark-at, ack-mark, ack-id}
 use Rattle.rules.specs.Commands.{ack-groups}
@@ -138,7 +138,6 @@ module _ {e : ℕ} {ws us : List ℕ} (d topic : ℕ) (list : List ℕ) (at : �
       record {
         within = dispatcher-set-in ws (decode ws) d (dispatcher-nth (decode us) d) (h .within .canon .shaped) (canon-entries (h .within .canon)) now-fits (j .written) (h .within .there);
         one-each = omega arith;
-        batches = subst (λ (m : List StoredMessage). (k : ℕ) → k < length m → message-at m k .batch-size ≤ 256) (sym same-ledger) (h .batches);
       }
 
   -- at the end

@@ -35,7 +35,6 @@ ghost use Rattle.acks.specs.Ackable.{Ackable};
 
 // The stored bits of an entry, fresh if none.
 fn bits_or_fresh(bits: UnackedBits, batch: u64) -> UnackedBits
-    requires { ⌜ batch ≤ 256 ⌝ }
     ensures { λ r. ⌜ words r ≡ cond (bits-empty (words bits)) (fresh-unacked-bits 4 batch) (words bits) ⌝ }
 {
     if bits.bits_empty() {
@@ -63,7 +62,7 @@ fn acked_whole(mark: Mark) -> Mark
 
 // A mark with its bits and-ed with the words of the group at `at`; none left means complete.
 fn acked_in_part(mark: Mark, batch: u64, list: &[u64], at: usize) -> Mark
-    requires { ⌜ (batch ≤ 256) × Fits (now list) at ⌝ }
+    requires { ⌜ Fits (now list) at ⌝ }
     ensures { λ r. ⌜ mark-of r ≡ record { acked = record { complete = mark .complete || bits-empty (bits-left batch (group-at (now (list .entry)) at .words) (mark .unacked)); unacked = four (bits-left batch (group-at (now (list .entry)) at .words) (mark .unacked)) }; redelivery-count = mark .«redelivery_count» } ⌝ }
 {
     let bits = bits_or_fresh(mark.unacked, batch);
@@ -77,7 +76,7 @@ fn acked_in_part(mark: Mark, batch: u64, list: &[u64], at: usize) -> Mark
 
 // A mark with its entry, of `batch` messages, acknowledged by the group at `at`.
 fn acked_mark(mark: Mark, batch: u64, list: &[u64], at: usize) -> Mark
-    requires { ⌜ (batch ≤ 256) × Fits (now list) at ⌝ }
+    requires { ⌜ Fits (now list) at ⌝ }
     ensures { λ r. ⌜ mark-of r ≡ ack-mark batch (group-at (now (list .entry)) at .words) (mark-of mark) ⌝ }
 {
     if batch <= 1 {

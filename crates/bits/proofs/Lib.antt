@@ -2,4 +2,3 @@
 pub mod Word
 pub mod Sets
 pub mod Fours
-pub mod Readings

@@ -16,9 +16,9 @@ pub struct UnackedBits {
 }
 
 impl UnackedBits {
-    // The first `batch_size` bits set: every message of the batch is unacknowledged.
+    // The first `batch_size` bits set, all 256 where it is greater: every message of the batch is
+    // unacknowledged.
     pub fn fresh_unacked_bits(batch_size: u64) -> Self
-        requires { ⌜ «batch_size» ≤ 256 ⌝ }
         ensures { λ r. ⌜ r ≡ four (fresh-unacked-bits 4 «batch_size») ⌝ }
     {
         UnackedBits {

@@ -3,8 +3,7 @@ use mathlib.Core.Path.{_≡_, refl}
 use mathlib.Core.Bool.{Bool, true, false, cond, _&&_, and-true, and-eq-true-iff}
 use mathlib.Core.List.{List, [], _∷_}
 use Prim.Native.Nat.{ℕ, _-_, _^_, _≤_, _<_, min, zero-le}
-use native.Mathlib.Omega.{arith}
-use lib.Dec.{eqb, leb, ltb, lit≤}
+use lib.Dec.{eqb, leb, ltb}
 use borrow.Author.Tests.{eqb-true, le-leb, lt-ltb, le-ltb}
 use Rattle.bits.specs.Bits.{bits-empty, bits-below, fresh-unacked-bits}
 use Rattle.bits.specs.Four.{words, four}
@@ -19,37 +18,14 @@ empty-below n (w ∷ ws) h =
     let t = and-eq-true-iff (eqb w 0) (bits-empty ws) .0 h in
     rw (eqb-true w 0 (t .0), le-leb 0 (2 ^ min n 64 - 1) zero-le) (empty-below (n - 64) ws (t .1))
 
--- the bits of a word, whether the size is cut at 256 or not
-cut : (n k : ℕ) → k ≤ 192 → min (min n 256 - k) 64 ≡ min (n - k) 64
-cut n k h = omega arith
-
--- the same of numbers that are known to be so
-cut-at : (n k : ℕ) {a b : ℕ} → k ≤ 192 → a ≡ min n 256 - k → b ≡ n - k → min a 64 ≡ min b 64
-cut-at n k h p q = rw (p, q) (cut n k h)
-
--- a size less 64 once, twice, and three times
-less-64 : (n : ℕ) → (n ≡ n - 0) × (n - 64 - 64 ≡ n - 128) × (n - 64 - 64 - 64 ≡ n - 192)
-less-64 n = (omega arith, omega arith, omega arith)
-
 -- whether each of four words is at most that of others
 abbrev pub within : UnackedBits → UnackedBits → Bool
 within b full = leb (b .w0) (full .w0) && (leb (b .w1) (full .w1) && (leb (b .w2) (full .w2) && leb (b .w3) (full .w3)))
 
 -- four words below a batch size are each at most a full batch's
-pub four-below : (b full : UnackedBits) (batch : ℕ) {n : ℕ} → n ≡ min batch 256 → full ≡ four (fresh-unacked-bits 4 n) → bits-below batch (words b) ≡ within b full
+pub four-below : (b full : UnackedBits) (batch : ℕ) → full ≡ four (fresh-unacked-bits 4 batch) → bits-below batch (words b) ≡ within b full
 unfolding bits-below fresh-unacked-bits
-four-below b full batch {n} m e =
-    let p = less-64 (min batch 256) in
-    let q = less-64 batch in
-    rw (
-      e,
-      m,
-      cut-at batch 0 zero-le (p .0) (q .0),
-      cut batch 64 (lit≤ tt),
-      cut-at batch 128 (lit≤ tt) (p .1) (q .1),
-      cut-at batch 192 (lit≤ tt) (p .2) (q .2),
-      and-true (leb (b .w3) (2 ^ min (batch - 64 - 64 - 64) 64 - 1)),
-    )
+four-below b full batch e = rw (e, and-true (leb (b .w3) (2 ^ min (batch - 64 - 64 - 64) 64 - 1)))
 
 -- what a mark's bits must be, by the batch size: clear bits do for any, others only for a size above 1
 pub bits-clear : (batch : ℕ) (ws : List ℕ) → bits-empty ws ≡ true → true ≡ cond (ltb 1 batch) (bits-below batch ws) (bits-empty ws)

@@ -6,24 +6,17 @@ use super::rows::twos_distinct;
 use super::stretch::word;
 use bits::UnackedBits;
 ghost use mathlib.Core.Path.{_≡_};
-ghost use Prim.Native.Nat.{_+_, _*_, _≤_, _<_, min};
+ghost use Prim.Native.Nat.{_+_, _*_, _≤_, _<_};
 ghost use lib.ListN.{length, getD};
 ghost use Rattle.bits.specs.Bits.{bits-below};
 ghost use Rattle.bits.specs.Four.{words};
 ghost use Rattle.store.specs.Marks.{mark-fits, joined, marks-right, absent, outside-right};
 
-// A batch size, or 256 where it is greater.
-fn capped(batch: u64) -> u64
-    ensures { λ r. ⌜ r ≡ min batch 256 ⌝ }
-{
-    if 256 < batch { 256 } else { batch }
-}
-
 // Whether only bits below the batch size are set.
 fn bits_below(bits: UnackedBits, batch: u64) -> bool
     ensures { λ r. ⌜ r ≡ bits-below batch (words bits) ⌝ }
 {
-    let full = UnackedBits::fresh_unacked_bits(capped(batch));
+    let full = UnackedBits::fresh_unacked_bits(batch);
     if full.w0 < bits.w0 {
         return false;
     }

@@ -40,7 +40,7 @@ valid-one c = dispatcher-found-valid (decode (c .before .before .before .before 
 -- so it may acknowledge
 ackable : (c : tie.After-topic) → Ackable (c .before .before .before .before .before .before .args .e) (c .before .before .before .before .before .before .args .store .now) (c .before .before .dispatcher-of .result) (c .topic .result)
 ackable c =
-    valid-ackable (c .before .before .dispatcher-of .result) (c .topic .result) (live-canon (c .before .before .before .before .before .before .pre .0)) (live-valid (c .before .before .before .before .before .before .pre .0)) (there (c .before .before)) (valid-one c)
+    valid-ackable (c .before .before .dispatcher-of .result) (c .topic .result) (live-canon (c .before .before .before .before .before .before .pre .0)) (there (c .before .before)) (valid-one c)
     (ap (λ (q : Pair). q .topic) (dispatcher-found-pair (decode (c .before .before .before .before .before .before .args .store .now)) (c .before .before .dispatcher-of .result) _ (c .before .before .dispatcher-of .ensures) (there (c .before .before))) ∙ sym (c .topic .ensures))
 
 -- 64 are not passed

@@ -25,7 +25,7 @@ load-mark-requires c κs =
     (p .0 .within, omega arith)
 
 acked-mark-requires : tie.Need-acked-mark-requires
-acked-mark-requires c κs = let p = c .before .before .before .before .before .before .pre in (rw (c .before .before .batch-size-of .ensures) (p .0 .batches (c .before .before .before .before .before .before .args .k) (p .1)), p .2)
+acked-mark-requires c κs = c .before .before .before .before .before .before .pre .2
 
 save-mark-requires : tie.Need-save-mark-requires
 save-mark-requires c κs =

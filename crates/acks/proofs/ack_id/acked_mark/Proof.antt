@@ -35,7 +35,7 @@ returns-3 : tie.Need-returns-3
 returns-3 c =
     let a = c .before .before .before .before .before .args in
     let l = c .before .before .before .if1 .left in
-    let f = c .before .before .before .before .before .pre .1 .ends in
+    let f = c .before .before .before .before .before .pre .ends in
     let g = c .before .before .group-words .ensures in
     let t = c .before .if2 .left in
     let d = length-drop (a .at + 3) (a .list .now) in

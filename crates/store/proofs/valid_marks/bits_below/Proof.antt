@@ -11,17 +11,12 @@ use Rattle.store.proofs.valid_marks.bits_below.Statement.{statement}
 use Rattle.store.proofs.valid_marks.bits_below.Tie as tie
 
 -- the words of the bits against those of a full batch
-parts : (c : tie.After-fresh-unacked-bits) → bits-below (c .before .before .args .batch) (words (c .before .before .args .bits))
-    ≡ within (c .before .before .args .bits) (c .fresh-unacked-bits .result)
-parts c =
-    four-below (c .before .before .args .bits) (c .fresh-unacked-bits .result) (c .before .before .args .batch) (c .before .capped .ensures)
-    (c .fresh-unacked-bits .ensures)
-
-capped-requires : tie.Need-capped-requires
-capped-requires c κs = search needs
+parts : (c : tie.After-fresh-unacked-bits) → bits-below (c .before .args .batch) (words (c .before .args .bits))
+    ≡ within (c .before .args .bits) (c .fresh-unacked-bits .result)
+parts c = four-below (c .before .args .bits) (c .fresh-unacked-bits .result) (c .before .args .batch) (c .fresh-unacked-bits .ensures)
 
 fresh-unacked-bits-requires : tie.Need-fresh-unacked-bits-requires
-fresh-unacked-bits-requires c κs = let e = c .capped .ensures in omega arith
+fresh-unacked-bits-requires c κs = search needs
 
 returns : tie.Need-returns
 returns c = fails _ (lt-leb _ _ (c .if1 .taken)) ∙ sym (parts (c .before .before .before))
@@ -45,4 +40,4 @@ returns-4 c =
 pub bits-below-spec : {M : Type 1} → statement M
 bits-below-spec =
     tie.close
-    (tie.spec capped-requires fresh-unacked-bits-requires returns returns-2 returns-3 returns-4)
+    (tie.spec fresh-unacked-bits-requires returns returns-2 returns-3 returns-4)
