@@ -5,7 +5,7 @@ use Rattle.bits.specs.Bits.{count-ones, and-low, fresh-unacked-bits, and-into, 
 use Rattle.rules.specs.Permits.{reading, above-zero, less, total-in-range}
 use Rattle.rules.specs.Table.{find, put, keep, all, any, distinct, member, count, is-empty, is-some, or-else}
 use Rattle.rules.specs.State.{same-id, same-pair, by-kind, new-dispatcher, topic-of, consumer-of, dispatcher-of, ledger-of, dispatcher, insert, with-topics, with-consumers, with-dispatchers, put-consumer, put-dispatcher}
-use Rattle.rules.specs.Ledger.{position-of, holds-id, message-at, batch-size-of, at-or-after, first-at-or-after, seek-position, appended}
+use Rattle.rules.specs.Ledger.{position-of, holds-id, message-at, batch-size-of, at-or-after, after-id, insert-id, first-at-or-after, seek-position, appended}
 use Rattle.rules.specs.Dispatcher.{with-attached, with-next, with-cursor, with-mark-delete, with-total, with-places, with-marks, held-by, without-holder, is-hold, mark-at, complete-at, is-outside, bits-left, ack-entry, ack-mark, ack-id, drop-complete, leading-complete, advance-mark-delete, dispatch-gate-open, cost}
 use Rattle.rules.specs.Groups.{at-most-groups, groups}
 use Rattle.rules.specs.Outcome.{guard, found-or-4, with-live}
@@ -21,7 +21,7 @@ unfolding onesIn count-ones and-low fresh-unacked-bits and-into bits-empty bits-
     reading above-zero less total-in-range
     find put keep all any distinct member count is-empty is-some or-else
     same-id same-pair by-kind new-dispatcher topic-of consumer-of dispatcher-of ledger-of dispatcher insert with-topics with-consumers with-dispatchers put-consumer put-dispatcher
-    position-of holds-id message-at batch-size-of at-or-after first-at-or-after seek-position appended
+    position-of holds-id message-at batch-size-of at-or-after after-id insert-id first-at-or-after seek-position appended
     with-attached with-next with-cursor with-mark-delete with-total with-places with-marks held-by without-holder is-hold mark-at complete-at is-outside bits-left ack-entry ack-mark ack-id drop-complete leading-complete advance-mark-delete dispatch-gate-open cost
     at-most-groups groups
     guard found-or-4 with-live
