@@ -1,7 +1,7 @@
 //! A state, its words and the rules on it, written from docs/STORE.md alone and in the
 //! plainest way: words spell a state if reading them, writing them back and the rules agree.
 
-pub const TAG: u64 = 0x5a51_4453_5031_0001;
+pub const TAG: u64 = 0x5a51_4453_5031_0002;
 pub const ZERO: u64 = 1 << 62;
 pub const CONSUMERS: usize = 32;
 pub const TOPICS: usize = 8;

@@ -3,7 +3,7 @@
 use crate::call::Kind;
 use crate::model::{Consumer, Dispatcher, Mark, Model, Topic};
 
-const TAG: u64 = 0x5a51_4453_5031_0001;
+const TAG: u64 = 0x5a51_4453_5031_0002;
 /// What is added to permits.
 const EXCESS: i64 = 1 << 62;
 

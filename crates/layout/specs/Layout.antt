@@ -16,7 +16,7 @@ use Rattle.layout.specs.Records.{consumer-codec, topic-codec, dispatcher
 
 -- what word 0 of every store of this layout is
 abbrev pub layout-tag : ℕ
-layout-tag = 0x5a51_4453_5031_0001
+layout-tag = 0x5a51_4453_5031_0002
 
 -- the header's fields
 pub record Header : Type 0 where

@@ -5,6 +5,7 @@ pub mod Valid
 pub mod Permits
 pub mod Table
 pub mod State
+pub mod Ids
 pub mod Ledger
 pub mod Demand
 pub mod Kept

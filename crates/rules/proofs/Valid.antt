@@ -15,8 +15,8 @@ use Rattle.rules.specs.Permits.{least-permits, most-permits, least-total
 use Rattle.rules.specs.Table.{all, Every, distinct, Distinct, member, is-empty}
 use Rattle.rules.specs.State.{Id, same-id, StoredMessage, Topic, same-pair, Kind, by-kind, Consumer, Mark, Held, Dispatcher, State, new-mark, ledger-of, dispatcher}
 use Rattle.rules.specs.State.Kind.{plain, shared}
-use Rattle.rules.specs.Ledger.{holds-id, no-message, message-at}
-use Rattle.rules.specs.Valid.{is-byte, is-word, valid-id, Valid-id, valid-message, Valid-message, valid-topic, Valid-topic, ascending, Ascending, valid-consumer, Valid-consumer, valid-mark, Valid-mark, valid-marks, Valid-marks, valid-ring, Valid-ring, valid-places, Valid-places, valid-outside, Valid-outside, valid-dispatcher, Valid-dispatcher, valid, Valid}
+use Rattle.rules.specs.Ledger.{holds-id, no-message, message-at, after-id}
+use Rattle.rules.specs.Valid.{is-byte, is-word, valid-id, Valid-id, valid-message, Valid-message, valid-topic, Valid-topic, ascending, Ascending, valid-consumer, Valid-consumer, valid-mark, Valid-mark, valid-marks, Valid-marks, valid-ring, Valid-ring, valid-places, Valid-places, ascending-ids, Ascending-ids, valid-outside, Valid-outside, valid-dispatcher, Valid-dispatcher, valid, Valid}
 use Rattle.rules.proofs.Says.{Says, says-as, says-leb, says-ltb, says-eqb, says-true, says-not, says-and, says-or, says-all, says-distinct, says-member}
 
 pub says-byte : (n : ℕ) → Says (is-byte n) (n < 256)
@@ -202,15 +202,21 @@ says-places d =
     (says-distinct eqb (map (λ (h : Held). h .position) (d .in-flight) ++ d .redelivery)))
     (says-all (λ (k : ℕ). says-ltb k (d .cursor)) (map (λ (h : Held). h .position) (d .in-flight) ++ d .redelivery)))
 
+pub says-ascending-ids : (l : List Id) → Says (ascending-ids l) (Ascending-ids l)
+unfolding ascending-ids Ascending-ids
+says-ascending-ids [] = record { gives = λ e. tt; given = λ h. refl }
+says-ascending-ids (i ∷ l) =
+    says-and _ _ (says-all (λ (j : Id). says-true (after-id j i)) l) (says-ascending-ids l)
+
 pub says-outside : (ledger : List StoredMessage) (ids : List Id) → Says (valid-outside ledger ids) (Valid-outside ledger ids)
 unfolding valid-outside
 says-outside ledger ids =
     says-as
     (λ k.
-    record { outside-count = k .0 .0 .0; outside-distinct = k .0 .0 .1; outside-words = k .0 .1; not-in-ledger = k .1 })
-    (λ v. (((v .outside-count, v .outside-distinct), v .outside-words), v .not-in-ledger))
+    record { outside-count = k .0 .0 .0; outside-ascending = k .0 .0 .1; outside-words = k .0 .1; not-in-ledger = k .1 })
+    (λ v. (((v .outside-count, v .outside-ascending), v .outside-words), v .not-in-ledger))
     (says-and _ _
-    (says-and _ _ (says-and _ _ (says-leb (length ids) 64) (says-distinct same-id ids)) (says-all says-id ids))
+    (says-and _ _ (says-and _ _ (says-leb (length ids) 64) (says-ascending-ids ids)) (says-all says-id ids))
     (says-all (λ (i : Id). says-not (holds-id i ledger)) ids))
 
 pub says-dispatcher : (s : State) (d : Dispatcher) → Says (valid-dispatcher s d) (Valid-dispatcher s d)

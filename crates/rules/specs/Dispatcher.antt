@@ -2,7 +2,7 @@
 -- check sum of its permits.
 use Prim.Native.Nat.{ℕ, zero, suc, _+_, _-_, max}
 use mathlib.Core.Bool.{Bool, false, cond, not, _&&_, _||_}
-use mathlib.Core.List.{List, [], _∷_, _++_, map}
+use mathlib.Core.List.{List, [], _∷_, map}
 use mathlib.Core.Option.{Option, none, some}
 use lib.Dec.{eqb, ltb}
 use lib.ListN.{length, getD, set, drop}
@@ -12,7 +12,7 @@ use Rattle.bits.specs.Four.{words, four}
 use Rattle.rules.specs.Permits.{zero-permits, above-zero, less}
 use Rattle.rules.specs.Table.{keep, any, member, is-empty}
 use Rattle.rules.specs.State.{Id, same-id, StoredMessage, Pair, same-pair, Kind, by-kind, Consumer, Acked, Mark, Held, Dispatcher, State, completed, new-mark, consumer-of}
-use Rattle.rules.specs.Ledger.{position-of, batch-size-of}
+use Rattle.rules.specs.Ledger.{position-of, batch-size-of, insert-id}
 
 -- ---- a dispatcher with some of its parts changed
 
@@ -109,13 +109,14 @@ unfoldable pub ack-mark : ℕ → List ℕ → Mark → Mark
 ack-mark batch incoming m =
     record { acked = ack-entry batch incoming (m .acked); redelivery-count = m .redelivery-count }
 
--- an ack of an id: of its entry, or of an id that is not in the ledger, which becomes complete outside it
+-- an ack of an id: of its entry, or of an id that is not in the ledger, which becomes complete outside it, in its place
+-- among those that ascend
 unfoldable pub ack-id : List StoredMessage → Dispatcher → Id → List ℕ → Dispatcher
 ack-id ledger d i incoming =
     let k = position-of i ledger in
     cond (ltb k (length ledger))
     (with-marks d (set (d .marks) k (ack-mark (batch-size-of i ledger) incoming (mark-at d k))) (d .outside))
-    (with-marks d (d .marks) (cond (is-outside i d) (d .outside) (d .outside ++ i ∷ [])))
+    (with-marks d (d .marks) (cond (is-outside i d) (d .outside) (insert-id i (d .outside))))
 
 -- the consumer drops its complete entries, whoever completed them; no other holder does
 unfoldable pub drop-complete : ℕ → Dispatcher → Dispatcher

@@ -1,4 +1,4 @@
--- The ledger of a topic: append at the end, find by id, the first position at or after an id.
+-- The ledger of a topic: append at the end, find by id, the first position at or after an id. The order of ids.
 use Prim.Native.Nat.{ℕ, zero, suc}
 use mathlib.Core.Bool.{Bool, cond, _&&_, _||_}
 use mathlib.Core.List.{List, [], _∷_, _++_}
@@ -30,6 +30,15 @@ batch-size-of i l = message-at l (position-of i l) .batch-size
 -- whether an id equals another or is greater: by ledger, then by entry
 unfoldable pub at-or-after : Id → Id → Bool
 at-or-after a b = ltb (b .ledger) (a .ledger) || (eqb (a .ledger) (b .ledger) && leb (b .entry) (a .entry))
+
+-- whether an id comes after another: by ledger, then by entry
+unfoldable pub after-id : Id → Id → Bool
+after-id a b = ltb (b .ledger) (a .ledger) || (eqb (a .ledger) (b .ledger) && ltb (b .entry) (a .entry))
+
+-- an id among ids that ascend: before the first that comes after it
+unfoldable pub insert-id : Id → List Id → List Id
+insert-id i [] = i ∷ []
+insert-id i (j ∷ l) = cond (after-id j i) (i ∷ j ∷ l) (j ∷ insert-id i l)
 
 -- the first position, in append order, whose id is at or after an id, counted from k; else 0
 unfoldable pub first-at-or-after : Id → ℕ → List StoredMessage → ℕ

@@ -1,6 +1,6 @@
 -- The state: what a store spells, as records and lists, with the names of broker.rs. Nothing here speaks of words.
 -- Topics and dispatchers stand in the order in which they were made, consumers by ascending id, what is in flight in
--- the order of dispatch.
+-- the order of dispatch, complete ids outside the ledger ascending.
 use Prim.Native.Nat.{ℕ}
 use mathlib.Core.Bool.{Bool, true, false, cond, _&&_}
 use mathlib.Core.List.{List, [], _∷_}

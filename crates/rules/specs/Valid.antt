@@ -13,7 +13,7 @@ use Rattle.rules.specs.Permits.{least-permits, most-permits, least-total
 use Rattle.rules.specs.Table.{all, Every, distinct, Distinct, member, is-empty}
 use Rattle.rules.specs.State.{Id, same-id, StoredMessage, Topic, Pair, same-pair, by-kind, Consumer, Mark, Held, Dispatcher, State, new-mark, ledger-of, dispatcher}
 use Rattle.rules.specs.State.Kind.{shared}
-use Rattle.rules.specs.Ledger.{holds-id, message-at}
+use Rattle.rules.specs.Ledger.{holds-id, message-at, after-id}
 
 -- a topic or subscription number: a byte
 unfoldable pub is-byte : ℕ → Bool
@@ -140,15 +140,25 @@ pub record Valid-places (d : Dispatcher) : Type 0 where
   pub places-distinct : Distinct eqb (map (λ (h : Held). h .position) (d .in-flight) ++ d .redelivery)
   pub places-below-cursor : Every (λ (k : ℕ). k < d .cursor) (map (λ (h : Held). h .position) (d .in-flight) ++ d .redelivery)
 
+-- the ids outside the ledger are "distinct": all later ones come after each
+unfoldable pub ascending-ids : List Id → Bool
+ascending-ids [] = true
+ascending-ids (i ∷ l) = all (λ (j : Id). after-id j i) l && ascending-ids l
+
+-- the same as a proposition
+unfoldable pub Ascending-ids : List Id → Type 0
+Ascending-ids [] = Unit {0}
+Ascending-ids (i ∷ l) = Every (λ (j : Id). after-id j i ≡ true) l × Ascending-ids l
+
 -- "at most 64 complete ids outside the ledger, distinct"
 unfoldable pub valid-outside : List StoredMessage → List Id → Bool
 valid-outside ledger ids =
-    leb (length ids) 64 && distinct same-id ids && all valid-id ids && all (λ (i : Id). not (holds-id i ledger)) ids
+    leb (length ids) 64 && ascending-ids ids && all valid-id ids && all (λ (i : Id). not (holds-id i ledger)) ids
 
 -- the same as a proposition
 pub record Valid-outside (ledger : List StoredMessage) (ids : List Id) : Type 0 where
   pub outside-count : length ids ≤ 64
-  pub outside-distinct : Distinct same-id ids
+  pub outside-ascending : Ascending-ids ids
   pub outside-words : Every Valid-id ids
   pub not-in-ledger : Every (λ (i : Id). holds-id i ledger ≡ false) ids
 

@@ -10,7 +10,7 @@ ghost use Rattle.layout.specs.Calls.{open-answer, open-after};
 ghost use Rattle.store.specs.Open.{opened-words};
 
 // What word 0 of every store of this layout is.
-pub const LAYOUT_TAG: u64 = 0x5a51_4453_5031_0001;
+pub const LAYOUT_TAG: u64 = 0x5a51_4453_5031_0002;
 
 // The words become those of a store just opened, or stay as they are: 2 if E is not 1 to 4,096,
 // 3 if the store is too short.

@@ -2,8 +2,8 @@
 -- moves over complete ones.
 use Prim.Native.Nat.{ℕ, zero, suc, _+_, _-_, _<_, _≤_}
 use mathlib.Core.Path.{_≡_, refl, sym, ap, _∙_, subst}
-use mathlib.Core.Bool.{Bool, true, false, cond, not, _&&_, or-true, or-false, and-false}
-use mathlib.Core.List.{List, [], _∷_, _++_}
+use mathlib.Core.Bool.{Bool, true, false, cond, not, _&&_, and-false}
+use mathlib.Core.List.{List, [], _∷_}
 use mathlib.Core.Option.{some}
 use native.Mathlib.Omega.{arith}
 use lib.Dec.{eqb, ltb}
@@ -13,15 +13,16 @@ use borrow.Author.Tests.{ltb-true, ltb-false}
 use Rattle.rules.specs.Table.{any, count, is-empty, or-else}
 use Rattle.rules.specs.State.{Id, same-id, StoredMessage, Pair, same-pair, Consumer, Acked, Mark, Held, Dispatcher, State, completed, unacknowledged, new-mark, consumer-of, ledger-of, dispatcher, put-dispatcher}
 use Rattle.rules.specs.State.Kind.{plain, shared}
-use Rattle.rules.specs.Ledger.{position-of, batch-size-of}
+use Rattle.rules.specs.Ledger.{position-of, batch-size-of, insert-id}
 use Rattle.rules.specs.Dispatcher.{with-places, with-marks, with-mark-delete, mark-at, complete-at, is-outside, ack-entry, ack-mark, ack-id, drop-complete, leading-complete, advance-mark-delete}
 use Rattle.rules.specs.Groups.{Group, groups}
 use Rattle.rules.specs.Commands.{ack-groups, ack-shared, ack}
 use Rattle.rules.specs.Calls.Call.{Ack}
 use Rattle.rules.specs.Book.{Book, Who, updated, ack-listed, with-acked, enter-ack, enter-done, records-of}
-use Rattle.rules.proofs.Table.{by-test, never-both, unequal, any-append, all-kept, count-parted, count-kept}
+use Rattle.rules.proofs.Table.{by-test, never-both, unequal, all-kept, count-parted, count-kept}
 use Rattle.rules.proofs.State.{decides-pairs, decides-ids, updated-here, updated-elsewhere, dispatcher-pair}
 use Rattle.rules.proofs.Ledger.{position-same, outside-batch}
+use Rattle.rules.proofs.Ids.{any-insert-id}
 use Rattle.rules.proofs.Demand.Invariant.{complete-in, acked-by, held-in, Marks-agree, Fits, Invariant}
 use Rattle.rules.proofs.Demand.Marks.{each-set, acked-inside, acked-outside, placed-marks}
 use Rattle.rules.proofs.Demand.Known.{known, known-plain, has-dispatcher}
@@ -103,21 +104,21 @@ module _ {l : List StoredMessage} {f : Id → Acked} {mark-delete : ℕ} {marks 
 
   -- an id outside the ledger: the complete ones afterwards
   abbrev outside-now : List Id
-  outside-now = cond (any (same-id j) outside) outside (outside ++ j ∷ [])
+  outside-now = cond (any (same-id j) outside) outside (insert-id j outside)
 
   -- it is among them
   among : any (same-id j) outside-now ≡ true
   unfolding any
   among =
       by-test (any (same-id j) outside) (λ t. rw t t)
-      (λ t. rw t (any-append (same-id j) outside (j ∷ []) ∙ rw (decides-ids .self j) (or-true (any (same-id j) outside))))
+      (λ t. rw t (any-insert-id (same-id j) j outside ∙ rw (decides-ids .self j)))
 
   -- and no other is that was not
   no-other : (i : Id) → same-id i j ≡ false → any (same-id i) outside-now ≡ any (same-id i) outside
   unfolding any
   no-other i e =
       by-test (any (same-id j) outside) (λ t. rw t)
-      (λ t. rw t (any-append (same-id i) outside (j ∷ []) ∙ rw e (or-false (any (same-id i) outside))))
+      (λ t. rw t (any-insert-id (same-id i) j outside ∙ rw e))
 
   -- so every id is as far acknowledged as the book has it
   agree-outside : length l ≤ position-of j l → (i : Id) → updated same-id f j acked-now i ≡ acked-by l marks outside-now i

@@ -22,7 +22,8 @@ use Rattle.rules.proofs.Valid.{says-byte, says-word, says-id}
 use Rattle.rules.proofs.Table.{by-test, decides-numbers, turned-round, find-put, find-map, keys-map, length-keep}
 use Rattle.rules.proofs.State.{decides-ids}
 use Rattle.rules.proofs.Ledger.{position-past}
-use Rattle.rules.proofs.Kept.Every.{every-snoc, kept-was, kept-passes, distinct-snoc, distinct-keep, found-in, every-put, length-put, distinct-put}
+use Rattle.rules.proofs.Ids.{ascending-keep-ids}
+use Rattle.rules.proofs.Kept.Every.{every-snoc, kept-was, kept-passes, distinct-snoc, found-in, every-put, length-put, distinct-put}
 use Rattle.rules.proofs.Kept.Frame.{move-consumer, move-dispatcher}
 use Rattle.rules.proofs.Kept.Parts.{ring-of, places-of, by-parts, valid-no-bits}
 use Rattle.rules.proofs.Kept.Outcomes.{Keeps, keeps-guard, room-left}
@@ -128,7 +129,7 @@ module _ (s : State) (v : Valid s) (topic : ℕ) (m : StoredMessage) (topic-byte
       let other : Id → Bool = λ (j : Id). not (same-id (m .id) j) in
       record {
         outside-count = le-trans (length-keep other ids) (w .outside-count);
-        outside-distinct = distinct-keep same-id other ids (w .outside-distinct);
+        outside-ascending = ascending-keep-ids other ids (w .outside-ascending);
         outside-words = λ a k. w .outside-words a (kept-was other ids a k);
         not-in-ledger = λ a k.
             still-absent a l m (w .not-in-ledger a (kept-was other ids a k))

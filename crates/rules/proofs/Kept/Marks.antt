@@ -13,15 +13,15 @@ use Rattle.bits.specs.Bits.{fresh-unacked-bits, and-into, bits-empty, bits-belo
 use Rattle.bits.specs.Four.{words, four}
 use Rattle.bits.proofs.Sets.{fresh-length, fresh-below, and-into-length, and-into-below}
 use Rattle.bits.proofs.Fours.{words-four}
-use Rattle.rules.specs.Table.{Every, Distinct, any, is-empty}
+use Rattle.rules.specs.Table.{Every, any, is-empty}
 use Rattle.rules.specs.State.{Id, same-id, StoredMessage, Mark, Dispatcher, new-mark}
 use Rattle.rules.specs.Ledger.{position-of, holds-id, no-message, message-at, batch-size-of}
 use Rattle.rules.specs.Dispatcher.{with-marks, mark-at, is-outside, bits-left, ack-entry, ack-mark, ack-id}
 use Rattle.rules.specs.Commands.{raised}
-use Rattle.rules.specs.Valid.{Valid-id, Valid-mark, Valid-marks, Valid-outside}
+use Rattle.rules.specs.Valid.{Valid-id, Valid-mark, Valid-marks, Ascending-ids, Valid-outside}
 use Rattle.rules.proofs.Table.{by-test}
-use Rattle.rules.proofs.State.{decides-ids}
-use Rattle.rules.proofs.Kept.Every.{every-snoc, distinct-snoc, fails-on-each}
+use Rattle.rules.proofs.Ids.{every-insert-id, ascending-insert-id}
+use Rattle.rules.proofs.Kept.Every.{fails-on-each}
 use Rattle.rules.proofs.Kept.Parts.{valid-no-bits}
 
 -- ---- one mark
@@ -103,17 +103,17 @@ valid-more-marks l marks x m v w =
 -- ---- ids outside the ledger, without the bound on their number
 
 pub record Outside (ledger : List StoredMessage) (ids : List Id) : Type 0 where
-  pub different : Distinct same-id ids
+  pub in-order : Ascending-ids ids
   pub each-word : Every Valid-id ids
   pub not-within : Every (λ (i : Id). holds-id i ledger ≡ false) ids
 
 -- the ids outside of a valid dispatcher, and back where they are 64 at most
 pub outside-of : (ledger : List StoredMessage) (ids : List Id) → Valid-outside ledger ids → Outside ledger ids
-outside-of ledger ids v = record { different = v .outside-distinct; each-word = v .outside-words; not-within = v .not-in-ledger }
+outside-of ledger ids v = record { in-order = v .outside-ascending; each-word = v .outside-words; not-within = v .not-in-ledger }
 
 pub of-outside : (ledger : List StoredMessage) (ids : List Id) → length ids ≤ 64 → Outside ledger ids → Valid-outside ledger ids
 of-outside ledger ids h v =
-    record { outside-count = h; outside-distinct = v .different; outside-words = v .each-word; not-in-ledger = v .not-within }
+    record { outside-count = h; outside-ascending = v .in-order; outside-words = v .each-word; not-in-ledger = v .not-within }
 
 -- ---- an ack of an id
 
@@ -145,7 +145,7 @@ module _ (ledger : List StoredMessage) (d : Dispatcher) (i : Id) (incoming : Lis
       (λ u. rw u v)
       (λ u. rw u
       (record {
-        different = distinct-snoc decides-ids (d .outside) i (v .different) (fails-on-each (same-id i) (d .outside) u);
-        each-word = every-snoc (d .outside) i (v .each-word) w;
-        not-within = every-snoc {P = λ (j : Id). holds-id j ledger ≡ false} (d .outside) i (v .not-within) t;
+        in-order = ascending-insert-id i (d .outside) (v .in-order) (fails-on-each (same-id i) (d .outside) u);
+        each-word = every-insert-id i (d .outside) w (v .each-word);
+        not-within = every-insert-id {P = λ (j : Id). holds-id j ledger ≡ false} i (d .outside) t (v .not-within);
       }))))

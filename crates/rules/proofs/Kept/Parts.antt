@@ -13,7 +13,7 @@ use Rattle.rules.specs.Table.{Every, Distinct, count}
 use Rattle.rules.specs.State.{StoredMessage, Pair, Mark, Held, Dispatcher, State, Id, no-bits, new-mark, new-dispatcher, ledger-of, dispatcher}
 use Rattle.rules.specs.Ledger.{message-at}
 use Rattle.rules.specs.Dispatcher.{with-attached, with-next, with-cursor, with-mark-delete, with-total, with-places, with-marks}
-use Rattle.rules.specs.Valid.{Valid-ring, Valid-places, Valid-mark, Valid-marks, Valid-outside, Valid-dispatcher, Valid}
+use Rattle.rules.specs.Valid.{Valid-ring, Valid-places, Valid-mark, Valid-marks, Ascending-ids, Valid-outside, Valid-dispatcher, Valid}
 use Rattle.rules.proofs.Table.{count-append}
 use Rattle.rules.proofs.Kept.Counts.{element-counted, counted-element, distinct-counts, counts-distinct}
 use Rattle.rules.proofs.Kept.Frame.{dispatcher-cases, found-valid}
@@ -206,7 +206,7 @@ valid-no-bits m complete n h =
 -- a new dispatcher is valid
 pub valid-new-dispatcher : (s : State) (p : Pair) → p .topic < 256 → p .subscription < 256
     → Valid-dispatcher s (new-dispatcher p (length (ledger-of s (p .topic))))
-unfolding new-dispatcher Distinct
+unfolding new-dispatcher Distinct Ascending-ids
 valid-new-dispatcher s p h k =
     let n : ℕ = length (ledger-of s (p .topic)) in
     record {
@@ -238,7 +238,7 @@ valid-new-dispatcher s p h k =
       outside-ids =
           record {
             outside-count = omega arith;
-            outside-distinct = tt;
+            outside-ascending = tt;
             outside-words = λ a m. absurd (List·Memᴰ·not-nil m);
             not-in-ledger = λ a m. absurd (List·Memᴰ·not-nil m);
           };
