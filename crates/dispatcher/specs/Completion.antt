@@ -1,5 +1,5 @@
 -- What dropping complete entries takes for granted.
-use Prim.Native.Nat.{ℕ, _<_}
+use Prim.Native.Nat.{_<_}
 use lib.ListN.{length}
 use Rattle.rules.specs.Table.{Every}
 use Rattle.rules.specs.State.{Held, Dispatcher}

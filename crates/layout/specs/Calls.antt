@@ -1,13 +1,11 @@
 -- Opening and the calls over words: what an exported function answers and what it leaves in every slice lent to it.
-use Prim.Native.Nat.{ℕ, _/_, _*_}
-use mathlib.Core.Bool.{Bool, cond, not}
+use Prim.Native.Nat.{ℕ}
+use mathlib.Core.Bool.{cond, not}
 use mathlib.Core.List.{List, [], _∷_, _++_}
 use lib.Dec.{eqb}
 use lib.ListN.{length, drop}
-use Rattle.rules.specs.State.{State}
-use Rattle.rules.specs.Outcome.{Value, Outcome}
+use Rattle.rules.specs.Outcome.{Outcome}
 use Rattle.rules.specs.Outcome.Outcome.{refused, short, done}
-use Rattle.rules.specs.Outcome.Value.{nothing, permits-after, mark-delete-after, cursor-after, closed, dispatches}
 use Rattle.rules.specs.Push.{flat-records}
 use Rattle.rules.specs.Calls.{Call, rule, opening, answer-word}
 use Rattle.rules.specs.Book.{records-of}

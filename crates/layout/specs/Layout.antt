@@ -2,11 +2,11 @@
 -- exactly the needed words. `decode` reads any words, `encode` gives the one spelling of a state, and `spells` says which
 -- words are a state's spelling: long enough, spelt exactly so, and valid.
 use Prim.Native.Nat.{ℕ, _+_, _*_, min, max}
-use mathlib.Core.Path.{_≡_, refl}
+use mathlib.Core.Path.{refl}
 use mathlib.Core.Bool.{Bool, _&&_}
 use mathlib.Core.List.{List, _++_}
 use lib.Dec.{leb}
-use lib.ListN.{length, getD, drop}
+use lib.ListN.{length, drop}
 use Rattle.words.specs.Words.{starts}
 use Rattle.words.specs.Codec.{Codec, Change, word, zeros, pair, via, flag, tag, upto}
 use Rattle.rules.specs.State.{Topic, Consumer, Dispatcher, State}

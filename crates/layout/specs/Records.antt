@@ -1,9 +1,8 @@
 -- How each record of a state is spelt in words, put together from codecs. docs/STORE.md has the same as a table of
 -- offsets. Reserved words are 0.
-use Prim.Native.Nat.{ℕ, _+_, _*_}
+use Prim.Native.Nat.{ℕ}
 use mathlib.Core.Path.{_≡_, refl}
 use mathlib.Core.Bool.{Bool, true, false}
-use mathlib.Core.List.{List}
 use Rattle.words.specs.Codec.{Codec, Change, word, zeros, pair, via, asFlag, flag, upto}
 use Rattle.bits.specs.declared.UnackedBits.{UnackedBits}
 use Rattle.rules.specs.State.{Id, StoredMessage, Topic, Pair, Kind, Consumer, Mark, Held, Dispatcher}

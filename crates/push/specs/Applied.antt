@@ -1,11 +1,11 @@
 -- What steps and numbers come to in a state: the records, the entries in flight, and the state with all of it applied.
 use Prim.Native.Nat.{ℕ}
 use mathlib.Core.Bool.{cond}
-use mathlib.Core.List.{List, [], _∷_, _++_, map}
+use mathlib.Core.List.{List, [], _∷_, _++_}
 use lib.ListN.{getD, drop}
 use Rattle.bits.specs.Bits.{bits-empty, word-count}
 use Rattle.bits.specs.Four.{words}
-use Rattle.rules.specs.State.{Consumer, Mark, Held, Dispatcher, State, new-mark, with-consumers, put-dispatcher}
+use Rattle.rules.specs.State.{Consumer, Held, Dispatcher, State, new-mark, with-consumers, put-dispatcher}
 use Rattle.rules.specs.Ledger.{message-at}
 use Rattle.rules.specs.Dispatcher.{of-parts}
 use Rattle.rules.specs.Commands.{with-permits}

@@ -2,14 +2,14 @@
 -- the consumers' permits and four numbers. `local-turn` is one turn on these alone, nothing written; what the turns hand
 -- out are steps, from which records and entries in flight are read off. proofs/ shows that the rules' push is this.
 use Prim.Native.Nat.{ℕ, zero, suc, _+_, _-_}
-use mathlib.Core.Bool.{Bool, cond, not, _||_}
-use mathlib.Core.List.{List, [], _∷_, _++_, map}
+use mathlib.Core.Bool.{cond, not, _||_}
+use mathlib.Core.List.{List, [], _∷_, map}
 use mathlib.Core.Option.{Option, none, some}
 use lib.Dec.{ltb}
 use lib.ListN.{length, getD, set, take, drop}
 use Rattle.rules.specs.Permits.{above-zero}
 use Rattle.rules.specs.Table.{is-empty}
-use Rattle.rules.specs.State.{StoredMessage, Consumer, Mark, Held, Dispatcher, State, new-mark, by-id, ledger-of}
+use Rattle.rules.specs.State.{StoredMessage, Mark, Dispatcher, State, new-mark, by-id, ledger-of}
 use Rattle.rules.specs.Ledger.{message-at}
 use Rattle.rules.specs.Dispatcher.{cost}
 use Rattle.rules.specs.Push.{slot-after}

@@ -1,6 +1,6 @@
 -- The plain part of a push by plain numbers: how many entries each consumer is due, and what it is then.
 use Prim.Native.Nat.{ℕ, zero, suc, _+_, _-_, min}
-use mathlib.Core.List.{List, [], _∷_, _++_, map}
+use mathlib.Core.List.{List, [], _∷_, _++_}
 use lib.ListN.{length}
 use Rattle.rules.specs.Permits.{zero-permits}
 use Rattle.rules.specs.State.{StoredMessage, by-kind, Consumer, State, no-bits, ledger-of}

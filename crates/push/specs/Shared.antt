@@ -2,7 +2,7 @@
 -- to the next, and what all of them come to in the state.
 use Prim.Native.Nat.{ℕ}
 use mathlib.Core.List.{List, [], _∷_, _++_, map}
-use Rattle.rules.specs.State.{Consumer, Dispatcher, State, with-tables}
+use Rattle.rules.specs.State.{Dispatcher, State, with-tables}
 use Rattle.rules.specs.Outcome.{Dispatch}
 use Rattle.push.specs.Local.{Steps, fixed-of, served}
 use Rattle.push.specs.Applied.{with-each, record-of, held-of, applied-dispatcher}

@@ -1,7 +1,7 @@
 -- The book behind demand 3, as document 01 tells it: it starts empty and is fed each call's own arguments, whether the
 -- call was refused, and push's records, and never the store.
 use Prim.Native.Nat.{ℕ, _+_}
-use mathlib.Core.Bool.{Bool, true, false, cond, not, _&&_}
+use mathlib.Core.Bool.{Bool, true, false, cond, not}
 use mathlib.Core.List.{List, [], _∷_, _++_}
 use lib.Dec.{eqb}
 use Rattle.rules.specs.Table.{keep, any, or-else}

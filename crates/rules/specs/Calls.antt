@@ -5,7 +5,7 @@ use mathlib.Core.List.{List, [], _∷_}
 use lib.Dec.{leb, ltb}
 use lib.ListN.{length}
 use Rattle.rules.specs.Table.{all}
-use Rattle.rules.specs.State.{Id, StoredMessage, Pair, Kind, State}
+use Rattle.rules.specs.State.{StoredMessage, Pair, Kind, State}
 use Rattle.rules.specs.Valid.{is-byte, is-word, valid-id}
 use Rattle.rules.specs.Outcome.{Value, Outcome, guard}
 use Rattle.rules.specs.Outcome.Outcome.{refused, short, done}

@@ -1,6 +1,6 @@
 -- The dispatcher of a shared subscription: its ring, what consumers hold, its queue, completion, mark-delete, and the
 -- check sum of its permits.
-use Prim.Native.Nat.{ℕ, zero, suc, _+_, _-_, max}
+use Prim.Native.Nat.{ℕ, suc, _+_, _-_, max}
 use mathlib.Core.Bool.{Bool, false, cond, not, _&&_, _||_}
 use mathlib.Core.List.{List, [], _∷_, map}
 use mathlib.Core.Option.{Option, none, some}
@@ -9,9 +9,9 @@ use lib.ListN.{length, getD, set, drop}
 use Rattle.bits.specs.declared.UnackedBits.{UnackedBits}
 use Rattle.bits.specs.Bits.{fresh-unacked-bits, and-into, bits-empty, bits-cardinality}
 use Rattle.bits.specs.Four.{words, four}
-use Rattle.rules.specs.Permits.{zero-permits, above-zero, less}
-use Rattle.rules.specs.Table.{keep, any, member, is-empty}
-use Rattle.rules.specs.State.{Id, same-id, StoredMessage, Pair, same-pair, Kind, by-kind, Consumer, Acked, Mark, Held, Dispatcher, State, completed, new-mark, consumer-of}
+use Rattle.rules.specs.Permits.{zero-permits, above-zero}
+use Rattle.rules.specs.Table.{keep, any, is-empty}
+use Rattle.rules.specs.State.{Id, same-id, StoredMessage, Pair, same-pair, by-kind, Consumer, Acked, Mark, Held, Dispatcher, State, completed, new-mark, consumer-of}
 use Rattle.rules.specs.Ledger.{position-of, batch-size-of, insert-id}
 
 -- ---- a dispatcher with some of its parts changed

@@ -4,7 +4,7 @@ use mathlib.Core.Bool.{Bool, cond}
 use mathlib.Core.List.{List}
 use mathlib.Core.Option.{Option, none, some}
 use Rattle.bits.specs.declared.UnackedBits.{UnackedBits}
-use Rattle.rules.specs.State.{Id, StoredMessage, Consumer, State, consumer-of}
+use Rattle.rules.specs.State.{StoredMessage, Consumer, State, consumer-of}
 
 -- a dispatch, as push records it: the consumer, the message, the number of words of its ack set and the four words, the
 -- redelivery count, the cost, and the consumer's permits after it (excess form)

@@ -7,7 +7,7 @@ use mathlib.Core.Option.{Option, none, some}
 use lib.Dec.{ltb}
 use lib.ListN.{length, getD, take, drop}
 use Rattle.rules.specs.Table.{Every}
-use Rattle.rules.specs.State.{StoredMessage, Dispatcher, State, ledger-of}
+use Rattle.rules.specs.State.{StoredMessage, State, ledger-of}
 use Rattle.layout.specs.Layout.{decode}
 use Rattle.layout.specs.Fields.{topic-nth, dispatcher-nth}
 use Rattle.layout.specs.Placed.{Topic-in, Dispatcher-in}
