@@ -1,7 +1,7 @@
 # The two commands: `make run` (the main job) and `make test` (the gate); `make faults` runs the library
 # for C at its limits and on damaged words alone, `make examples` its callers, `make bench` times its
-# calls, `make install` puts it in place.
-.PHONY: run test faults examples bench install
+# calls, `make edits` reads what a gate run said of the must-fail edits, `make install` puts it in place.
+.PHONY: run test faults examples bench edits install
 
 LIBRARY = target/staticlib/libbroker.a
 
@@ -70,6 +70,10 @@ examples:
 bench:
 	rt staticlib broker
 	LIBBROKER=$(LIBRARY) reference/bench
+
+# The must-fail edits that were refused by form alone, from the logs of the last gate run: there are none.
+edits:
+	tests/edits
 
 # The library that is there is installed; it is built first if there is none.
 $(LIBRARY):

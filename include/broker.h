@@ -11,8 +11,8 @@
  * it takes any words whatever. Words past BROKER_NEEDED(E) are never read or written.
  *
  * The caller's part:
- *  - A pointer is to as many words as the length says, aligned for uint64_t, and not NULL even if the
- *    length is 0.
+ *  - A pointer is to as many words as the length says, aligned for uint64_t. With length 0 it is never
+ *    read or written through and may be NULL: an empty list, or a store of no words.
  *  - The slices of one call (the store and the list) do not overlap.
  *  - Nobody else writes the store or the list during a call, nor reads a slice that the call writes.
  * The library keeps nothing between calls: several stores may be used at once, each by one call at a time.

@@ -52,6 +52,8 @@ extern struct slice list;
 extern const char *const names[OPERATIONS];
 extern uint64_t answer;
 extern unsigned long calls, part_calls, made_of[OPERATIONS], given[16];
+/* Whether a slice of no words is lent as NULL. */
+extern int null_if_empty;
 
 struct slice make(size_t room);
 /* Lends n words, none of them written. */
@@ -111,6 +113,11 @@ extern unsigned long formed_lists, cut_lists;
 
 void list_lengths(void);
 void push_lists(void);
+
+/* ---- nulls.c ---- */
+
+/* NULL with length 0 for every slice of every export. */
+void null_slices(void);
 
 /* ---- soak.c ---- */
 

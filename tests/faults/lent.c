@@ -134,9 +134,17 @@ struct call of(enum operation operation, uint64_t consumer)
     return call(operation, consumer, 0, 0, 0, 0);
 }
 
+int null_if_empty;
+
+/* The pointer that is lent. */
+static uint64_t *lent(const struct slice *s)
+{
+    return null_if_empty && s->n == 0 ? NULL : s->words;
+}
+
 static uint64_t perform(const struct call *c)
 {
-    uint64_t *words = store->words;
+    uint64_t *words = lent(store), *listed = lent(&list);
     const uint64_t *a = c->a;
     size_t n = store->n;
     switch (c->operation) {
@@ -149,16 +157,16 @@ static uint64_t perform(const struct call *c)
     case FLOW:
         return broker_flow(words, n, a[0], (uint32_t)a[1]);
     case ACK:
-        return broker_ack(words, n, a[0], list.words, list.n);
+        return broker_ack(words, n, a[0], listed, list.n);
     case SEEK:
         return broker_seek(words, n, a[0], a[1], a[2], a[3]);
     case REDELIVER:
-        return broker_redeliver(words, n, a[0], list.words, list.n);
+        return broker_redeliver(words, n, a[0], listed, list.n);
     case CLOSE:
         return broker_close(words, n, a[0]);
     case PUSH:
     default:
-        return broker_push(words, n, list.words, list.n);
+        return broker_push(words, n, listed, list.n);
     }
 }
 

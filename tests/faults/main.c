@@ -67,6 +67,10 @@ int main(int argc, char **argv)
     snprintf(text, sizeof text, "lengths 0 to 1,300: %lu lists of the form, %lu not", formed_lists, cut_lists);
     ended(text);
 
+    begin("no slices");
+    null_slices();
+    ended("NULL with length 0 for every slice");
+
     begin("short stores");
     short_stores();
     ended("every length below the needed one");
