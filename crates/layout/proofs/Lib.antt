@@ -16,4 +16,5 @@ pub mod Blank
 pub mod Sets
 pub mod SetsDispatcher
 pub mod Calls
+pub mod Unspelt
 pub mod Placed

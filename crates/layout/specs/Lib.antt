@@ -1,6 +1,7 @@
 pub mod Records
 pub mod Layout
 pub mod Calls
+pub mod Unspelt
 pub mod Offsets
 pub mod Whole
 pub mod Canon
