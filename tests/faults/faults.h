@@ -96,6 +96,11 @@ void ack_limits(void);
 /* Records word by word: fresh, handed back with an ack set, and to a plain consumer. */
 void records(void);
 
+/* ---- counts.c ---- */
+
+/* Redelivery counts up to 2^32 - 1. */
+void count_limits(void);
+
 /* ---- stores.c ---- */
 
 extern uint64_t *kept;

@@ -183,6 +183,9 @@ static void close_with(uint64_t leak, uint64_t permits, uint64_t total, unsigned
     store->words[CONSUMER(0) + PERMITS] = permits;
     store->words[DISPATCHER(1, 0) + TOTAL] = total;
     expect(of(CLOSE, 7), number, number == 0);
+    total -= number == 0 ? (leak + 1) * (permits - EXCESS) : 0;
+    check(store->words[DISPATCHER(1, 0) + TOTAL] == total, "a close left another total");
+    expect(seek(7, 0, 0, 0), number == 0 ? 4 : 0, 0);
     expect(of(CLOSE, 8), 0, 0);
 }
 

@@ -56,6 +56,7 @@ int main(int argc, char **argv)
     close_limits();
     ack_limits();
     records();
+    count_limits();
     ended("each number at its limit and one past it");
 
     begin("push lists");

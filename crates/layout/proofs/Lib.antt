@@ -18,4 +18,5 @@ pub mod SetsDispatcher
 pub mod Calls
 pub mod FewDue
 pub mod Demand
+pub mod Unspelt
 pub mod Placed

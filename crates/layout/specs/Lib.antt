@@ -2,6 +2,7 @@ pub mod Records
 pub mod Layout
 pub mod Calls
 pub mod Demand
+pub mod Unspelt
 pub mod Offsets
 pub mod Whole
 pub mod Canon
