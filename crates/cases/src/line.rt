@@ -2,14 +2,18 @@
 // calls. A word of digits is its number; a name is the number that its last eight letters spell in
 // base 256, so that names are compared as numbers.
 use libc::STDIN_FILENO;
-ghost use Prim.Native.Nat.{_≤_, _<_};
+ghost use Prim.Native.Nat.{_<_, min};
 ghost use mathlib.Core.Path.{_≡_};
-ghost use lib.ListN.{length};
+ghost use mathlib.Core.Bool.{cond};
+ghost use lib.Dec.{ltb};
+ghost use lib.ListN.{length, replicate};
 ghost use Rattle.io.specs.Counts.{Counts};
+ghost use Rattle.cases.specs.Line.{with-digit, with-byte, numbers};
+ghost use Rattle.cases.specs.Words.{first-words};
 
 // Reads a line into the start of `line`, without its end, and answers its length: 0 at the end of the
 // input. A line that is longer than `line` is cut there.
-pub fn read_line(line: &mut [u8]) -> usize
+pub(crate) fn read_line(line: &mut [u8]) -> usize
     ensures { λ r. ⌜ Counts r (now (line .exit)) ⌝ }
 {
     let mut n = 0;
@@ -36,10 +40,12 @@ fn next_byte() -> u8 {
     one[0]
 }
 
-// Puts the words of a line at the start of `words`, where zeros stand, and answers how many there are.
-pub fn words_of(line: &[u8], words: &mut [u64]) -> usize
-    ensures { λ r. ⌜ r ≤ length (now (words .exit)) ⌝ }
-    ensures { λ _. ⌜ length (now (words .exit)) ≡ length (now (words .entry)) ⌝ }
+// Puts the words of a line at the start of `words`, where zeros stand, as many as there is room for, and
+// answers how many these are.
+pub(crate) fn words_of(line: &[u8], words: &mut [u64]) -> usize
+    requires { ⌜ now words ≡ replicate (length (now words)) 0 ⌝ }
+    ensures count { λ r. ⌜ r ≡ min (length (now (words .entry))) (length (numbers (now (line .entry)))) ⌝ }
+    ensures words { λ _. ⌜ now (words .exit) ≡ first-words (length (now (words .entry))) (numbers (now (line .entry))) ⌝ }
 {
     let mut n = 0;
     let mut i = 0;
@@ -60,13 +66,15 @@ pub fn words_of(line: &[u8], words: &mut [u64]) -> usize
 
 // 1 for a byte that ends a word, else 0.
 fn blanks(b: u8) -> usize
-    ensures { λ r. ⌜ r ≤ 1 ⌝ }
+    ensures { λ r. ⌜ r ≡ cond (ltb 32 b) 0 1 ⌝ }
 {
     if b > 32 { 0 } else { 1 }
 }
 
 // A word with one more digit or letter; any byte below the digits leaves it.
-fn joined(word: u64, b: u8) -> u64 {
+fn joined(word: u64, b: u8) -> u64
+    ensures { λ r. ⌜ r ≡ with-byte word b ⌝ }
+{
     if b < 48 {
         return word;
     }
@@ -79,6 +87,7 @@ fn joined(word: u64, b: u8) -> u64 {
 // A number with one more digit; the largest where it would pass it.
 fn with_digit(word: u64, d: u64) -> u64
     requires { ⌜ d < 10 ⌝ }
+    ensures { λ r. ⌜ r ≡ with-digit word d ⌝ }
 {
     if word > (18446744073709551615 - d) / 10 {
         return 18446744073709551615;

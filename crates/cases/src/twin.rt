@@ -6,19 +6,25 @@ use records::record::Dispatch;
 use records::record::write_record;
 ghost use mathlib.Core.Path.{_≡_};
 ghost use Prim.Native.Nat.{_≤_};
-ghost use lib.ListN.{length};
+ghost use lib.ListN.{length, getD};
+ghost use Rattle.layout.specs.Calls.{outcome, answer, after};
+ghost use Rattle.dispatches.specs.Listed.{listed};
+ghost use Rattle.cases.specs.Words.{same-words, first-words};
+ghost use Rattle.cases.specs.Twin.{written-back, told, pushed, lent-after, no-dispatches, as-flat};
 
 // The word at a place of a slice, or 0 past its end.
-fn word_or_zero(words: &[u64], i: usize) -> u64 {
+fn word_or_zero(words: &[u64], i: usize) -> u64
+    ensures { λ r. ⌜ r ≡ getD (now (words .entry)) i 0 ⌝ }
+{
     if i < words.len() {
         return words[i];
     }
     0
 }
 
-// Copies words to the whole of another slice.
+// Copies words to the whole of another slice, 0 past their end.
 pub(crate) fn copy_words(from: &[u64], to: &mut [u64])
-    ensures { λ _. ⌜ length (now (to .exit)) ≡ length (now (to .entry)) ⌝ }
+    ensures { λ _. ⌜ now (to .exit) ≡ first-words (length (now (to .entry))) (now (from .entry)) ⌝ }
 {
     let mut i = 0;
     while i < to.len() {
@@ -28,7 +34,9 @@ pub(crate) fn copy_words(from: &[u64], to: &mut [u64])
 }
 
 // Whether two slices have the same words.
-fn same_words(a: &[u64], b: &[u64]) -> bool {
+fn same_words(a: &[u64], b: &[u64]) -> bool
+    ensures { λ r. ⌜ r ≡ same-words (now (a .entry)) (now (b .entry)) ⌝ }
+{
     if a.len() != b.len() {
         return false;
     }
@@ -45,7 +53,7 @@ fn same_words(a: &[u64], b: &[u64]) -> bool {
 // Writes the first `n` dispatches of a list back to flat words, of which there are enough for all.
 fn write_back(records: [Dispatch; 64], n: usize, list: &mut [u64])
     requires { ⌜ (n ≤ 64) × (length (now list) ≡ 832) ⌝ }
-    ensures { λ _. ⌜ length (now (list .exit)) ≡ 832 ⌝ }
+    ensures { λ _. ⌜ now (list .exit) ≡ written-back records n (now (list .entry)) ⌝ }
 {
     let mut i = 0;
     while i < n {
@@ -56,7 +64,7 @@ fn write_back(records: [Dispatch; 64], n: usize, list: &mut [u64])
 
 // How many dispatches an answer of push tells, of at most 64.
 fn told(answer: u64) -> usize
-    ensures { λ r. ⌜ r ≤ 64 ⌝ }
+    ensures { λ r. ⌜ (r ≡ told answer) × (r ≤ 64) ⌝ }
 {
     if answer % 256 > 0 {
         return 0;
@@ -70,6 +78,10 @@ fn told(answer: u64) -> usize
 // A push into records, over the first `room` words of a flat list.
 fn push_twin(twin: &mut [u64], flat: &mut [u64], room: usize) -> Listed
     requires { ⌜ room ≤ length (now flat) ⌝ }
+    ensures answer { λ r. ⌜ r .answer ≡ answer (now (twin .entry)) (pushed room) ⌝ }
+    ensures words { λ _. ⌜ now (twin .exit) ≡ after (now (twin .entry)) (pushed room) ⌝ }
+    ensures flat { λ _. ⌜ now (flat .exit) ≡ lent-after (now (flat .entry)) room (outcome (now (twin .entry)) (pushed room)) ⌝ }
+    ensures records { λ r. ⌜ r .list ≡ listed (outcome (now (twin .entry)) (pushed room)) no-dispatches ⌝ }
 {
     push_listed(twin, &mut flat[..room])
 }
@@ -85,6 +97,8 @@ pub(crate) fn as_records(
     answer: u64,
 ) -> bool
     requires { ⌜ room ≤ 832 ⌝ }
+    ensures same { λ r. ⌜ r ≡ as-flat (now (twin .entry)) (now (store .entry)) (now (list .entry)) room answer ⌝ }
+    ensures words { λ _. ⌜ now (twin .exit) ≡ after (now (twin .entry)) (pushed room) ⌝ }
 {
     let mut flat = [0u64; 832];
     let pushed = push_twin(twin, &mut flat, room);

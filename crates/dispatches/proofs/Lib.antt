@@ -2,3 +2,4 @@ pub mod ArrayLoan
 pub mod Loans
 pub mod Making
 pub mod Partway
+pub mod Reading

@@ -25,7 +25,12 @@ use Rattle.push.proofs.Whole.{push-same}
 use Rattle.pending.proofs.Pushing.{due-small}
 use Rattle.records.proofs.Filled.{flats-length}
 use Rattle.records.specs.declared.record.Dispatch as declared
-use Rattle.dispatches.specs.Listed.{records-in, made, room, listed}
+use Rattle.dispatches.specs.Listed.{records-in, dispatched, room, listed}
+use Rattle.dispatches.proofs.Reading.{read-made}
+
+-- how many dispatches a push made
+abbrev pub made : Outcome → ℕ
+made o = length (dispatched o)
 
 -- what an answer says was made
 abbrev pub told : ℕ → ℕ
@@ -53,7 +58,7 @@ record Pushing (r : ℕ) (o : Outcome) : Type 0 where
 
 by-room : (r : ℕ) (l : List Dispatch) (s : State) → length l < 2 ^ 56 → (b : Bool) → leb (length l) r ≡ b
     → Pushing r (cond b (done (dispatches l) s) (short (length l)))
-unfolding answer-word value-number made records-of
+unfolding answer-word value-number dispatched records-of
 by-room r l s few true h = record { counted = told-done (length l) few; within = leb-true (length l) r h }
 by-room r l s few false h = record { counted = told-short (length l); within = omega arith }
 
@@ -65,7 +70,7 @@ module _ (ws : List ℕ) (r : ℕ) where
       omega (arith, same, small)
 
   by-words : (b : Bool) → spells ws ≡ b → Pushing r (cond b (rule (decode ws) (Push r)) (refused 1))
-  unfolding answer-word made rule push
+  unfolding answer-word dispatched rule push
   by-words true h =
       let all : Pushed = push-pending (decode ws) in
       by-room r (all .dispatched) (all .state) (few-due h) (leb (length (all .dispatched)) r) refl
@@ -94,7 +99,7 @@ drop-part m k l h g =
 
 part-by : (r : ℕ) (l : List ℕ) (o : Outcome) → made o ≤ r → r * 13 ≤ length l
     → list-after (take (r * 13) l) o ++ drop (r * 13) l ≡ list-after l o
-unfolding list-after made with-records
+unfolding list-after dispatched with-records
 part-by r l (refused n) h g = take-append-drop (r * 13) l
 part-by r l (short n) h g = take-append-drop (r * 13) l
 part-by r l (done v s) h g =
@@ -130,7 +135,12 @@ module _ (ws ys : List ℕ) (m : ℕ) {a k : ℕ} (answered : a ≡ answer ws (P
   pub made-words : k * 13 ≤ length ys
   made-words = omega (arith, made-is, made-within ws (room (length ys) m), room-words (length ys) m)
 
-  -- and the list filled with so many records is the push's
-  pub made-listed : (flat : List ℕ) (list : List declared.Dispatch) → records-in flat k ++ drop k list ≡ listed flat (outcome ws (Push (room (length ys) m))) list
+  -- and the list filled with so many records, from what the push left in the flat list, is the push's
+  pub made-listed : (flat : List ℕ) (list : List declared.Dispatch) → flat ≡ list-after ys (outcome ws (Push (room (length ys) m)))
+      → records-in flat k ++ drop k list ≡ listed (outcome ws (Push (room (length ys) m))) list
   unfolding listed
-  made-listed flat list = ap (λ (z : ℕ). records-in flat z ++ drop z list) made-is
+  made-listed flat list left =
+      let o : Outcome = outcome ws (Push (room (length ys) m)) in
+      ap (λ (z : ℕ). records-in flat z ++ drop z list) made-is
+      ∙ ap (λ (z : List ℕ). records-in z (made o) ++ drop (made o) list) left
+      ∙ ap (λ (z : List declared.Dispatch). z ++ drop (made o) list) (read-made ys o)

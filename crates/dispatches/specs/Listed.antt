@@ -1,8 +1,8 @@
--- Dispatches as records, read from the flat words that spell them.
-use Prim.Native.Nat.{ℕ, zero, suc, _+_, _*_, _/_, min}
-use mathlib.Core.List.{List, [], _∷_, _++_}
+-- Dispatches as records: those of the rules, and those that flat words spell.
+use Prim.Native.Nat.{ℕ, zero, suc, _+_, _-_, _*_, _/_, _%_, _^_, min}
+use mathlib.Core.List.{List, [], _∷_, _++_, map}
 use lib.ListN.{length, getD, drop}
-use Rattle.rules.specs.Outcome.{Outcome}
+use Rattle.rules.specs.Outcome.{Dispatch, Outcome}
 use Rattle.rules.specs.Outcome.Outcome.{refused, short, done}
 use Rattle.rules.specs.Book.{records-of}
 use Rattle.records.specs.declared.record.Dispatch as declared
@@ -32,19 +32,35 @@ unfoldable pub records-in : List ℕ → ℕ → List declared.Dispatch
 records-in ws zero = []
 records-in ws (suc n) = records-in ws n ++ record-at ws n ∷ []
 
--- how many dispatches a push made: none where it was refused
-unfoldable pub made : Outcome → ℕ
-made (refused n) = 0
-made (short n) = 0
-made (done v s) = length (records-of v)
+-- a dispatch of the rules as a record: its fields, the permits in two's complement
+unfoldable pub record-for : Dispatch → declared.Dispatch
+record-for x =
+    record {
+      consumer = x .consumer;
+      ledger = x .message .id .ledger;
+      entry = x .message .id .entry;
+      handle = x .message .handle;
+      «batch_size» = x .message .batch-size;
+      «ack_set_words» = x .ack-set-words;
+      «ack_set» = x .ack-set;
+      «redelivery_count» = x .redelivery-count;
+      cost = x .cost;
+      permits = (x .permits + (2 ^ 64 - 2 ^ 62)) % 2 ^ 64;
+    }
+
+-- the dispatches that a push made: none where it was refused
+unfoldable pub dispatched : Outcome → List Dispatch
+dispatched (refused n) = []
+dispatched (short n) = []
+dispatched (done v s) = records-of v
 
 -- how many dispatches fit: what a flat list of so many words and a list of so many records both hold
 unfoldable pub room : ℕ → ℕ → ℕ
 room words records = min (words / 13) records
 
--- a lent list after a push that left its records in flat words: those records first, the later ones as they were
-unfoldable pub listed : List ℕ → Outcome → List declared.Dispatch → List declared.Dispatch
-listed flat o list = records-in flat (made o) ++ drop (made o) list
+-- a lent list after a push: the record of each of its dispatches, in their order; the later ones as they were
+unfoldable pub listed : Outcome → List declared.Dispatch → List declared.Dispatch
+listed o list = map record-for (dispatched o) ++ drop (length (dispatched o)) list
 
 -- a dispatch of nothing
 unfoldable pub no-dispatch : declared.Dispatch

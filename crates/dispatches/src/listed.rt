@@ -11,7 +11,7 @@ ghost use lib.Dec.{eqb};
 ghost use lib.ListN.{length, replicate};
 ghost use Rattle.rules.specs.Calls.Call.{Push};
 ghost use Rattle.layout.specs.Calls.{outcome, answer, after, list-after};
-ghost use Rattle.dispatches.specs.Listed.{made, room, listed, no-dispatch};
+ghost use Rattle.dispatches.specs.Listed.{room, listed, no-dispatch};
 
 // How many dispatches fit into a flat list of so many words and a list of so many records.
 fn room(words: usize, records: usize) -> usize
@@ -44,12 +44,13 @@ fn made(answer: u64) -> usize
 }
 
 // Push into a list of dispatches, over a flat list for its words. The answer and the store are those of the
-// flat push; the dispatches are its records. With a refusal nothing changes.
+// flat push; the list has the dispatches of the rules' own outcome. 15 is given where more are due than the
+// smaller of the two rooms, a thirteenth of the flat words and the list's length. With a refusal nothing changes.
 pub fn push_records(store: &mut [u64], flat: &mut [u64], list: &mut [Dispatch]) -> u64
     ensures answer { λ r. ⌜ r ≡ answer (now (store .entry)) (Push (room (length (now (flat .entry))) (length (now (list .entry))))) ⌝ }
     ensures words { λ _. ⌜ now (store .exit) ≡ after (now (store .entry)) (Push (room (length (now (flat .entry))) (length (now (list .entry))))) ⌝ }
     ensures flat { λ _. ⌜ now (flat .exit) ≡ list-after (now (flat .entry)) (outcome (now (store .entry)) (Push (room (length (now (flat .entry))) (length (now (list .entry)))))) ⌝ }
-    ensures records { λ _. ⌜ now (list .exit) ≡ listed (now (flat .exit)) (outcome (now (store .entry)) (Push (room (length (now (flat .entry))) (length (now (list .entry)))))) (now (list .entry)) ⌝ }
+    ensures records { λ _. ⌜ now (list .exit) ≡ listed (outcome (now (store .entry)) (Push (room (length (now (flat .entry))) (length (now (list .entry)))))) (now (list .entry)) ⌝ }
 {
     let answer = push_flat(store, flat, list.len());
     fill(list, flat, made(answer));
@@ -91,7 +92,7 @@ pub fn push_listed(store: &mut [u64], flat: &mut [u64]) -> Listed
     ensures answer { λ r. ⌜ r .answer ≡ answer (now (store .entry)) (Push (room (length (now (flat .entry))) 64)) ⌝ }
     ensures words { λ _. ⌜ now (store .exit) ≡ after (now (store .entry)) (Push (room (length (now (flat .entry))) 64)) ⌝ }
     ensures flat { λ _. ⌜ now (flat .exit) ≡ list-after (now (flat .entry)) (outcome (now (store .entry)) (Push (room (length (now (flat .entry))) 64))) ⌝ }
-    ensures records { λ r. ⌜ r .list ≡ listed (now (flat .exit)) (outcome (now (store .entry)) (Push (room (length (now (flat .entry))) 64))) (replicate 64 no-dispatch) ⌝ }
+    ensures records { λ r. ⌜ r .list ≡ listed (outcome (now (store .entry)) (Push (room (length (now (flat .entry))) 64))) (replicate 64 no-dispatch) ⌝ }
 {
     let mut list = [no_dispatch(); 64];
     let answer = push_records(store, flat, &mut list);

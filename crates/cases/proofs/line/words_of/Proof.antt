@@ -1,25 +1,28 @@
--- The words keep their number, and n stays within it.
+-- What is left of the line, put into the words from n on, is the whole; n stays within their number.
 use Prim.Native.Nat.{ℕ, _+_, _≤_, _<_, _-_}
 use native.Mathlib.Omega.{arith}
-use mathlib.Core.Path.{_≡_, _∙_}
-use lib.ListN.{length, set, take, length-set, length-take}
+use native.Mathlib.Numerals.{add-one}
+use mathlib.Core.Path.{_≡_, refl, sym, _∙_, subst}
+use lib.ListN.{length, getD, set, length-set}
 use borrow.Author.Needs.{needs}
 use Rattle.cases.proofs.line.words_of.Statement.{statement}
 use Rattle.cases.proofs.line.words_of.Tie as tie
 use Rattle.cases.proofs.line.words_of.Reads as reads
 use Rattle.cases.proofs.line.words_of.Lts as lts
+use Rattle.cases.specs.Line.{with-byte}
+use Rattle.cases.proofs.Numbers.{ends, ends-small, Reading, reading-starts, reading-next, words-full, line-ended, count-full, count-ended}
 use Rattle.cases.proofs.line.blanks.Reads as blanks-reads
 use Rattle.cases.proofs.line.joined.Reads as joined-reads
 
 abbrev Inv-loop : tie.InvT-loop
-Inv-loop line words₀ n₀ i₀ words n i = (n ≤ length words) × (i ≤ length line) × (length words ≡ length words₀)
+Inv-loop line words₀ n₀ i₀ words n i = (n ≤ length words) × (i ≤ length line) × (length words ≡ length words₀) × Reading line words₀ words n i
 
 abbrev μ-loop : tie.MeasureT-loop
 μ-loop line words₀ n₀ i₀ words n i = length line - i
 
 -- src/line.rt:46:5
 loop-holds : tie.Need-loop-holds Inv-loop μ-loop
-loop-holds c = search needs
+loop-holds c = (omega arith, omega arith, refl, reading-starts (c .before .before .args .line .now) (c .before .before .args .words .now))
 
 -- src/line.rt:48:13
 same-length : tie.Need-same-length Inv-loop μ-loop
@@ -27,7 +30,13 @@ same-length c = search needs
 
 -- src/line.rt:48:13
 returns : tie.Need-returns Inv-loop μ-loop
-returns c = search needs
+returns c =
+    let a = c .before .before .before .before .before .args in
+    let l = c .before .before .loop in
+    let zeros = c .before .before .before .before .before .pre in (
+      count-full (a .line .now) (a .words .now) (l .words) (l .n) (l .i) zeros (l .inv .3) (l .inv .2) (l .inv .0) (c .if1 .taken),
+      words-full (a .line .now) (a .words .now) (l .words) (l .n) (l .i) zeros (l .inv .3) (c .if1 .taken),
+    )
 
 -- src/line.rt:50:17
 shared-slice-read-b : tie.Need-shared-slice-read-b Inv-loop μ-loop
@@ -59,7 +68,10 @@ blanks-requires c κs = search needs
 
 -- src/line.rt:52:9
 add-n : tie.Need-add-n Inv-loop μ-loop
-add-n c = search needs
+add-n c =
+    let e = c .blanks .ensures in
+    let s = ends-small (getD (c .before .before .before .before .before .before .before .before .before .args .line .now) (c .before .before .before .before .before .before .loop .i) 0) in
+    record { fits = omega (arith, e, s) }
 
 -- src/line.rt:53:9
 add-i : tie.Need-add-i Inv-loop μ-loop
@@ -72,13 +84,24 @@ loop-less c = search needs
 -- src/line.rt:46:5
 loop-again : tie.Need-loop-again Inv-loop μ-loop
 loop-again c =
-    let w = c .before .before .before .before .before .before .loop .words in
-    let n = c .before .before .before .before .before .before .loop .n in
-    let e = length-set w n (c .before .joined .result) in
-    let b = c .blanks .ensures in
-    let g : n + c .blanks .result ≤ length (set w n (c .before .joined .result)) = omega (arith, e, b) in
-    let i : c .before .before .before .before .before .before .loop .i + 1 ≤ length (c .before .before .before .before .before .before .before .before .before .args .line .now) = omega arith in
-    (g, i, e ∙ c .before .before .before .before .before .before .loop .inv .2)
+    let line = c .before .before .before .before .before .before .before .before .before .args .line .now in
+    let start = c .before .before .before .before .before .before .before .before .before .args .words .now in
+    let l = c .before .before .before .before .before .before .loop in
+    let b = getD line (l .i) 0 in
+    let room : l .n < length (l .words) = c .before .before .before .before .if1 .left in
+    let more : l .i < length line = c .before .before .before .before .before .loop-test .taken in
+    let joined : c .before .joined .result ≡ with-byte (getD (l .words) (l .n) 0) b = c .before .joined .ensures in
+    let ended : c .blanks .result ≡ ends b = c .blanks .ensures in
+    let kept = length-set (l .words) (l .n) (c .before .joined .result) in
+    let next = reading-next line start (l .words) (l .n) (l .i) room (l .inv .3) more in
+    let s = ends-small b in (
+      omega (arith, room, kept, ended, s),
+      omega (arith, more),
+      kept ∙ l .inv .2,
+      subst (λ (w : ℕ). Reading line start (set (l .words) (l .n) w) (l .n + c .blanks .result) (l .i + 1)) (sym joined)
+          (subst (λ (k : ℕ). Reading line start (set (l .words) (l .n) (with-byte (getD (l .words) (l .n) 0) b)) (l .n + k) (l .i + 1)) (sym ended)
+          (subst (λ (k : ℕ). Reading line start (set (l .words) (l .n) (with-byte (getD (l .words) (l .n) 0) b)) (l .n + ends b) k) (sym (add-one (l .i))) next)),
+    )
 
 -- src/line.rt:56:16
 add-result : tie.Need-add-result Inv-loop μ-loop
@@ -90,7 +113,14 @@ same-length-2 c = search needs
 
 -- src/line.rt:56:9
 returns-2 : tie.Need-returns-2 Inv-loop μ-loop
-returns-2 c = search needs
+returns-2 c =
+    let a = c .before .before .before .before .before .args in
+    let l = c .before .before .loop in
+    let zeros = c .before .before .before .before .before .pre in
+    let end = c .before .loop-test .left in (
+      count-ended (a .line .now) (a .words .now) (l .words) (l .n) (l .i) zeros (l .inv .3) (l .inv .2) end (c .if2 .taken),
+      line-ended (a .line .now) (a .words .now) (l .words) (l .n) (l .i) zeros (l .inv .3) end,
+    )
 
 -- src/line.rt:40:1
 same-length-3 : tie.Need-same-length-3 Inv-loop μ-loop
@@ -98,7 +128,14 @@ same-length-3 c = search needs
 
 -- src/line.rt:40:1
 returns-3 : tie.Need-returns-3 Inv-loop μ-loop
-returns-3 c = search needs
+returns-3 c =
+    let a = c .before .before .before .before .before .args in
+    let l = c .before .before .loop in
+    let zeros = c .before .before .before .before .before .pre in
+    let end = c .before .loop-test .left in (
+      count-full (a .line .now) (a .words .now) (l .words) (l .n) (l .i) zeros (l .inv .3) (l .inv .2) (l .inv .0) (c .if2 .left),
+      line-ended (a .line .now) (a .words .now) (l .words) (l .n) (l .i) zeros (l .inv .3) end,
+    )
 
 pub words-of-spec : {M : Type 1} → statement M
 words-of-spec =

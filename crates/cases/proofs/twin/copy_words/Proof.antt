@@ -1,20 +1,25 @@
--- The slice that is written keeps its length.
-use Prim.Native.Nat.{_-_}
-use mathlib.Core.Path.{_≡_}
+-- The first words are copied, and the slice keeps its length.
+use Prim.Native.Nat.{ℕ, _-_, _≤_, _<_}
+use native.Mathlib.Omega.{arith}
+use native.Mathlib.Numerals.{add-one}
+use mathlib.Core.Path.{_≡_, refl, sym, ap, _∙_}
+use mathlib.Core.List.{List}
+use lib.ListN.{getD, set, length-set}
+use Rattle.cases.proofs.Rows.{copied, copied-start, copied-next, copied-end}
 use lib.ListN.{length}
 use borrow.Author.Needs.{needs}
 use Rattle.cases.proofs.twin.copy_words.Statement.{statement}
 use Rattle.cases.proofs.twin.copy_words.Tie as tie
 
 abbrev Inv-loop : tie.InvT-loop
-Inv-loop from to₀ i₀ to i = length to ≡ length to₀
+Inv-loop from to₀ i₀ to i = (length to ≡ length to₀) × (i ≤ length to₀) × (to ≡ copied from to₀ i)
 
 abbrev μ-loop : tie.MeasureT-loop
 μ-loop from to₀ i₀ to i = length to₀ - i
 
 -- src/twin.rt:24:5
 loop-holds : tie.Need-loop-holds Inv-loop μ-loop
-loop-holds c = search needs
+loop-holds c = (refl, omega arith, copied-start (c .before .before .args .from .now) (c .before .before .args .to .now))
 
 -- src/twin.rt:25:17
 word-or-zero-requires : tie.Need-word-or-zero-requires Inv-loop μ-loop
@@ -38,7 +43,20 @@ loop-less c = search needs
 
 -- src/twin.rt:24:5
 loop-again : tie.Need-loop-again Inv-loop μ-loop
-loop-again c = search needs
+loop-again c =
+    let from = c .before .before .before .before .before .args .from .now in
+    let start = c .before .before .before .before .before .args .to .now in
+    let to = c .before .before .loop .to in
+    let i = c .before .before .loop .i in
+    let lt = c .before .loop-test .taken in
+    let long = c .before .before .loop .inv .0 in
+    let kept = length-set to i (c .word-or-zero .result) in
+    let below : i < length start = omega (arith, lt, long) in (
+      kept ∙ long,
+      omega (arith, below),
+      ap (λ (w : ℕ). set to i w) (c .word-or-zero .ensures) ∙ ap (λ (l : List ℕ). set l i (getD from i 0)) (c .before .before .loop .inv .2)
+          ∙ copied-next from start i below ∙ ap (λ (k : ℕ). copied from start k) (sym (add-one i)),
+    )
 
 -- src/twin.rt:20:1
 same-length : tie.Need-same-length Inv-loop μ-loop
@@ -46,7 +64,15 @@ same-length c = search needs
 
 -- src/twin.rt:20:1
 returns : tie.Need-returns Inv-loop μ-loop
-returns c = search needs
+returns c =
+    let from = c .before .before .before .before .args .from .now in
+    let start = c .before .before .before .before .args .to .now in
+    let i = c .before .loop .i in
+    let end = c .loop-test .left in
+    let long = c .before .loop .inv .0 in
+    let most = c .before .loop .inv .1 in
+    let whole : i ≡ length start = omega (arith, end, long, most) in
+    c .before .loop .inv .2 ∙ copied-end from start i whole
 
 pub copy-words-spec : {M : Type 1} → statement M
 copy-words-spec =

@@ -3,6 +3,8 @@ use native.Mathlib.Omega.{arith}
 use mathlib.Core.Path.{_≡_}
 use lib.ListN.{length, take, length-take}
 use borrow.Author.Needs.{needs}
+use Rattle.cases.specs.Twin.{no-dispatches}
+use Rattle.cases.proofs.Twins.{answer-lent, after-lent, flat-lent, listed-lent}
 use Rattle.cases.proofs.twin.push_twin.Statement.{statement}
 use Rattle.cases.proofs.twin.push_twin.Tie as tie
 
@@ -34,7 +36,20 @@ same-length-2 c = search needs
 
 -- src/twin.rt:71:1
 returns : tie.Need-returns
-returns c = search needs
+unfolding no-dispatches
+returns c =
+    let start = c .before .before .before .before .before .before .before .before .before in
+    let ws = start .args .twin .now in
+    let flat = start .args .flat .now in
+    let words = start .args .room in
+    let h = start .pre in
+    let called = c .before .before .before .before .push-listed .ensures in (
+      answer-lent ws flat words h (called .0),
+      (
+        after-lent ws flat words h (called .1 .0),
+        (flat-lent ws flat words h (called .1 .1 .0), listed-lent ws flat words h no-dispatches (called .1 .1 .1)),
+      ),
+    )
 
 pub push-twin-spec : {M : Type 1} → statement M
 push-twin-spec =

@@ -99,7 +99,7 @@ record Pushed (ws ys : List ℕ) (rs : List Dispatch) (w : Val) (r : ℕ) (us vs
   pub answered : r ≡ answer ws (Push (room (length ys) 64))
   pub stored : us ≡ after ws (Push (room (length ys) 64))
   pub written : vs ≡ list-after ys (outcome ws (Push (room (length ys) 64)))
-  pub records : ts ≡ listed vs (outcome ws (Push (room (length ys) 64))) rs
+  pub records : ts ≡ listed (outcome ws (Push (room (length ys) 64))) rs
   pub us-long : length us ≡ length ws
   pub vs-long : length vs ≡ length ys
 
@@ -213,10 +213,10 @@ module _ {M : Type 1} (𝓤 : URA M) (H : Heap 𝓤) (A : Atoms 𝓤) (W : Given
         ⊛ raw (ensured 𝓤 H A push-records.ended (push-records.clauses 𝓤 H A mem run) (κ₁, (κ₂, (ν ∷ [], tt))) (x₁, (x₂, (x₃, tt))) tt r)))) (id⊢ 𝓤 _) $ await ! tt $ pick ! (λ r. split ! $ move ! (1 ∷ []) $
         use1 W (some (λ (zs : List ℕ × (List ℕ × (List Dispatch × Unit {0}))). ‵ (lasts push-records.ended (κ₁, (κ₂, (ν ∷ [], tt))) (x₁, (x₂, (x₃, tt))) zs)
         ⊛ raw (fact 𝓤 (r ≡ answer ws (Push (room (length ys) m)))) ⊛ raw (fact 𝓤 (zs .0 ≡ after ws (Push (room (length ys) m))))
-        ⊛ raw (fact 𝓤 (zs .1 .0 ≡ list-after ys (outcome ws (Push (room (length ys) m))))) ⊛ raw (fact 𝓤 (zs .1 .1 .0 ≡ listed (zs .1 .0) (outcome ws (Push (room (length ys) m))) rs)))) (id⊢ 𝓤 _) $
+        ⊛ raw (fact 𝓤 (zs .1 .0 ≡ list-after ys (outcome ws (Push (room (length ys) m))))) ⊛ raw (fact 𝓤 (zs .1 .1 .0 ≡ listed (outcome ws (Push (room (length ys) m))) rs)))) (id⊢ 𝓤 _) $
         pick ! (λ zs. split ! $ move ! (1 ∷ []) $ split ! $ heard ! (r ≡ answer ws (Push (room (length ys) m))) (λ e₁. split ! $
         heard ! (zs .0 ≡ after ws (Push (room (length ys) m))) (λ e₂. split ! $ heard ! (zs .1 .0 ≡ list-after ys (outcome ws (Push (room (length ys) m)))) (λ e₃.
-        heard ! (zs .1 .1 .0 ≡ listed (zs .1 .0) (outcome ws (Push (room (length ys) m))) rs) (λ e₄.
+        heard ! (zs .1 .1 .0 ≡ listed (outcome ws (Push (room (length ys) m))) rs) (λ e₄.
         -- [the last lists; the tokens and the result]
         fsplit ! $ fsplit ! $ move ! (1 ∷ []) $ feqL ! (λ l₁. move ! (1 ∷ []) $ fsplit ! $ fsplit ! $ move ! (1 ∷ []) $ feqL ! (λ l₂. move ! (1 ∷ []) $ fsplit ! $ fsplit ! $ move ! (1 ∷ []) $ feqL ! (λ _.
         -- [the array's last; …; the flat list's; the store's; the tokens and the result]
@@ -228,7 +228,7 @@ module _ {M : Type 1} (𝓤 : URA M) (H : Heap 𝓤) (A : Atoms 𝓤) (W : Given
           answered = subst (λ (k : ℕ). r ≡ answer ws (Push (room (length ys) k))) rs-long e₁;
           stored = subst (λ (k : ℕ). zs .0 ≡ after ws (Push (room (length ys) k))) rs-long e₂;
           written = subst (λ (k : ℕ). zs .1 .0 ≡ list-after ys (outcome ws (Push (room (length ys) k)))) rs-long e₃;
-          records = subst (λ (k : ℕ). zs .1 .1 .0 ≡ listed (zs .1 .0) (outcome ws (Push (room (length ys) k))) rs) rs-long e₄;
+          records = subst (λ (k : ℕ). zs .1 .1 .0 ≡ listed (outcome ws (Push (room (length ys) k))) rs) rs-long e₄;
           us-long = l₁;
           vs-long = l₂;
         }) $
@@ -240,7 +240,7 @@ module _ {M : Type 1} (𝓤 : URA M) (H : Heap 𝓤) (A : Atoms 𝓤) (W : Given
       qed W (Kept us vs ∷ []) ∵ split ! $ move ! (1 ∷ []) $ split ! $ move ! (1 ∷ []) $ split ! $
       -- [the store's last; the flat list's last; κ₂; κ₁]
       suffices ! _ (ends-at 𝓤 H A push-listed.ended stayed (push-listed.clauses 𝓤 H A mem run) W bound (val r u) (record { answer = r; list = ts }) (us, (vs, tt)) (p .us-long, (p .vs-long, tt))) $
-      use0 W (raw (fact 𝓤 (ts ≡ listed vs (outcome ws (Push (room (length ys) 64))) blank))) (factI 𝓤 _ (emp 𝓤) (p .records)) $
+      use0 W (raw (fact 𝓤 (ts ≡ listed (outcome ws (Push (room (length ys) 64))) blank))) (factI 𝓤 _ (emp 𝓤) (p .records)) $
       use0 W (raw (fact 𝓤 (vs ≡ list-after ys (outcome ws (Push (room (length ys) 64)))))) (factI 𝓤 _ (emp 𝓤) (p .written)) $
       use0 W (raw (fact 𝓤 (us ≡ after ws (Push (room (length ys) 64))))) (factI 𝓤 _ (emp 𝓤) (p .stored)) $
       use0 W (raw (fact 𝓤 (r ≡ answer ws (Push (room (length ys) 64))))) (factI 𝓤 _ (emp 𝓤) (p .answered)) $

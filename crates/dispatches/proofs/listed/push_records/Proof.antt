@@ -240,10 +240,10 @@ module _ {M : Type 1} (𝓤 : URA M) (H : Heap 𝓤) (A : Atoms 𝓤) (W : Given
   exits : (w : Val) (r : ℕ) (us vs : List ℕ) (k : ℕ) (u : Val) (ts : List Dispatch) → Pushed ws ys n w r us vs → k ≡ told r → Filled vs rs k u ts
       → ent 𝓤 (⋆ 𝓤 H A (‵ (flft κ₁ q₁) ∷ ‵ (flft κ₂ q₂) ∷ ‵ (flft κ₃ q₃) ∷ ‵ (finally u64 γ₁ us) ∷ ‵ (back₂ vs) ∷ ‵ (finally R γ₃ ts) ∷ [])) (Post (vint w64 r))
   exits w r us vs k u ts p c f =
-      let all : ts ≡ listed vs (outcome ws (Push (room (length ys) n))) rs = f .records ∙ made-listed ws ys n (p .answered) c vs rs in
+      let all : ts ≡ listed (outcome ws (Push (room (length ys) n))) rs = f .records ∙ made-listed ws ys n (p .answered) c vs rs (p .written) in
       qed W (‵ (flft κ₁ q₁) ∷ ‵ (flft κ₂ q₂) ∷ ‵ (flft κ₃ q₃) ∷ ‵ (finally u64 γ₁ us) ∷ ‵ (back₂ vs) ∷ ‵ (finally R γ₃ ts) ∷ []) ∵
       suffices ! _ (ends-at 𝓤 H A push-records.ended stayed (push-records.clauses 𝓤 H A mem run) W bound (vint w64 r) r (us, (vs, (ts, tt))) (p .us-long, (p .vs-long, (f .ts-long, tt)))) $
-      use0 W (raw (fact 𝓤 (ts ≡ listed vs (outcome ws (Push (room (length ys) n))) rs))) (factI 𝓤 _ (emp 𝓤) all) $
+      use0 W (raw (fact 𝓤 (ts ≡ listed (outcome ws (Push (room (length ys) n))) rs))) (factI 𝓤 _ (emp 𝓤) all) $
       use0 W (raw (fact 𝓤 (vs ≡ list-after ys (outcome ws (Push (room (length ys) n)))))) (factI 𝓤 _ (emp 𝓤) (p .written)) $
       use0 W (raw (fact 𝓤 (us ≡ after ws (Push (room (length ys) n))))) (factI 𝓤 _ (emp 𝓤) (p .stored)) $
       use0 W (raw (fact 𝓤 (r ≡ answer ws (Push (room (length ys) n))))) (factI 𝓤 _ (emp 𝓤) (p .answered)) $
