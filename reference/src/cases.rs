@@ -1,6 +1,6 @@
 //! The case runner's input and the output that it has to give (crates/cases/stdin and stdout).
-//! The input is a script with headings; `push N` is a push with a list of N records. The
-//! answers are the model's, in document 01's order of records. Over the sequences of the
+//! The input is a script with headings; `push N` is a push with a list of N records, and
+//! `balance` asks for the balance check of each dispatcher. The answers are the model's, in document 01's order of records. Over the sequences of the
 //! fixed list broker.rs has to agree; bits come from broker.rs itself.
 
 use crate::broker::driver::{Reference, and_fresh, fresh};
@@ -62,6 +62,20 @@ fn run_readings() -> String {
     text + "push 3\npush 0\npush 4\npush 0\n"
 }
 
+/// The balance check where ring ids are live, plain, under another subscription or not live.
+fn balance_readings() -> String {
+    let mut text = String::new();
+    for leak in [0, 1] {
+        text += &format!("# the balance check, leak {leak}\nopen 32 {leak} 0\nbalance\n");
+        text += "append 1 1 0 100 100\nsubscribe 7 shared 1 1\nsubscribe 8 shared 1 1\n";
+        text += "subscribe 9 shared 1 2\nflow 7 1\nflow 8 5\nflow 9 400\nbalance\n";
+        text += "push\nbalance\nsubscribe 8 plain 1 1\nflow 8 30\nbalance\n";
+        text += "subscribe 9 shared 1 1\nflow 9 2\nbalance\nsubscribe 9 shared 1 2\nbalance\n";
+        text += "close 7\nbalance\nclose 8\nclose 9\nbalance\n";
+    }
+    text
+}
+
 fn listed(calls: &[Call]) -> String {
     calls.iter().map(|call| format_call(call) + "\n").collect()
 }
@@ -69,8 +83,9 @@ fn listed(calls: &[Call]) -> String {
 /// The runner's input.
 pub fn script() -> Result<String, String> {
     let mut text = run_readings();
+    text += &balance_readings();
     for (name, script) in OUTSIDE {
-        text += &format!("# {name}\n{}", listed(&calls(script)?));
+        text += &format!("# {name}\n{}balance\n", listed(&calls(script)?));
     }
     for (name, calls) in limits::refused() {
         text += &format!("# {name}\n{}", listed(&calls));
@@ -95,8 +110,22 @@ fn push(model: &mut Model, room: usize) -> (Outcome, String) {
     (outcome, text)
 }
 
+/// The balance checks, a line for each dispatcher.
+fn balances(model: &Model) -> String {
+    let mut text = format!("dispatchers {}", model.dispatchers.len());
+    for (d, dispatcher) in model.dispatchers.iter().enumerate() {
+        let balance = model.balance_check(dispatcher);
+        let total = dispatcher.total_available_permits;
+        text += &format!("\n  + dispatcher {d}: balance {balance} total {total}");
+    }
+    text
+}
+
 /// The output for one line of the input: the outcome, and its text without the line itself.
 fn answer(model: &mut Model, line: &str) -> Result<(Option<Call>, Outcome, String), String> {
+    if line == "balance" {
+        return Ok((None, Outcome::done(0), balances(model)));
+    }
     if let Some(room) = line.strip_prefix("push ") {
         let room = room.parse().map_err(|_| format!("expected a number of records: '{line}'"))?;
         let (outcome, text) = push(model, room);

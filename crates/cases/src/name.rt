@@ -28,6 +28,9 @@ pub const CLOSE: u64 = 0x636c6f7365;
 // push
 pub const PUSH: u64 = 0x70757368;
 
+// balance
+pub const BALANCE: u64 = 0x62616c616e6365;
+
 // plain
 pub const PLAIN: u64 = 0x706c61696e;
 

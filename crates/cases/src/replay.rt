@@ -1,9 +1,12 @@
 // The replay of the calls that stand on the input, one a line, on a store of 8,192 words. Each line is
-// printed with what the call gave, and a push with its records; a line that begins with # is a heading.
+// printed with what the call gave, and a push with its records; a line `balance` asks for the balance
+// check of each dispatcher, and one that begins with # is a heading.
+use crate::balance::show_balances;
 use crate::line::read_line;
 use crate::line::words_of;
 use crate::name::ACK;
 use crate::name::APPEND;
+use crate::name::BALANCE;
 use crate::name::CLOSE;
 use crate::name::FLOW;
 use crate::name::OPEN;
@@ -60,6 +63,8 @@ fn replay_call(store: &mut [u64], line: &[u8]) {
     let n = words_of(line, &mut words);
     if words[0] == PUSH {
         replay_push(store, n, words[1]);
+    } else if words[0] == BALANCE {
+        show_balances(store);
     } else {
         show_outcome(words[0], answer_of(store, &words, n));
     }

@@ -134,6 +134,30 @@ fn show_signed(w: u64) {
     }
 }
 
+// How many dispatchers there are, and the end of the line.
+pub(crate) fn show_count(dispatchers: u64) {
+    show_field(b"dispatchers ", dispatchers);
+    io::write_all(STDOUT_FILENO, b"\n");
+}
+
+// A line: a dispatcher, its balance check and its total, both in excess form.
+pub(crate) fn show_balance(dispatcher: u64, balance: u64, total: u64) {
+    show_field(b"  + dispatcher ", dispatcher);
+    show_permits(b": balance ", balance);
+    show_permits(b" total ", total);
+    io::write_all(STDOUT_FILENO, b"\n");
+}
+
+// A label and permits in excess form.
+fn show_permits(label: &[u8], permits: u64) {
+    io::write_all(STDOUT_FILENO, label);
+    if permits < 4611686018427387904 {
+        show_field(b"-", 4611686018427387904 - permits);
+    } else {
+        io::print_decimal(STDOUT_FILENO, permits - 4611686018427387904);
+    }
+}
+
 // A label and a number.
 fn show_field(label: &[u8], value: u64) {
     io::write_all(STDOUT_FILENO, label);

@@ -125,6 +125,17 @@ impl Model {
         }
     }
 
+    /// Document 01's balance check: the balances of the ring's consumers live under it.
+    pub fn balance_check(&self, dispatcher: &Dispatcher) -> i64 {
+        let pair = (dispatcher.topic, dispatcher.subscription);
+        let live = dispatcher.attached.iter().filter_map(|id| self.live(*id));
+        let under = live.map(|place| &self.consumers[place]);
+        under
+            .filter(|c| c.kind == Kind::Shared && (c.topic, c.subscription) == pair)
+            .map(|c| c.permits)
+            .sum()
+    }
+
     /// Whether the call leaves the comparison domain: a refusal that the Rust does not
     /// have, an id in two rings, or an id in a ring while plain.
     pub fn leaves_domain(&self, call: &Call) -> bool {

@@ -1,0 +1,80 @@
+-- Each dispatcher's slot lies in the table.
+use mathlib.Core.Path.{_≡_, _∙_}
+use Prim.Native.Nat.{_-_, _≤_, _<_}
+use native.Mathlib.Omega.{arith}
+use lib.ListN.{length}
+use borrow.Author.Needs.{needs}
+use Rattle.layout.specs.Layout.{decode}
+use Rattle.layout.specs.Placed.{Dispatcher-in}
+use Rattle.layout.proofs.Gets.{read-dispatcher-count}
+use Rattle.layout.proofs.Placed.{dispatcher-in}
+use Rattle.cases.proofs.balance.show_each.Statement.{statement}
+use Rattle.cases.proofs.balance.show_each.Tie as tie
+
+abbrev Inv-loop : tie.InvT-loop
+Inv-loop store e n d₀ d = d ≤ n
+
+abbrev μ-loop : tie.MeasureT-loop
+μ-loop store e n d₀ d = n - d
+
+-- the slot of a turn lies in the table
+here : (c : tie.In-loop Inv-loop μ-loop) → Dispatcher-in (c .before .before .before .before .before .args .e) (c .before .before .before .before .before .args .store .now) (c .before .loop .d)
+here c =
+    let p = c .before .before .before .before .before .pre in
+    let n : c .before .before .before .word .result ≡ length (decode (c .before .before .before .before .before .args .store .now) .dispatchers) = c .before .before .before .word .ensures ∙ read-dispatcher-count (p .0) in
+    dispatcher-in (p .0) (c .before .loop .d) (omega arith)
+
+mul-word : tie.Need-mul-word Inv-loop μ-loop
+mul-word c = let l = c .before .pre .0 .long in omega arith
+
+add-word : tie.Need-add-word Inv-loop μ-loop
+add-word c = let l = c .before .pre .0 .long in omega arith
+
+word-requires : tie.Need-word-requires Inv-loop μ-loop
+word-requires c κs = let l = c .before .pre .0 .long in omega arith
+
+show-count-requires : tie.Need-show-count-requires Inv-loop μ-loop
+show-count-requires c κs = search needs
+
+loop-holds : tie.Need-loop-holds Inv-loop μ-loop
+loop-holds c = search needs
+
+balance-check-requires : tie.Need-balance-check-requires Inv-loop μ-loop
+balance-check-requires c κs = (here c, c .before .before .before .before .before .pre .1)
+
+total-available-permits-requires : tie.Need-total-available-permits-requires Inv-loop μ-loop
+total-available-permits-requires c κs = here (c .before)
+
+show-balance-requires : tie.Need-show-balance-requires Inv-loop μ-loop
+show-balance-requires c κs = search needs
+
+add-d : tie.Need-add-d Inv-loop μ-loop
+add-d c = search needs
+
+loop-less : tie.Need-loop-less Inv-loop μ-loop
+loop-less c = search needs
+
+loop-again : tie.Need-loop-again Inv-loop μ-loop
+loop-again c = search needs
+
+returns : tie.Need-returns Inv-loop μ-loop
+returns c = search needs
+
+pub show-each-spec : {M : Type 1} → statement M
+show-each-spec =
+    tie.close
+    (tie.spec
+    Inv-loop
+    μ-loop
+    mul-word
+    add-word
+    word-requires
+    show-count-requires
+    loop-holds
+    balance-check-requires
+    total-available-permits-requires
+    show-balance-requires
+    add-d
+    loop-less
+    loop-again
+    returns)
