@@ -21,7 +21,7 @@ ghost use Rattle.ledger.specs.Ids.{id-of};
 ghost use Rattle.commands.specs.Entries.{gained, Takes-entry, Takes};
 
 // Every dispatcher of the topic gains the mark of the new entry.
-pub fn new_entries(store: &mut [u64], e: usize, topic: u64, ledger: u64, entry: u64)
+pub(crate) fn new_entries(store: &mut [u64], e: usize, topic: u64, ledger: u64, entry: u64)
     requires { ⌜ Canon-store e (now store) × Every (Takes e topic) (decode (now store) .dispatchers) ⌝ }
     ensures { λ _. ⌜ now (store .exit) ≡ put (now (store .entry)) (with-dispatchers (decode (now (store .entry))) (map (with-new-entry topic (id-of ledger entry)) (decode (now (store .entry)) .dispatchers))) ⌝ }
 {

@@ -90,7 +90,7 @@ pub fn load_mark(store: &[u64], e: usize, d: usize, k: usize) -> Mark
 }
 
 // Whether mark `k` of dispatcher `d` is complete.
-pub fn is_complete(store: &[u64], e: usize, d: usize, k: usize) -> bool
+pub(crate) fn is_complete(store: &[u64], e: usize, d: usize, k: usize) -> bool
     requires { ⌜ Dispatcher-in e (now store) d × (k < length (dispatcher-nth (decode (now store)) d .marks)) ⌝ }
     ensures { λ r. ⌜ r ≡ complete-at (dispatcher-nth (decode (now (store .entry))) d) k ⌝ }
 {

@@ -8,7 +8,7 @@ ghost use lib.ListN.{length, drop};
 ghost use Rattle.dispatches.specs.Listed.{record-at, records-in};
 
 // The dispatch that record `i` of flat words spells.
-pub fn read_record(flat: &[u64], i: usize) -> Dispatch
+fn read_record(flat: &[u64], i: usize) -> Dispatch
     requires { ⌜ i * 13 + 13 ≤ length (now flat) ⌝ }
     ensures { λ r. ⌜ r ≡ record-at (now (flat .entry)) i ⌝ }
 {
@@ -34,7 +34,7 @@ pub fn read_record(flat: &[u64], i: usize) -> Dispatch
 }
 
 // The first `n` dispatches of a list become those of flat words; the later ones stay.
-pub fn fill(list: &mut [Dispatch], flat: &[u64], n: usize)
+pub(crate) fn fill(list: &mut [Dispatch], flat: &[u64], n: usize)
     requires { ⌜ (n ≤ length (now list)) × (n * 13 ≤ length (now flat)) ⌝ }
     ensures { λ _. ⌜ now (list .exit) ≡ records-in (now (flat .entry)) n ++ drop n (now (list .entry)) ⌝ }
 {

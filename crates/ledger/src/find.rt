@@ -24,7 +24,7 @@ pub fn same_id(store: &[u64], at: usize, ledger: u64, entry: u64) -> bool
 }
 
 // Whether the id at an offset is (`ledger`, `entry`) or greater.
-pub fn at_or_after(store: &[u64], at: usize, ledger: u64, entry: u64) -> bool
+fn at_or_after(store: &[u64], at: usize, ledger: u64, entry: u64) -> bool
     requires { ⌜ at + 1 < length (now store) ⌝ }
     ensures { λ r. ⌜ r ≡ at-or-after (id-at (now (store .entry)) at) (id-of ledger entry) ⌝ }
 {

@@ -17,7 +17,7 @@ ghost use Rattle.layout.specs.Layout.{decode};
 ghost use Rattle.layout.specs.Canon.{Canon-store};
 
 // Whether an id is live.
-pub fn is_live(store: &[u64], e: usize, id: u64) -> bool
+pub(crate) fn is_live(store: &[u64], e: usize, id: u64) -> bool
     requires { ⌜ Canon-store e (now store) ⌝ }
     ensures { λ r. ⌜ r ≡ is-some (consumer-of (decode (now (store .entry))) id) ⌝ }
 {
@@ -28,7 +28,7 @@ pub fn is_live(store: &[u64], e: usize, id: u64) -> bool
 }
 
 // Whether there is nothing to do.
-pub fn is_idle(store: &[u64], e: usize, live: bool) -> bool
+pub(crate) fn is_idle(store: &[u64], e: usize, live: bool) -> bool
     requires { ⌜ Canon-store e (now store) ⌝ }
     ensures { λ r. ⌜ r ≡ live && decode (now (store .entry)) .live-id-subscribe-is-noop ⌝ }
 {
@@ -39,7 +39,7 @@ pub fn is_idle(store: &[u64], e: usize, live: bool) -> bool
 }
 
 // Whether a consumer would be new, and 32 are live.
-pub fn is_full(store: &[u64], e: usize, live: bool) -> bool
+pub(crate) fn is_full(store: &[u64], e: usize, live: bool) -> bool
     requires { ⌜ Canon-store e (now store) ⌝ }
     ensures { λ r. ⌜ r ≡ not live && leb 32 (length (decode (now (store .entry)) .consumers)) ⌝ }
 {
@@ -50,7 +50,7 @@ pub fn is_full(store: &[u64], e: usize, live: bool) -> bool
 }
 
 // Whether a pair would be new, and 8 exist.
-pub fn pairs_full(store: &[u64], e: usize, topic: u64, subscription: u64) -> bool
+pub(crate) fn pairs_full(store: &[u64], e: usize, topic: u64, subscription: u64) -> bool
     requires { ⌜ Canon-store e (now store) ⌝ }
     ensures { λ r. ⌜ r ≡ not (is-some (dispatcher-of (decode (now (store .entry))) (record { topic = topic; subscription = subscription }))) && leb 8 (length (decode (now (store .entry)) .dispatchers)) ⌝ }
 {
@@ -63,7 +63,7 @@ pub fn pairs_full(store: &[u64], e: usize, topic: u64, subscription: u64) -> boo
 }
 
 // Whether an id would be new in the ring of a pair, and that has 32.
-pub fn ring_full(store: &[u64], e: usize, topic: u64, subscription: u64, id: u64) -> bool
+pub(crate) fn ring_full(store: &[u64], e: usize, topic: u64, subscription: u64, id: u64) -> bool
     requires { ⌜ Canon-store e (now store) ⌝ }
     ensures { λ r. ⌜ r ≡ not (member id (dispatcher (decode (now (store .entry))) (record { topic = topic; subscription = subscription }) .attached)) && leb 32 (length (dispatcher (decode (now (store .entry))) (record { topic = topic; subscription = subscription }) .attached)) ⌝ }
 {

@@ -9,7 +9,7 @@ ghost use Rattle.layout.specs.Layout.{decode, put};
 ghost use Rattle.membership.specs.Seats.{Seats, Joins};
 
 // The shared consumer `id` is new in the state, or made anew, and is in the ring of its pair.
-pub fn enter(store: &mut [u64], e: usize, id: u64, topic: u64, subscription: u64)
+pub(crate) fn enter(store: &mut [u64], e: usize, id: u64, topic: u64, subscription: u64)
     requires { ⌜ Seats e (now store) id × Joins e (now store) id (record { topic = topic; subscription = subscription }) ⌝ }
     ensures { λ _. ⌜ now (store .exit) ≡ put (now (store .entry)) (put-dispatcher (put-consumer (decode (now (store .entry))) (new-consumer id shared (record { topic = topic; subscription = subscription }))) (joined id (dispatcher (decode (now (store .entry))) (record { topic = topic; subscription = subscription })))) ⌝ }
 {

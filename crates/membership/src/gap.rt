@@ -10,7 +10,7 @@ ghost use Rattle.layout.specs.Canon.{Canon-store};
 ghost use Rattle.layout.specs.Fields.{zero-consumer};
 
 // The table of `n` consumers, which has room, gains a blank one at `i`.
-pub fn open_consumer(store: &mut [u64], e: usize, i: usize, n: usize)
+pub(crate) fn open_consumer(store: &mut [u64], e: usize, i: usize, n: usize)
     requires { ⌜ Canon-store e (now store) × (n ≡ length (decode (now store) .consumers)) × (i ≤ n) × (n < 32) ⌝ }
     ensures { λ _. ⌜ now (store .exit) ≡ put (now (store .entry)) (with-consumers (decode (now (store .entry))) (take i (decode (now (store .entry)) .consumers) ++ zero-consumer ∷ drop i (decode (now (store .entry)) .consumers))) ⌝ }
 {

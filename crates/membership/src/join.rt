@@ -21,7 +21,7 @@ ghost use Rattle.store.specs.Find.{slot};
 ghost use Rattle.membership.specs.Seats.{Joins};
 
 // The consumer `id` joins the ring of a pair, if it is not in it yet.
-pub fn join(store: &mut [u64], e: usize, topic: u64, subscription: u64, id: u64)
+pub(crate) fn join(store: &mut [u64], e: usize, topic: u64, subscription: u64, id: u64)
     requires { ⌜ Joins e (now store) id (record { topic = topic; subscription = subscription }) ⌝ }
     ensures { λ _. ⌜ now (store .exit) ≡ put (now (store .entry)) (put-dispatcher (decode (now (store .entry))) (joined id (dispatcher (decode (now (store .entry))) (record { topic = topic; subscription = subscription })))) ⌝ }
 {

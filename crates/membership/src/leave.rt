@@ -28,7 +28,7 @@ ghost use Rattle.layout.specs.Placed.{Consumer-in, Dispatcher-in};
 ghost use Rattle.membership.specs.Leaving.{one-looked-at, all-back, next-of, out-of-ring, Member-of};
 
 // Consumer `i` is left out; those after it keep their order.
-pub fn remove_consumer(store: &mut [u64], e: usize, i: usize)
+pub(crate) fn remove_consumer(store: &mut [u64], e: usize, i: usize)
     requires { ⌜ Consumer-in e (now store) i ⌝ }
     ensures { λ _. ⌜ now (store .exit) ≡ put (now (store .entry)) (with-consumers (decode (now (store .entry))) (take i (decode (now (store .entry)) .consumers) ++ drop (i + 1) (decode (now (store .entry)) .consumers))) ⌝ }
 {
@@ -56,7 +56,7 @@ fn return_or_keep(store: &mut [u64], e: usize, d: usize, id: u64, j: usize, kept
 
 // What `id` holds of dispatcher `d` goes to the end of the queue, in the order in which it was dispatched; the
 // others move to the front in theirs.
-pub fn return_held(store: &mut [u64], e: usize, d: usize, id: u64)
+fn return_held(store: &mut [u64], e: usize, d: usize, id: u64)
     requires { ⌜ Dispatcher-in e (now store) d × (length (dispatcher-nth (decode (now store)) d .redelivery) + length (dispatcher-nth (decode (now store)) d .in-flight) ≤ e) ⌝ }
     ensures { λ _. ⌜ now (store .exit) ≡ put (now (store .entry)) (set-dispatcher (decode (now (store .entry))) d (all-back id (dispatcher-nth (decode (now (store .entry))) d))) ⌝ }
 {
@@ -92,7 +92,7 @@ fn leave_ring(store: &mut [u64], e: usize, d: usize, id: u64)
 }
 
 // `id` leaves dispatcher `d`, which then has the permits `total`.
-pub fn leave(store: &mut [u64], e: usize, d: usize, id: u64, total: u64)
+pub(crate) fn leave(store: &mut [u64], e: usize, d: usize, id: u64, total: u64)
     requires { ⌜ Dispatcher-in e (now store) d × Member-of id (dispatcher-nth (decode (now store)) d) × (length (dispatcher-nth (decode (now store)) d .redelivery) + length (dispatcher-nth (decode (now store)) d .in-flight) ≤ e) ⌝ }
     ensures { λ _. ⌜ now (store .exit) ≡ put (now (store .entry)) (set-dispatcher (decode (now (store .entry))) d (left-by id total (dispatcher-nth (decode (now (store .entry))) d))) ⌝ }
 {

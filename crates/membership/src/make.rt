@@ -19,7 +19,7 @@ ghost use Rattle.membership.specs.Made.{kind-at};
 const NO_PERMITS: u64 = 4_611_686_018_427_387_904;
 
 // Consumer `i` becomes a new one.
-pub fn make_consumer(
+pub(crate) fn make_consumer(
     store: &mut [u64],
     e: usize,
     i: usize,
@@ -51,7 +51,7 @@ fn raise_dispatchers(store: &mut [u64], e: usize, n: usize)
 }
 
 // The table, which has `n` dispatchers and room, gains a new one over a ledger of `entries`.
-pub fn make_dispatcher(
+pub(crate) fn make_dispatcher(
     store: &mut [u64],
     e: usize,
     n: usize,

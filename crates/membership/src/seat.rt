@@ -18,7 +18,14 @@ ghost use Rattle.membership.specs.Made.{kind-at};
 ghost use Rattle.membership.specs.Seats.{Seats};
 
 // The consumer `id` is new in the state, or made anew.
-pub fn seat_consumer(store: &mut [u64], e: usize, id: u64, kind: u64, topic: u64, subscription: u64)
+pub(crate) fn seat_consumer(
+    store: &mut [u64],
+    e: usize,
+    id: u64,
+    kind: u64,
+    topic: u64,
+    subscription: u64,
+)
     requires { ⌜ Seats e (now store) id × (kind ≤ 1) ⌝ }
     ensures { λ _. ⌜ now (store .exit) ≡ put (now (store .entry)) (put-consumer (decode (now (store .entry))) (new-consumer id (kind-at kind) (record { topic = topic; subscription = subscription }))) ⌝ }
 {

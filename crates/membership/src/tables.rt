@@ -8,7 +8,7 @@ ghost use Rattle.layout.specs.Canon.{Canon-store};
 ghost use Rattle.frame.specs.Place.{place};
 
 // The number of consumers.
-pub fn consumer_count(store: &[u64], e: usize) -> usize
+pub(crate) fn consumer_count(store: &[u64], e: usize) -> usize
     requires { ⌜ Canon-store e (now store) ⌝ }
     ensures { λ r. ⌜ r ≡ length (decode (now (store .entry)) .consumers) ⌝ }
 {
@@ -16,7 +16,7 @@ pub fn consumer_count(store: &[u64], e: usize) -> usize
 }
 
 // The number of dispatchers.
-pub fn dispatcher_count(store: &[u64], e: usize) -> usize
+pub(crate) fn dispatcher_count(store: &[u64], e: usize) -> usize
     requires { ⌜ Canon-store e (now store) ⌝ }
     ensures { λ r. ⌜ r ≡ length (decode (now (store .entry)) .dispatchers) ⌝ }
 {
@@ -24,7 +24,7 @@ pub fn dispatcher_count(store: &[u64], e: usize) -> usize
 }
 
 // Whether a subscribe of a live id does nothing.
-pub fn is_noop(store: &[u64], e: usize) -> bool
+pub(crate) fn is_noop(store: &[u64], e: usize) -> bool
     requires { ⌜ Canon-store e (now store) ⌝ }
     ensures { λ r. ⌜ r ≡ decode (now (store .entry)) .live-id-subscribe-is-noop ⌝ }
 {
@@ -32,7 +32,7 @@ pub fn is_noop(store: &[u64], e: usize) -> bool
 }
 
 // How many consumers stand before the first whose id is above `id`.
-pub fn place_of(store: &[u64], e: usize, id: u64) -> usize
+pub(crate) fn place_of(store: &[u64], e: usize, id: u64) -> usize
     requires { ⌜ Canon-store e (now store) ⌝ }
     ensures { λ r. ⌜ r ≡ place id (decode (now (store .entry)) .consumers) ⌝ }
 {

@@ -68,7 +68,7 @@ fn waiting_plain(store: &[u64], e: usize) -> usize
 }
 
 // How many entries wait: a list with room for as many records has room for all that a push dispatches.
-pub fn most_due(store: &[u64], e: usize) -> usize
+pub(crate) fn most_due(store: &[u64], e: usize) -> usize
     requires { ⌜ Canon-store e (now store) ⌝ }
     ensures { λ r. ⌜ r ≡ most-due (decode (now (store .entry))) ⌝ }
 {

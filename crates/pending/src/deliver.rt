@@ -59,7 +59,7 @@ fn record_to(store: &[u64], e: usize, d: usize, t: usize, n: usize, id: u64, ste
 }
 
 // Record `m` of the list is that of a step of dispatcher `d`, and its entry is in flight.
-pub fn deliver(
+pub(crate) fn deliver(
     store: &mut [u64],
     e: usize,
     d: usize,

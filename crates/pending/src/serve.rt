@@ -100,7 +100,7 @@ fn serve_with(
 }
 
 // Serves dispatcher `d`, with records from record `from` on; the answer is the number of the record after the last.
-pub fn serve_dispatcher(
+pub(crate) fn serve_dispatcher(
     store: &mut [u64],
     e: usize,
     d: usize,

@@ -15,7 +15,7 @@ ghost use Rattle.push.specs.Shared.{services, permits-left, all-service-records
 ghost use Rattle.records.specs.Flat.{filled};
 
 // Serves every dispatcher, with records from the first on; the answer is how many were written.
-pub fn push_pending_shared(
+pub(crate) fn push_pending_shared(
     store: &mut [u64],
     e: usize,
     permits: &mut [u64],

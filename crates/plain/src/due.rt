@@ -41,7 +41,7 @@ pub fn waiting(store: &[u64], e: usize, i: usize) -> usize
 }
 
 // How many entries consumer `i` is due with other permits.
-pub fn plain_due(store: &[u64], e: usize, i: usize, permits: u64) -> usize
+pub(crate) fn plain_due(store: &[u64], e: usize, i: usize, permits: u64) -> usize
     requires { ⌜ Consumer-in e (now store) i ⌝ }
     ensures { λ r. ⌜ r ≡ plain-due (ledger-for (decode (now (store .entry))) (consumer-nth (decode (now (store .entry))) i)) (with-permits (consumer-nth (decode (now (store .entry))) i) permits) ⌝ }
 {

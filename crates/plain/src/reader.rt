@@ -15,7 +15,7 @@ ghost use Rattle.layout.specs.Placed.{Consumer-in};
 ghost use Rattle.plain.specs.Reading.{position-at};
 
 // Nacked position `j` of consumer `i`.
-pub fn nacked(store: &[u64], e: usize, i: usize, j: usize) -> usize
+pub(crate) fn nacked(store: &[u64], e: usize, i: usize, j: usize) -> usize
     requires { ⌜ Consumer-in e (now store) i × (j < length (consumer-nth (decode (now store)) i .nacked)) ⌝ }
     ensures { λ r. ⌜ r ≡ getD (consumer-nth (decode (now (store .entry))) i .nacked) j 0 ⌝ }
 {
@@ -24,7 +24,7 @@ pub fn nacked(store: &[u64], e: usize, i: usize, j: usize) -> usize
 }
 
 // The position of entry `j` of those that wait for consumer `i`.
-pub fn position(store: &[u64], e: usize, i: usize, j: usize) -> usize
+pub(crate) fn position(store: &[u64], e: usize, i: usize, j: usize) -> usize
     requires { ⌜ Consumer-in e (now store) i × (consumer-nth (decode (now store)) i .cursor ≤ 4096) × (j ≤ 8192) ⌝ }
     ensures { λ r. ⌜ r ≡ position-at (consumer-nth (decode (now (store .entry))) i) j ⌝ }
 {
@@ -36,7 +36,7 @@ pub fn position(store: &[u64], e: usize, i: usize, j: usize) -> usize
 }
 
 // The first `n` nacked positions of consumer `i` are taken out.
-pub fn drop_nacked(store: &mut [u64], e: usize, i: usize, n: usize)
+fn drop_nacked(store: &mut [u64], e: usize, i: usize, n: usize)
     requires { ⌜ Consumer-in e (now store) i × (n ≤ length (consumer-nth (decode (now store)) i .nacked)) ⌝ }
     ensures { λ _. ⌜ now (store .exit) ≡ put (now (store .entry)) (set-consumer (decode (now (store .entry))) i (with-reading (consumer-nth (decode (now (store .entry))) i) (consumer-nth (decode (now (store .entry))) i .cursor) (drop n (consumer-nth (decode (now (store .entry))) i .nacked)))) ⌝ }
 {
@@ -54,7 +54,7 @@ pub fn smaller(a: usize, b: usize) -> usize
 }
 
 // Consumer `i` reads `n` entries: nacked ones are taken out, and the cursor moves on by the others.
-pub fn read_on(store: &mut [u64], e: usize, i: usize, n: usize)
+pub(crate) fn read_on(store: &mut [u64], e: usize, i: usize, n: usize)
     requires { ⌜ Consumer-in e (now store) i × (consumer-nth (decode (now store)) i .cursor ≤ 4096) × (n ≤ 4160) ⌝ }
     ensures { λ _. ⌜ now (store .exit) ≡ put (now (store .entry)) (set-consumer (decode (now (store .entry))) i (with-reading (consumer-nth (decode (now (store .entry))) i) (consumer-nth (decode (now (store .entry))) i .cursor + (n - length (consumer-nth (decode (now (store .entry))) i .nacked))) (drop n (consumer-nth (decode (now (store .entry))) i .nacked)))) ⌝ }
 {

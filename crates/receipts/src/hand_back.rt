@@ -42,7 +42,14 @@ fn hand_back(store: &mut [u64], e: usize, d: usize, topic: u64, id: u64, list: &
 }
 
 // Each id of a list is handed back, in order, if `id` holds it.
-pub fn hand_back_all(store: &mut [u64], e: usize, d: usize, topic: u64, id: u64, list: &[u64])
+pub(crate) fn hand_back_all(
+    store: &mut [u64],
+    e: usize,
+    d: usize,
+    topic: u64,
+    id: u64,
+    list: &[u64],
+)
     requires { ⌜ Dispatcher-in e (now store) d × Stands (now list) 0 × Valid-dispatcher (decode (now store)) (dispatcher-nth (decode (now store)) d) ⌝ }
     ensures { λ _. ⌜ now (store .exit) ≡ put (now (store .entry)) (set-dispatcher (decode (now (store .entry))) d (redeliver-groups (ledger-of (decode (now (store .entry))) topic) id (dispatcher-nth (decode (now (store .entry))) d) (groups-from (now (list .entry)) 0))) ⌝ }
 {

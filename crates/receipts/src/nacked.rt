@@ -31,7 +31,7 @@ fn found_here(store: &[u64], e: usize, topic: u64, list: &[u64], at: usize) -> u
 }
 
 // How many groups of a list have an id in the ledger of a topic.
-pub fn found_count(store: &[u64], e: usize, topic: u64, list: &[u64]) -> usize
+pub(crate) fn found_count(store: &[u64], e: usize, topic: u64, list: &[u64]) -> usize
     requires { ⌜ Canon-store e (now store) × Stands (now list) 0 ⌝ }
     ensures { λ r. ⌜ r ≡ length (found-positions (ledger-of (decode (now (store .entry))) topic) (groups-from (now (list .entry)) 0)) ⌝ }
 {
@@ -67,7 +67,7 @@ fn join_here(store: &mut [u64], e: usize, i: usize, topic: u64, list: &[u64], at
 }
 
 // The found positions of a list join the nacked positions of consumer `i`, repeats included.
-pub fn join_found(store: &mut [u64], e: usize, i: usize, topic: u64, list: &[u64])
+pub(crate) fn join_found(store: &mut [u64], e: usize, i: usize, topic: u64, list: &[u64])
     requires { ⌜ Consumer-in e (now store) i × Stands (now list) 0 × (length (consumer-nth (decode (now store)) i .nacked ++ found-positions (ledger-of (decode (now store)) topic) (groups-from (now list) 0)) ≤ 64) ⌝ }
     ensures { λ _. ⌜ now (store .exit) ≡ put (now (store .entry)) (set-consumer (decode (now (store .entry))) i (with-reading (consumer-nth (decode (now (store .entry))) i) (consumer-nth (decode (now (store .entry))) i .cursor) (consumer-nth (decode (now (store .entry))) i .nacked ++ found-positions (ledger-of (decode (now (store .entry))) topic) (groups-from (now (list .entry)) 0)))) ⌝ }
 {

@@ -38,7 +38,7 @@ fn ready(ring: &[usize], permits: &[u64], from: usize, to: usize) -> usize
 }
 
 // The first place from `next` on, going round; the ring's length if there is none.
-pub fn choose(ring: &[usize], permits: &[u64], next: usize) -> usize
+pub(crate) fn choose(ring: &[usize], permits: &[u64], next: usize) -> usize
     requires { ⌜ next ≤ length (now ring) ⌝ }
     ensures { λ r. ⌜ (place-named (now (ring .entry)) (length (now (ring .entry))) r ≡ first-place (now (ring .entry)) (now (permits .entry)) next) × (r ≤ length (now (ring .entry))) ⌝ }
 {

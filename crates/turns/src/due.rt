@@ -61,7 +61,7 @@ fn due_with(store: &[u64], e: usize, d: usize, ring: &mut [usize], permits: &mut
 }
 
 // How many dispatches dispatcher `d` is due; the permits are left as its service leaves them.
-pub fn due_of(store: &[u64], e: usize, d: usize, permits: &mut [u64]) -> usize
+fn due_of(store: &[u64], e: usize, d: usize, permits: &mut [u64]) -> usize
     requires { ⌜ (spells (now store) ≡ true) × (e ≡ decode (now store) .entries) × (d < length (decode (now store) .dispatchers)) ⌝ }
     ensures count { λ r. ⌜ r ≡ length (served (decode (now (store .entry))) (dispatcher-nth (decode (now (store .entry))) d) (now (permits .entry)) .made) ⌝ }
     ensures permits { λ _. ⌜ now (permits .exit) ≡ served (decode (now (store .entry))) (dispatcher-nth (decode (now (store .entry))) d) (now (permits .entry)) .after .permits ⌝ }

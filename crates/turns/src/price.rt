@@ -9,7 +9,7 @@ ghost use Rattle.push.specs.Local.{price-of, fixed-of};
 ghost use Rattle.turns.specs.Turns.{Serving};
 
 // The cost of the entry at position `k` of dispatcher `d`, whose ledger of `n` entries is that of topic `t`.
-pub fn price(store: &[u64], e: usize, d: usize, t: usize, n: usize, k: usize) -> u64
+pub(crate) fn price(store: &[u64], e: usize, d: usize, t: usize, n: usize, k: usize) -> u64
     requires { ⌜ Serving e (now store) d t n × (k < n) ⌝ }
     ensures { λ r. ⌜ (r ≡ price-of (fixed-of (decode (now (store .entry))) (dispatcher-nth (decode (now (store .entry))) d)) k) × (r ≤ 256) ⌝ }
 {

@@ -42,11 +42,11 @@ returns c =
     let ws = c .before .before .before .before .args .store .now in
     let id = c .before .before .before .before .args .id in
     adds-none (dispatcher-nth (decode ws) (c .before .before .before .before .args .d) .pair) (c .before .before .before .before .args .sum)
-    (consumer-missing (decode ws) (slot by-id id (decode ws .consumers)) id refl (found-missing id (decode ws .consumers) (sym (c .enum-told .given .1) ∙ c .before .before .find-consumer .ensures)))
+    (consumer-missing (decode ws) (slot by-id id (decode ws .consumers)) id refl (found-missing id (decode ws .consumers) (sym (c .enum-told .given .1) ∙ c .before .before .find-consumer .ensures .0)))
 
 -- the consumer that was found
 found : (c : tie.After-i) → (c .i .given .0 .0 ≡ slot by-id (c .before .before .before .before .args .id) (decode (c .before .before .before .before .args .store .now) .consumers)) × (c .i .given .0 .0 < length (decode (c .before .before .before .before .args .store .now) .consumers))
-found c = found-live (c .before .before .before .before .args .id) (decode (c .before .before .before .before .args .store .now) .consumers) (c .i .given .0 .0) (sym (c .i .given .1) ∙ c .before .before .find-consumer .ensures)
+found c = found-live (c .before .before .before .before .args .id) (decode (c .before .before .before .before .args .store .now) .consumers) (c .i .given .0 .0) (sym (c .i .given .1) ∙ c .before .before .find-consumer .ensures .0)
 
 -- it is there
 there : (c : tie.After-i) → Consumer-in (c .before .before .before .before .args .e) (c .before .before .before .before .args .store .now) (c .i .given .0 .0)

@@ -18,11 +18,11 @@ enum-told-2 c = search needs
 
 returns : tie.Need-returns
 returns c =
-    live-none (decode (c .before .before .before .before .args .store .now)) (c .before .before .before .before .args .id) (found-missing (c .before .before .before .before .args .id) (decode (c .before .before .before .before .args .store .now) .consumers) (sym (c .enum-told2 .given .1) ∙ c .before .before .find-consumer .ensures))
+    live-none (decode (c .before .before .before .before .args .store .now)) (c .before .before .before .before .args .id) (found-missing (c .before .before .before .before .args .id) (decode (c .before .before .before .before .args .store .now) .consumers) (sym (c .enum-told2 .given .1) ∙ c .before .before .find-consumer .ensures .0))
 
 returns-2 : tie.Need-returns-2
 returns-2 c =
-    let f = found-live (c .before .before .before .before .args .id) (decode (c .before .before .before .before .args .store .now) .consumers) (c .enum-told .given .0 .0) (sym (c .enum-told .given .1) ∙ c .before .before .find-consumer .ensures) in
+    let f = found-live (c .before .before .before .before .args .id) (decode (c .before .before .before .before .args .store .now) .consumers) (c .enum-told .given .0 .0) (sym (c .enum-told .given .1) ∙ c .before .before .find-consumer .ensures .0) in
     live-some (decode (c .before .before .before .before .args .store .now)) (c .enum-told .given .0 .0) (c .before .before .before .before .args .id) (f .0) (f .1)
 
 pub is-live-spec : {M : Type 1} → statement M

@@ -29,7 +29,7 @@ returns c =
     let ws = c .before .before .before .before .before .before .before .args .store .now in
     let id = c .before .before .before .before .before .before .before .args .consumer in
     done-with ws _ (c .before .before .before .before .before .before .before .pre) 0 0
-    (close-missing (decode ws) id (found-missing id (decode ws .consumers) (sym (c .enum-told .given .1) ∙ c .before .before .find-consumer .ensures)))
+    (close-missing (decode ws) id (found-missing id (decode ws .consumers) (sym (c .enum-told .given .1) ∙ c .before .before .find-consumer .ensures .0)))
     value-not-closed refl (sym (put-decode (canon-of (c .before .before .before .before .entries .result) ws (c .before .before .before .before .before .before .before .pre) (c .before .before .before .before .entries .ensures))))
 
 close-live-requires : tie.Need-close-live-requires
@@ -37,7 +37,7 @@ close-live-requires c κs =
     let ws = c .before .before .before .before .before .before .before .before .before .args .store .now in
     let id = c .before .before .before .before .before .before .before .before .before .args .consumer in
     let i = c .before .before .i .given .0 .0 in
-    let f = found-live id (decode ws .consumers) i (sym (c .before .before .i .given .1) ∙ c .before .before .before .before .find-consumer .ensures) in
+    let f = found-live id (decode ws .consumers) i (sym (c .before .before .i .given .1) ∙ c .before .before .before .before .find-consumer .ensures .0) in
     (record { spelt = c .before .before .before .before .before .before .before .before .before .pre; E = c .before .before .before .before .before .before .entries .ensures; there = f .1 }, sym (consumer-found-id (decode ws) i id (f .0) (f .1)))
 
 same-length-2 : tie.Need-same-length-2

@@ -16,7 +16,7 @@ use Rattle.membership.proofs.seat.seat_consumer.Tie as tie
 
 -- the slot that was found
 found : (c : tie.After-i) → (c .i .given .0 .0 ≡ slot by-id (c .before .before .before .before .before .args .id) (decode (c .before .before .before .before .before .args .store .now) .consumers)) × (c .i .given .0 .0 < length (decode (c .before .before .before .before .before .args .store .now) .consumers))
-found c = found-live (c .before .before .before .before .before .args .id) (decode (c .before .before .before .before .before .args .store .now) .consumers) (c .i .given .0 .0) (sym (c .i .given .1) ∙ c .before .before .find-consumer .ensures)
+found c = found-live (c .before .before .before .before .before .args .id) (decode (c .before .before .before .before .before .args .store .now) .consumers) (c .i .given .0 .0) (sym (c .i .given .1) ∙ c .before .before .find-consumer .ensures .0)
 
 find-consumer-requires : tie.Need-find-consumer-requires
 find-consumer-requires c κs = search needs
@@ -29,7 +29,7 @@ enum-told c = search needs
 
 insert-consumer-requires : tie.Need-insert-consumer-requires
 insert-consumer-requires c κs =
-    let m = found-missing (c .before .before .before .before .before .before .args .id) (decode (c .before .before .before .before .before .before .args .store .now) .consumers) (sym (c .before .enum-told .given .1) ∙ c .before .before .before .find-consumer .ensures) in
+    let m = found-missing (c .before .before .before .before .before .before .args .id) (decode (c .before .before .before .before .before .before .args .store .now) .consumers) (sym (c .before .enum-told .given .1) ∙ c .before .before .before .find-consumer .ensures .0) in
     (c .before .before .before .before .before .before .pre .0 .canon, m, c .before .before .before .before .before .before .pre .0 .room m, c .before .before .before .before .before .before .pre .1)
 
 same-length : tie.Need-same-length

@@ -30,7 +30,7 @@ returns : tie.Need-returns
 returns c =
     let a = c .before .before .before .before .before .before .before .before .args in
     let s = decode (a .store .now) in
-    refused-with (a .store .now) _ (c .before .before .before .before .before .before .before .before .pre) (redeliver-missing s (a .consumer) (a .list .now) (found-missing (a .consumer) (s .consumers) (sym (c .enum-told .given .1) ∙ c .before .before .find-consumer .ensures)))
+    refused-with (a .store .now) _ (c .before .before .before .before .before .before .before .before .pre) (redeliver-missing s (a .consumer) (a .list .now) (found-missing (a .consumer) (s .consumers) (sym (c .enum-told .given .1) ∙ c .before .before .find-consumer .ensures .0)))
 
 list-right-requires : tie.Need-list-right-requires
 list-right-requires c κs = search needs
@@ -42,7 +42,7 @@ returns-2 : tie.Need-returns-2
 returns-2 c =
     let a = c .before .before .before .before .before .before .before .before .before .before .before .args in
     let s = decode (a .store .now) in
-    let f = found-live (a .consumer) (s .consumers) (c .before .before .before .i .given .0 .0) (sym (c .before .before .before .i .given .1) ∙ c .before .before .before .before .before .find-consumer .ensures) in
+    let f = found-live (a .consumer) (s .consumers) (c .before .before .before .i .given .0 .0) (sym (c .before .before .before .i .given .1) ∙ c .before .before .before .before .before .find-consumer .ensures .0) in
     refused-with (a .store .now) _ (c .before .before .before .before .before .before .before .before .before .before .before .pre) (redeliver-ill s (c .before .before .before .i .given .0 .0) (a .consumer) (a .list .now) (f .0) (f .1) (sym (c .before .list-right .ensures) ∙ not-true _ (c .if1 .taken)))
 
 redeliver-live-requires : tie.Need-redeliver-live-requires
@@ -50,7 +50,7 @@ redeliver-live-requires c κs =
     let a = c .before .before .before .before .before .before .before .before .before .before .before .before .args in
     let s = decode (a .store .now) in
     let i = c .before .before .before .before .i .given .0 .0 in
-    let f = found-live (a .consumer) (s .consumers) i (sym (c .before .before .before .before .i .given .1) ∙ c .before .before .before .before .before .before .find-consumer .ensures) in (
+    let f = found-live (a .consumer) (s .consumers) i (sym (c .before .before .before .before .i .given .1) ∙ c .before .before .before .before .before .before .find-consumer .ensures .0) in (
       record { spelt = c .before .before .before .before .before .before .before .before .before .before .before .before .pre; E = c .before .before .before .before .before .before .before .before .entries .ensures; there = f .1 },
       consumer-found-id s i (a .consumer) (f .0) (f .1),
       stands-right (a .list .now) (sym (not-false _ (c .before .if1 .left)) ∙ c .before .before .list-right .ensures) .0,

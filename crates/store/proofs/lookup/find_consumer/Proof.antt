@@ -11,7 +11,7 @@ use Rattle.layout.specs.Layout.{decode}
 use Rattle.layout.specs.Fields.{zero-consumer}
 use Rattle.layout.proofs.Gets.{read-consumer-count, read-consumer-id}
 use Rattle.store.proofs.Finding.{Sought, sought-start, sought-here, sought-on, sought-end}
-use Rattle.store.proofs.Lookups.{lookup-live, lookup-missing}
+use Rattle.store.proofs.Lookups.{lookup-live, lookup-missing, lookup-rules}
 use Rattle.store.proofs.lookup.find_consumer.Statement.{statement}
 use Rattle.store.proofs.lookup.find_consumer.Tie as tie
 use Rattle.store.proofs.lookup.find_consumer.Reads as reads
@@ -66,9 +66,10 @@ returns c =
     let ws = c .before .before .before .before .before .before .args .store .now in
     let i = c .before .before .before .loop .i in
     let r = read-consumer-id (c .before .before .before .before .before .before .pre) i (here (c .before .before)) in
-    lookup-live (c .before .before .before .before .before .before .args .id) (decode ws .consumers) i (here (c .before .before))
+    let e = lookup-live (c .before .before .before .before .before .before .args .id) (decode ws .consumers) i (here (c .before .before))
     (sought-here by-id (c .before .before .before .before .before .before .args .id) (decode ws .consumers) i zero-consumer (here (c .before .before)) (c .before .before .before .loop .inv .1)
-    (eq-eqb _ _ (sym (sym r ∙ c .if1 .taken))))
+    (eq-eqb _ _ (sym (sym r ∙ c .if1 .taken)))) in
+    (e, lookup-rules (decode ws) (c .before .before .before .before .before .before .args .id) e)
 
 -- src/lookup.rt:25:9
 add-i : tie.Need-add-i Inv-loop μ-loop
@@ -96,7 +97,8 @@ returns-2 c =
     let ws = c .before .before .before .before .args .store .now in
     let l : length (decode ws .consumers) ≤ c .before .loop .i = omega arith in
     let e = sought-end by-id (c .before .before .before .before .args .id) (decode ws .consumers) (c .before .loop .i) l (c .before .loop .inv .1) in
-    lookup-missing (c .before .before .before .before .args .id) (decode ws .consumers) (omega arith)
+    let m = lookup-missing (c .before .before .before .before .args .id) (decode ws .consumers) (omega arith) in
+    (m, lookup-rules (decode ws) (c .before .before .before .before .args .id) m)
 
 pub find-consumer-spec : {M : Type 1} → statement M
 find-consumer-spec =

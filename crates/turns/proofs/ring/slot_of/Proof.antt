@@ -26,7 +26,7 @@ returns : tie.Need-returns
 returns c =
     let ws = c .before .before .before .before .before .args .store .now in
     let id = c .before .before .before .before .before .args .id in
-    let m = found-missing id (decode ws .consumers) (sym (c .before .enum-told .given .1) ∙ c .before .before .before .find-consumer .ensures) in
+    let m = found-missing id (decode ws .consumers) (sym (c .before .enum-told .given .1) ∙ c .before .before .before .find-consumer .ensures .0) in
     let n = c .word .ensures ∙ read-consumer-count (c .before .before .before .before .before .pre) in
     let l = slot-le by-id id (decode ws .consumers) in
     omega arith
@@ -34,7 +34,7 @@ returns c =
 returns-2 : tie.Need-returns-2
 returns-2 c =
     let ws = c .before .before .before .before .before .args .store .now in
-    found-live (c .before .before .before .before .before .args .id) (decode ws .consumers) (c .before .i .given .0 .0) (sym (c .before .i .given .1) ∙ c .before .before .before .find-consumer .ensures) .0
+    found-live (c .before .before .before .before .before .args .id) (decode ws .consumers) (c .before .i .given .0 .0) (sym (c .before .i .given .1) ∙ c .before .before .before .find-consumer .ensures .0) .0
 
 pub slot-of-spec : {M : Type 1} → statement M
 slot-of-spec =
