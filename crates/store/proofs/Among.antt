@@ -5,12 +5,12 @@ use mathlib.Core.List.{List}
 use Prim.Native.Nat.{ℕ, _+_, _*_, _≤_, _<_}
 use native.Mathlib.Nat.{le-trans}
 use native.Mathlib.Omega.{arith}
-use lib.Dec.{eqb, leb}
+use lib.Dec.{eqb, leb, ltb}
 use borrow.Author.Tests.{leb-true, le-leb, eq-eqb, ne-eqb}
 use Rattle.rules.proofs.Table.{by-test}
 use Rattle.store.specs.Below.{each-below, some-below}
-use Rattle.store.specs.Rows.{row, row-second, among, two-among}
-use Rattle.store.proofs.Below.{each-at, each-given, each-turn, some-found, some-none, some-turn}
+use Rattle.store.specs.Rows.{row, row-second, among, first-row, two-among}
+use Rattle.store.proofs.Below.{each-at, each-given, each-turn, some-found, some-none, some-turn, first-some, first-found, first-none}
 use Rattle.store.proofs.Rooms.{slot-le}
 
 -- a row below the count ends within the rows
@@ -34,6 +34,21 @@ module _ (ws : List ℕ) (first w : ℕ) where
   pub among-turn : (i a : ℕ) → among ws first w i a ≡ false → (row ws first w i ≡ a → ⊥) → among ws first w (i + 1) a ≡ false
   unfolding among
   among-turn i a e f = some-turn (λ j. eqb a (row ws first w j)) i e (ne-eqb a (row ws first w i) (λ q. f (sym q)))
+
+  -- the first row that starts with a word, found
+  pub first-here : (n i a : ℕ) → i < n → among ws first w i a ≡ false → row ws first w i ≡ a → i ≡ first-row ws first w n a
+  unfolding among first-row
+  first-here n i a h e f = first-found (λ j. eqb a (row ws first w j)) n i h e (eq-eqb a (row ws first w i) (sym f))
+
+  -- there is none
+  pub first-nowhere : (n a : ℕ) → among ws first w n a ≡ false → n ≡ first-row ws first w n a
+  unfolding among first-row
+  first-nowhere n a e = first-none (λ j. eqb a (row ws first w j)) n e
+
+  -- there is one where the word is among them
+  pub first-among : (n a : ℕ) → ltb (first-row ws first w n a) n ≡ among ws first w n a
+  unfolding among first-row
+  first-among n a = first-some (λ j. eqb a (row ws first w j)) n
 
   -- a word above all rows is none of theirs
   pub among-above : (n a greatest : ℕ) → each-below (λ j. leb (row ws first w j) greatest) n ≡ true → greatest < a → among ws first w n a ≡ false

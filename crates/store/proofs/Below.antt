@@ -7,10 +7,10 @@ use native.Mathlib.Nat.{not-suc-le-zero, add-zero, add-suc}
 use native.Mathlib.Numerals.{add-one}
 use native.Mathlib.Omega.{arith}
 use lib.Dec.{ltb}
-use borrow.Author.Tests.{ltb-true, ltb-false, not-true, not-false}
+use borrow.Author.Tests.{ltb-true, ltb-false, lt-ltb, le-ltb, not-true, not-false}
 use Rattle.rules.proofs.Says.{Says}
 use Rattle.rules.proofs.Table.{by-test, never-both}
-use Rattle.store.specs.Below.{each-below, some-below}
+use Rattle.store.specs.Below.{each-below, some-below, first-below}
 
 -- ---- what a call that answered true, or false, says of the test that must fail
 
@@ -146,3 +146,33 @@ pub some-first : (q : ℕ → Bool) (n : ℕ) → some-below q (suc n) ≡ (q 0 
 unfolding some-below
 some-first q zero = sym (or-false (q 0))
 some-first q (suc n) = ap (λ (b : Bool). b || q (suc n)) (some-first q n) ∙ or-assoc (q 0) (some-below (λ i. q (suc i)) n) (q (suc n))
+
+-- ---- the first number that passes
+
+module _ (q : ℕ → Bool) where
+  -- there is one where some number passes
+  pub first-some : (n : ℕ) → ltb (first-below q n) n ≡ some-below q n
+  unfolding first-below some-below
+  first-some zero = le-ltb 0 0 (omega arith)
+  first-some (suc n) =
+      by-test (some-below q n)
+      (λ t. let l = ltb-true (first-below q n) n (first-some n ∙ t) in rw t (lt-ltb (first-below q n) (suc n) (omega arith)))
+      (λ t. rw t
+      (by-test (q n) (λ u. rw u (lt-ltb n (suc n) (omega arith))) (λ u. rw u (le-ltb (suc n) (suc n) (omega arith)))))
+
+  -- a number passes, and none before it
+  pub first-found : (n i : ℕ) → i < n → some-below q i ≡ false → q i ≡ true → i ≡ first-below q n
+  unfolding first-below
+  first-found zero i h e t = absurd (not-suc-le-zero h)
+  first-found (suc n) i h e t =
+      by-test (ltb i n)
+      (λ u. let l = ltb-true i n u in rw (some-found q n i l t) (first-found n i l e t))
+      (λ u. let l = ltb-false i n u in let s : i ≡ n = omega arith in rw (← s, e, t))
+
+  -- none passes
+  pub first-none : (n : ℕ) → some-below q n ≡ false → n ≡ first-below q n
+  unfolding first-below some-below
+  first-none zero e = refl
+  first-none (suc n) e =
+      by-test (some-below q n) (λ t. never-both (some-below q n || q n) (rw t) e)
+      (λ t. by-test (q n) (λ u. never-both (some-below q n || q n) (rw (t, u)) e) (λ u. rw (t, u)))

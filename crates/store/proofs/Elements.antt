@@ -1,20 +1,22 @@
 -- Lists tested by the numbers of their elements: the rules' tests of lists, as tests of each or of some number below a length.
 use mathlib.Core.Path.{_≡_, refl, sym, ap, ap₂, _∙_}
-use mathlib.Core.Bool.{Bool, true, false, not, _&&_, _||_}
+use mathlib.Core.Bool.{Bool, true, false, not, _&&_, _||_, and-false, and-eq-true-iff}
 use mathlib.Core.List.{List, [], _∷_}
-use Prim.Native.Nat.{ℕ, suc}
+use Prim.Native.Nat.{ℕ, suc, _+_, _-_}
+use native.Mathlib.Numerals.{add-one}
 use native.Mathlib.Omega.{arith}
 use lib.Dec.{eqb, leb·suc-suc}
 use lib.ListN.{length, getD}
 use borrow.Author.Tests.{lt-ltb}
 use Rattle.rules.specs.Table.{all, any, distinct}
 use Rattle.rules.proofs.Says.{says-as, says-eqb, says-and}
-use Rattle.rules.proofs.Table.{by-test, Decides, same-comm}
+use Rattle.rules.proofs.Table.{by-test, Decides, same-comm, all-weaker}
 use Rattle.store.specs.Below.{each-below, some-below}
 use Rattle.rules.specs.State.{Id, same-id, StoredMessage, Mark, new-mark}
-use Rattle.rules.specs.Ledger.{position-of, holds-id, no-message, message-at}
-use Rattle.rules.specs.Valid.{valid-mark, valid-marks}
+use Rattle.rules.specs.Ledger.{position-of, holds-id, no-message, message-at, after-id}
+use Rattle.rules.specs.Valid.{valid-mark, valid-marks, ascending-ids}
 use Rattle.rules.proofs.Valid.{says-mark, says-marks}
+use Rattle.rules.proofs.Ids.{after-trans}
 use Rattle.layout.proofs.Spells.{same-test}
 use Rattle.store.proofs.Below.{each-both, each-same, each-first, some-first, some-not, says-each}
 
@@ -77,3 +79,27 @@ holds-any i [] = refl
 holds-any i (m ∷ l) =
     by-test (same-id i (m .id)) (λ t. rw t (lt-ltb 0 (suc (length l)) (omega arith)))
     (λ t. rw t (leb·suc-suc (suc (position-of i l)) (length l) ∙ holds-any i l))
+
+-- ids ascend where each comes after the one before it
+pub ascending-each : (l : List Id) (z : Id) → ascending-ids l ≡ each-below (λ j. after-id (getD l (j + 1) z) (getD l j z)) (length l - 1)
+unfolding ascending-ids each-below all
+ascending-each [] z = refl
+ascending-each (i ∷ []) z = refl
+ascending-each (i ∷ j ∷ l) z =
+    let below : Id → Bool = λ (x : Id). after-id x i in
+    let one-less : suc (length l) - 1 ≡ length l = omega arith in
+    by-test (after-id j i)
+    (λ t. rw t
+    (by-test (all (λ (x : Id). after-id x j) l && ascending-ids l)
+    (λ u.
+    let a = and-eq-true-iff (all (λ (x : Id). after-id x j) l) (ascending-ids l) .0 u .0 in
+    rw (all-weaker (λ (x : Id). after-id x j) below (λ x e. after-trans x j i e t) l a))
+    (λ u. rw (u, and-false (all below l)))))
+    (λ t. rw t)
+    ∙ ap (λ (b : Bool). after-id j i && b) (ascending-each (j ∷ l) z)
+    ∙ ap (λ (n : ℕ). after-id j i && each-below (λ k. after-id (getD (j ∷ l) (k + 1) z) (getD (j ∷ l) k z)) n) one-less
+    ∙ ap (λ (b : Bool). after-id j i && b)
+    (each-same (λ k. after-id (getD (j ∷ l) (k + 1) z) (getD (j ∷ l) k z)) (λ k. after-id (getD (i ∷ j ∷ l) (suc k + 1) z) (getD (i ∷ j ∷ l) (suc k) z)) (length l)
+    (λ k h. rw (add-one k, add-one (suc k))))
+    ∙ sym (each-first (λ k. after-id (getD (i ∷ j ∷ l) (k + 1) z) (getD (i ∷ j ∷ l) k z)) (length l))
+    ∙ ap (each-below (λ k. after-id (getD (i ∷ j ∷ l) (k + 1) z) (getD (i ∷ j ∷ l) k z))) (let two : suc (length l) ≡ suc (suc (length l)) - 1 = omega arith in two)

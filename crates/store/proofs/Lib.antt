@@ -21,6 +21,7 @@ pub mod MarkRuns
 pub mod MarkWords
 pub mod Moving
 pub mod Opened
+pub mod Orders
 pub mod Pairs
 pub mod Parts
 pub mod Prefixes

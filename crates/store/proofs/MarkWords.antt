@@ -3,17 +3,17 @@
 use mathlib.Core.Path.{_≡_, refl, sym, ap, ap₂, _∙_, subst}
 use mathlib.Core.Bool.{Bool, true, false, not, _&&_, and-true}
 use mathlib.Core.List.{List, map}
-use Prim.Native.Nat.{ℕ, _+_, _*_, _^_, _<_}
+use Prim.Native.Nat.{ℕ, _+_, _-_, _*_, _^_, _<_}
 use native.Mathlib.Omega.{arith}
 use lib.Dec.{eqb, leb, ltb}
 use lib.ListN.{length, getD, length-map, List·getD-map}
 use borrow.Author.Tests.{le-leb, lt-ltb, eqb-true}
 use Rattle.bits.specs.Bits.{AreWords}
 use Rattle.rules.specs.Permits.{least-total, most-total, total-in-range}
-use Rattle.rules.specs.Table.{all, distinct}
+use Rattle.rules.specs.Table.{all}
 use Rattle.rules.specs.State.{Dispatcher, Id, same-id, by-number, StoredMessage, new-mark, ledger-of}
-use Rattle.rules.specs.Ledger.{holds-id, no-message}
-use Rattle.rules.specs.Valid.{is-byte, is-word, valid-id, valid-mark, valid-marks, valid-ring, valid-places, valid-outside, valid-dispatcher}
+use Rattle.rules.specs.Ledger.{holds-id, no-message, after-id}
+use Rattle.rules.specs.Valid.{is-byte, is-word, valid-id, valid-mark, valid-marks, valid-ring, valid-places, ascending-ids, valid-outside, valid-dispatcher}
 use Rattle.rules.proofs.State.{decides-ids}
 use Rattle.rules.proofs.Table.{by-test}
 use Rattle.layout.specs.Layout.{decode}
@@ -22,14 +22,14 @@ use Rattle.layout.specs.Offsets.{dispatcher-at, mark-in}
 use Rattle.layout.specs.Fields.{zero-id, dispatcher-nth}
 use Rattle.layout.proofs.GetsDispatcher.{read-dispatcher-topic, dispatcher-short, read-outside-count, read-mark-count, read-outside-ledger, read-outside-entry, read-redelivery-count, read-w0, read-w1, read-w2, read-w3}
 use Rattle.store.specs.Below.{some-below}
-use Rattle.store.specs.Rows.{row, row-second, two-among, twos-distinct}
+use Rattle.store.specs.Rows.{row, row-second, two-among, pair-above, two-ascends, twos-ascend}
 use Rattle.store.specs.Marks.{mark-right, mark-suits, marks-right, absent-id, absent, outside-right}
 use Rattle.store.specs.Dispatchers.{front-right, rest-right}
 use Rattle.store.proofs.Below.{each-given, each-same, some-same}
-use Rattle.store.proofs.Elements.{marks-each, holds-any, all-each, any-some}
+use Rattle.store.proofs.Elements.{marks-each, holds-any, all-each, any-some, ascending-each}
 use Rattle.store.specs.Find.{slot}
 use Rattle.store.proofs.Spelt.{fails, passes}
-use Rattle.store.proofs.RowLists.{by-place, two-before, twos-list}
+use Rattle.store.proofs.RowLists.{by-place, two-before}
 use Rattle.store.proofs.LedgerWords.{ledger-start, entry-ledger, entry-entry, entry-batch}
 use Rattle.store.proofs.DispatcherWords.{head-reads, ring-reads, places-reads}
 
@@ -86,10 +86,16 @@ module _ {e : ℕ} {ws : List ℕ} (h : Canon-store e ws) (d : ℕ) (k : d < len
       → (row ws (here + 45) 2 j ≡ getD (the .outside) j zero-id .ledger) × (row-second ws (here + 45) 2 j ≡ getD (the .outside) j zero-id .entry)
   id-spell j l = (by-place ws (omega arith) (read-outside-ledger h d k j l), by-place ws (omega arith) (read-outside-entry h d k j l))
 
-  -- they are distinct
-  ids-distinct : twos-distinct ws (here + 45) 2 (length (the .outside)) ≡ distinct same-id (the .outside)
-  unfolding same-id
-  ids-distinct = twos-list same-id decides-ids (λ i. i .ledger) (λ i. i .entry) (λ a b. refl) ws (here + 45) 2 (the .outside) zero-id id-spell
+  -- they ascend
+  ids-ascend : twos-ascend ws (here + 45) 2 (length (the .outside)) ≡ ascending-ids (the .outside)
+  unfolding twos-ascend pair-above after-id
+  ids-ascend =
+      each-same (two-ascends ws (here + 45) 2) (λ j. after-id (getD (the .outside) (j + 1) zero-id) (getD (the .outside) j zero-id)) (length (the .outside) - 1)
+      (λ j l.
+      let s = id-spell j (omega arith) in
+      let n = id-spell (j + 1) (omega arith) in
+      rw (s .0, s .1, n .0, n .1))
+      ∙ sym (ascending-each (the .outside) zero-id)
 
   -- the ledger's ids
   entry-spell : (j : ℕ) → j < length (map (λ (m : StoredMessage). m .id) ledger)
@@ -142,7 +148,7 @@ module _ {e : ℕ} {ws : List ℕ} (h : Canon-store e ws) (d : ℕ) (k : d < len
     outside-reads =
         let f = le-leb (length (the .outside)) 64 (dispatcher-short h d k .outside-fits) in
         rw (read-outside-count h d k, f, id-words)
-        (ap₂ _&&_ (ids-distinct ∙ sym (and-true (distinct same-id (the .outside)))) absent-reads)
+        (ap₂ _&&_ (ids-ascend ∙ sym (and-true (ascending-ids (the .outside)))) absent-reads)
 
     -- ---- the whole
 

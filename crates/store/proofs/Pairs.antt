@@ -20,7 +20,7 @@ use Rattle.store.proofs.Rooms.{room-le}
 use Rattle.store.proofs.RowLists.{twos-list}
 
 -- zeros are 0 everywhere
-zeros : (n p : ℕ) → getD (replicate {A = ℕ} n 0) p 0 ≡ 0
+pub zeros : (n p : ℕ) → getD (replicate {A = ℕ} n 0) p 0 ≡ 0
 zeros n p =
     by-test (ltb p n) (λ t. getD-replicate n p 0 0 (ltb-true p n t))
     (λ t. List·getD-eq-default (replicate n 0) 0 (subst (λ (m : ℕ). m ≤ p) (sym (length-replicate {A = ℕ} n 0)) (ltb-false p n t)))

@@ -1,19 +1,21 @@
 -- Rows in the order of their two words: what the order's test says, and what rows that ascend tell of two words that are
 -- looked for among them.
-use mathlib.Core.Path.{_≡_, refl, sym}
+use mathlib.Core.Path.{_≡_, refl, sym, ap, subst}
 use mathlib.Core.Logic.{_⊎_, inl, inr, ⊎-elim}
-use mathlib.Core.Bool.{Bool, true, false, _&&_, or-false, and-eq-true-iff}
+use mathlib.Core.Bool.{Bool, true, false, not, _&&_, _||_, or-false, and-eq-true-iff}
 use mathlib.Core.List.{List}
-use Prim.Native.Nat.{ℕ, zero, suc, _+_, _-_, _≤_, _<_}
+use Prim.Native.Nat.{ℕ, zero, suc, _+_, _-_, _*_, _≤_, _<_}
 use native.Mathlib.Nat.{not-suc-le-zero}
 use native.Mathlib.Numerals.{add-one}
 use native.Mathlib.Omega.{arith}
 use lib.Dec.{eqb, ltb}
+use lib.ListN.{getD}
 use borrow.Author.Tests.{ltb-true, ltb-false, eqb-true, le-ltb, eq-eqb, ne-eqb}
 use Rattle.rules.proofs.Says.{Says, says-or, says-and, says-ltb, says-eqb}
 use Rattle.rules.proofs.Table.{by-test, never-both}
-use Rattle.store.specs.Rows.{row, row-second, two-among, pair-above, above-row, two-ascends, twos-ascend, above-last}
-use Rattle.store.proofs.Below.{each-at, some-none}
+use Rattle.store.specs.Below.{each-below}
+use Rattle.store.specs.Rows.{row, row-second, two-among, two-differs, twos-distinct, pair-above, above-row, two-ascends, twos-ascend, above-last}
+use Rattle.store.proofs.Below.{each-at, each-given, each-turn, some-none}
 
 -- ---- the order
 
@@ -21,6 +23,11 @@ use Rattle.store.proofs.Below.{each-at, some-none}
 says-above : (a b c d : ℕ) → Says (pair-above a b c d) ((c < a) ⊎ ((a ≡ c) × (d < b)))
 unfolding pair-above
 says-above a b c d = says-or _ _ (says-ltb c a) (says-and _ _ (says-eqb a c) (says-ltb d b))
+
+-- the second words decide nothing
+pub above-plain : (a b c d : ℕ) → (eqb a c && ltb d b) ≡ false → ltb c a ≡ pair-above a b c d
+unfolding pair-above
+above-plain a b c d e = rw e (sym (or-false (ltb c a)))
 
 -- the test where the first words are the same
 pub above-second : (a b c d : ℕ) → a ≡ c → ltb d b ≡ pair-above a b c d
@@ -64,6 +71,23 @@ neither-above a b c d s t =
 
 -- ---- rows that ascend
 
+-- row i against the two words of the row before it
+pub ascend-turn : (ws : List ℕ) (first w i a b : ℕ) {t : Bool} → 1 ≤ i → a ≡ row ws first w (i - 1) → b ≡ row-second ws first w (i - 1)
+    → pair-above (row ws first w i) (row-second ws first w i) a b ≡ t → two-ascends ws first w (i - 1) ≡ t
+ascend-turn ws first w i a b h p q r = let e : i - 1 + 1 ≡ i = omega arith in rw (e, ← p, ← q) r
+
+-- rows up to row i, one more than those up to the row before it
+pub ascend-next : (ws : List ℕ) (first w i : ℕ) → 1 ≤ i → each-below (two-ascends ws first w) (i - 1) ≡ true → two-ascends ws first w (i - 1) ≡ true
+    → each-below (two-ascends ws first w) i ≡ true
+ascend-next ws first w i h e t = let s : i - 1 + 1 ≡ i = omega arith in subst (λ (n : ℕ). each-below (two-ascends ws first w) n ≡ true) s (each-turn (two-ascends ws first w) (i - 1) e t)
+
+-- the two words of row 0, as a loop starts with them
+pub row-none : (ws : List ℕ) (first w : ℕ) → getD ws first 0 ≡ row ws first w (1 - 1)
+row-none ws first w = let e : first ≡ first + (1 - 1) * w = omega arith in ap (λ (n : ℕ). getD ws n 0) e
+
+pub second-none : (ws : List ℕ) (first w : ℕ) → getD ws (first + 1) 0 ≡ row-second ws first w (1 - 1)
+second-none ws first w = let e : first + 1 ≡ first + (1 - 1) * w + 1 = omega arith in ap (λ (n : ℕ). getD ws n 0) e
+
 module _ (ws : List ℕ) (first w n : ℕ) (ascend : twos-ascend ws first w n ≡ true) where
   -- each row is above all before it
   ascend-pairs : (j k : ℕ) → j < k → k < n → above-row ws first w (row ws first w k) (row-second ws first w k) j ≡ true
@@ -75,6 +99,16 @@ module _ (ws : List ℕ) (first w n : ℕ) (ascend : twos-ascend ws first w n �
       (λ t. above-trans (row ws first w (suc k)) (row-second ws first w (suc k)) (row ws first w k) (row-second ws first w k) (row ws first w j) (row-second ws first w j)
       s (ascend-pairs j k (ltb-true j k t) (omega arith)))
       (λ t. let g = ltb-false j k t in let e : j ≡ k = omega arith in rw e s)
+
+  -- so no two are the same
+  pub ascend-distinct : twos-distinct ws first w n ≡ true
+  unfolding twos-distinct two-among
+  ascend-distinct =
+      each-given (two-differs ws first w) n
+      (λ j l. ap not
+      (some-none (λ i. eqb (row ws first w j) (row ws first w i) && eqb (row-second ws first w j) (row-second ws first w i)) j
+      (λ i k. unlike (row ws first w j) (row-second ws first w j) (row ws first w i) (row-second ws first w i)
+      (above-differ (row ws first w j) (row-second ws first w j) (row ws first w i) (row-second ws first w i) (ascend-pairs i j k l)))))
 
   module _ (a b : ℕ) where
     -- two words above a row are above all before it
@@ -114,6 +148,20 @@ last-none ws first w n a b ascend s =
     search-none ws first w n a b n n (omega arith)
     (λ j h. search-low ws first w n ascend a b (n - 1) (omega arith) (t .1) j (omega arith))
     (λ j h l. absurd (omega arith))
+
+-- where the first of rows that ascend is above the last of others that ascend, none of them is among those
+pub none-shared : (ws : List ℕ) (first w n others v m : ℕ) → twos-ascend ws first w n ≡ true → twos-ascend ws others v m ≡ true
+    → above-last ws others v m (row ws first w 0) (row-second ws first w 0) ≡ true
+    → (j : ℕ) → j < n → two-among ws others v m (row ws first w j) (row-second ws first w j) ≡ false
+unfolding above-last
+none-shared ws first w n others v m up down s j l =
+    let t = and-eq-true-iff (ltb 0 m) (above-row ws others v (row ws first w 0) (row-second ws first w 0) (m - 1)) .0 s in
+    let over : above-row ws others v (row ws first w j) (row-second ws first w j) (m - 1) ≡ true =
+    by-test (ltb 0 j)
+    (λ u. above-trans (row ws first w j) (row-second ws first w j) (row ws first w 0) (row-second ws first w 0) (row ws others v (m - 1)) (row-second ws others v (m - 1))
+    (ascend-pairs ws first w n up 0 j (ltb-true 0 j u) l) (t .1))
+    (λ u. let g = ltb-false 0 j u in let e : j ≡ 0 = omega arith in rw e (t .1)) in
+    last-none ws others v m (row ws first w j) (row-second ws first w j) down (rw (t .0, over))
 
 -- ---- rows of which none is above some two words
 

@@ -5,6 +5,7 @@ pub mod Find
 pub mod Lookup
 pub mod Marks
 pub mod Open
+pub mod Orders
 pub mod Places
 pub mod Rows
 pub mod ValidConsumers

@@ -8,7 +8,7 @@ use lib.ListN.{getD}
 use Rattle.bits.specs.Bits.{bits-empty, bits-below}
 use Rattle.bits.specs.declared.UnackedBits.{UnackedBits}
 use Rattle.store.specs.Below.{each-below}
-use Rattle.store.specs.Rows.{row, row-second, two-among, twos-distinct}
+use Rattle.store.specs.Rows.{row, row-second, two-among, twos-ascend}
 
 -- the four words of the mark at an offset
 abbrev pub bits-at : List ℕ → ℕ → List ℕ
@@ -48,7 +48,7 @@ absent-id ws first ledger entries j = not (two-among ws ledger 4 entries (row ws
 unfoldable pub absent : List ℕ → ℕ → ℕ → ℕ → ℕ → Bool
 absent ws first n ledger entries = each-below (absent-id ws first ledger entries) n
 
--- the outside ids of the dispatcher at an offset: distinct, none in the ledger
+-- the outside ids of the dispatcher at an offset: ascending, none in the ledger
 unfoldable pub outside-right : List ℕ → ℕ → ℕ → ℕ → Bool
 outside-right ws at ledger entries =
-    twos-distinct ws (at + 45) 2 (getD ws (at + 44) 0) && absent ws (at + 45) (getD ws (at + 44) 0) ledger entries
+    twos-ascend ws (at + 45) 2 (getD ws (at + 44) 0) && absent ws (at + 45) (getD ws (at + 44) 0) ledger entries

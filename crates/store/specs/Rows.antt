@@ -4,7 +4,7 @@ use mathlib.Core.Bool.{Bool, not, _&&_, _||_}
 use mathlib.Core.List.{List}
 use lib.Dec.{eqb, ltb}
 use lib.ListN.{getD}
-use Rattle.store.specs.Below.{each-below, some-below}
+use Rattle.store.specs.Below.{each-below, some-below, first-below}
 
 -- ---- rows known by one word
 
@@ -15,6 +15,10 @@ row ws first w j = getD ws (first + j * w) 0
 -- whether one of n rows starts with a word
 unfoldable pub among : List ℕ → ℕ → ℕ → ℕ → ℕ → Bool
 among ws first w n a = some-below (λ j. eqb a (row ws first w j)) n
+
+-- the first of n rows that starts with a word; n where there is none
+unfoldable pub first-row : List ℕ → ℕ → ℕ → ℕ → ℕ → ℕ
+first-row ws first w n a = first-below (λ j. eqb a (row ws first w j)) n
 
 -- whether row j starts with another word than each row before it
 abbrev pub differs : List ℕ → ℕ → ℕ → ℕ → Bool

@@ -18,13 +18,14 @@ fn state_valid(store: &[u64], e: usize) -> bool
     requires { ⌜ Canon-store e (now store) ⌝ }
     ensures { λ r. ⌜ r ≡ valid (decode (now (store .entry))) ⌝ }
 {
-    if !topics_valid(store, e) {
+    let mut orders = [0u8; 9];
+    if !topics_valid(store, e, &mut orders) {
         return false;
     }
     if !consumers_valid(store, e) {
         return false;
     }
-    dispatchers_valid(store, e)
+    dispatchers_valid(store, e, &orders)
 }
 
 // Whether the words spell a state.

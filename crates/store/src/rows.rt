@@ -4,15 +4,15 @@
 ghost use mathlib.Core.Path.{_≡_};
 ghost use mathlib.Core.Bool.{true};
 ghost use Prim.Native.Nat.{_+_, _*_, _≤_, _<_};
-ghost use lib.Dec.{ltb, leb};
+ghost use lib.Dec.{leb};
 ghost use lib.ListN.{length};
 ghost use Rattle.store.specs.Below.{each-below};
-ghost use Rattle.store.specs.Rows.{row, among, rows-distinct, two-among, twos-distinct, pair-above, above-last, twos-ascend};
+ghost use Rattle.store.specs.Rows.{row, among, first-row, rows-distinct, two-among, twos-distinct, pair-above, above-last, twos-ascend};
 
 // A row that starts with a word: the first such row, or the number of rows where there is none.
 pub fn row_of(store: &[u64], first: usize, width: usize, n: usize, a: u64) -> usize
     requires { ⌜ (1 ≤ width) × (first + n * width ≤ length (now store)) ⌝ }
-    ensures { λ r. ⌜ ltb r n ≡ among (now (store .entry)) first width n a ⌝ }
+    ensures { λ r. ⌜ r ≡ first-row (now (store .entry)) first width n a ⌝ }
 {
     let mut i = 0;
     while i < n {
@@ -81,12 +81,14 @@ pub fn two_among(store: &[u64], first: usize, width: usize, n: usize, a: u64, b:
 }
 
 // Whether two words are above another two: by the first words, or by the second where the first are
-// the same.
+// the same, which is asked first, as rows in order mostly share their first word.
 pub fn is_above(a: u64, b: u64, c: u64, d: u64) -> bool
     ensures { λ r. ⌜ r ≡ pair-above a b c d ⌝ }
 {
     if a == c {
-        return d < b;
+        if d < b {
+            return true;
+        }
     }
     c < a
 }
@@ -120,13 +122,21 @@ pub fn twos_ascend(store: &[u64], first: usize, width: usize, n: usize) -> bool
     requires { ⌜ (2 ≤ width) × (first + n * width ≤ length (now store)) ⌝ }
     ensures { λ r. ⌜ r ≡ twos-ascend (now (store .entry)) first width n ⌝ }
 {
-    let mut i = 0;
-    while i + 1 < n {
+    if n == 0 {
+        return true;
+    }
+    let mut a = store[first];
+    let mut b = store[first + 1];
+    let mut i = 1;
+    while i < n {
         let at = first + i * width;
-        let next = first + (i + 1) * width;
-        if !is_above(store[next], store[next + 1], store[at], store[at + 1]) {
+        let x = store[at];
+        let y = store[at + 1];
+        if !is_above(x, y, a, b) {
             return false;
         }
+        a = x;
+        b = y;
         i += 1;
     }
     true
@@ -156,7 +166,7 @@ fn two_searched(store: &[u64], first: usize, width: usize, n: usize, a: u64, b: 
 }
 
 // Whether two words are above those of the last row.
-fn above_last(store: &[u64], first: usize, width: usize, n: usize, a: u64, b: u64) -> bool
+pub fn above_last(store: &[u64], first: usize, width: usize, n: usize, a: u64, b: u64) -> bool
     requires { ⌜ (2 ≤ width) × (first + n * width ≤ length (now store)) ⌝ }
     ensures { λ r. ⌜ r ≡ above-last (now (store .entry)) first width n a b ⌝ }
 {
@@ -167,7 +177,7 @@ fn above_last(store: &[u64], first: usize, width: usize, n: usize, a: u64, b: u6
     is_above(a, b, store[at], store[at + 1])
 }
 
-// Whether one of the rows starts with two words, where it is known whether they ascend. Words above
+// Whether one of the rows starts with two words, where it may be known that they ascend. Words above
 // the last of ascending rows are not searched for.
 pub fn two_found(
     store: &[u64],
@@ -179,7 +189,7 @@ pub fn two_found(
     b: u64,
 ) -> bool
     requires room { ⌜ (2 ≤ width) × (first + n * width ≤ length (now store)) ⌝ }
-    requires ascend { ⌜ ascend ≡ twos-ascend (now store) first width n ⌝ }
+    requires ascend { ⌜ (ascend ≡ true → twos-ascend (now store) first width n ≡ true) ⌝ }
     ensures { λ r. ⌜ r ≡ two-among (now (store .entry)) first width n a b ⌝ }
 {
     if ascend {

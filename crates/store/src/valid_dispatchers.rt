@@ -10,15 +10,16 @@ use super::valid_marks::marks_valid;
 use super::valid_marks::outside_valid;
 use super::valid_places::places_valid;
 ghost use mathlib.Core.Path.{_≡_};
+ghost use mathlib.Core.Bool.{true};
 ghost use Prim.Native.Nat.{_+_, _*_, _≤_, _<_};
 ghost use lib.ListN.{length, getD};
 ghost use Rattle.rules.specs.Table.{all};
-ghost use Rattle.rules.specs.State.{by-number};
 ghost use Rattle.rules.specs.Valid.{valid-dispatcher};
 ghost use Rattle.layout.specs.Layout.{decode};
 ghost use Rattle.layout.specs.Canon.{Canon-store};
 ghost use Rattle.layout.specs.Fields.{dispatcher-nth};
-ghost use Rattle.store.specs.Find.{slot};
+ghost use Rattle.store.specs.Rows.{twos-ascend};
+ghost use Rattle.store.specs.Orders.{Known};
 ghost use Rattle.store.specs.Places.{Under, Tested};
 ghost use Rattle.store.specs.Dispatchers.{Dispatcher-room, head-right, next-right, ring-right, front-right, rest-right, dispatchers-right};
 
@@ -91,9 +92,17 @@ fn front_valid(
 }
 
 // What does: marks and outside ids.
-fn rest_valid(store: &[u64], e: usize, at: usize, ledger: usize, entries: usize) -> bool
+fn rest_valid(
+    store: &[u64],
+    e: usize,
+    at: usize,
+    ledger: usize,
+    entries: usize,
+    ascend: bool,
+) -> bool
     requires room { ⌜ Dispatcher-room e (now store) at ⌝ }
     requires ledger { ⌜ (entries ≤ e) × (ledger + entries * 4 ≤ length (now store)) ⌝ }
+    requires ascend { ⌜ (ascend ≡ true → twos-ascend (now store) ledger 4 entries ≡ true) ⌝ }
     ensures { λ r. ⌜ r ≡ rest-right (now (store .entry)) e at ledger entries ⌝ }
 {
     if !marks_valid(
@@ -105,21 +114,14 @@ fn rest_valid(store: &[u64], e: usize, at: usize, ledger: usize, entries: usize)
     ) {
         return false;
     }
-    outside_valid(store, at, ledger, entries)
+    outside_valid(store, at, ledger, entries, ascend)
 }
 
-// Where the ledger of a topic stands.
-fn ledger_at(store: &[u64], e: usize, topic: u64) -> usize
-    requires { ⌜ Canon-store e (now store) ⌝ }
-    ensures { λ r. ⌜ r ≡ 2326 + slot by-number topic (decode (now (store .entry)) .topics) * (4 + 4 * e) ⌝ }
-{
-    2326 + find_topic(store, e, topic) * (4 + 4 * e)
-}
-
-// Dispatcher d.
-fn dispatcher_valid(store: &[u64], e: usize, d: usize, stamps: &mut [u8]) -> bool
+// Dispatcher d. `orders` has a 2 for each topic whose ids are known to ascend.
+fn dispatcher_valid(store: &[u64], e: usize, d: usize, orders: &[u8], stamps: &mut [u8]) -> bool
     requires canon { ⌜ Canon-store e (now store) ⌝ }
     requires there { ⌜ d < length (decode (now store) .dispatchers) ⌝ }
+    requires orders { ⌜ (length (now orders) ≡ 9) × Known e (now store) (now orders) ⌝ }
     requires stamps { ⌜ (length (now stamps) ≡ 4096) × Under (now stamps) (d + 1) ⌝ }
     ensures { λ r. ⌜ Tested (d + 1) (now (stamps .exit)) r (valid-dispatcher (decode (now (store .entry))) (dispatcher-nth (decode (now (store .entry))) d)) ⌝ }
 {
@@ -129,19 +131,28 @@ fn dispatcher_valid(store: &[u64], e: usize, d: usize, stamps: &mut [u8]) -> boo
     if !front_valid(store, e, at, entries, stamps, (d + 1) as u8) {
         return false;
     }
-    rest_valid(store, e, at, ledger_at(store, e, topic), entries)
+    let t = find_topic(store, e, topic);
+    rest_valid(
+        store,
+        e,
+        at,
+        2326 + t * (4 + 4 * e),
+        entries,
+        orders[t] == 2,
+    )
 }
 
 // Each of the n dispatchers.
-fn each_valid(store: &[u64], e: usize, n: usize, stamps: &mut [u8]) -> bool
+fn each_valid(store: &[u64], e: usize, n: usize, orders: &[u8], stamps: &mut [u8]) -> bool
     requires canon { ⌜ Canon-store e (now store) ⌝ }
     requires count { ⌜ n ≡ length (decode (now store) .dispatchers) ⌝ }
+    requires orders { ⌜ (length (now orders) ≡ 9) × Known e (now store) (now orders) ⌝ }
     requires stamps { ⌜ (length (now stamps) ≡ 4096) × Under (now stamps) 1 ⌝ }
     ensures { λ r. ⌜ r ≡ all (valid-dispatcher (decode (now (store .entry)))) (decode (now (store .entry)) .dispatchers) ⌝ }
 {
     let mut d = 0;
     while d < n {
-        if !dispatcher_valid(store, e, d, stamps) {
+        if !dispatcher_valid(store, e, d, orders, stamps) {
             return false;
         }
         d += 1;
@@ -150,8 +161,9 @@ fn each_valid(store: &[u64], e: usize, n: usize, stamps: &mut [u8]) -> bool
 }
 
 // The dispatchers of a store.
-pub fn dispatchers_valid(store: &[u64], e: usize) -> bool
-    requires { ⌜ Canon-store e (now store) ⌝ }
+pub fn dispatchers_valid(store: &[u64], e: usize, orders: &[u8]) -> bool
+    requires canon { ⌜ Canon-store e (now store) ⌝ }
+    requires orders { ⌜ (length (now orders) ≡ 9) × Known e (now store) (now orders) ⌝ }
     ensures { λ r. ⌜ r ≡ dispatchers-right (decode (now (store .entry))) ⌝ }
 {
     let n = word(store, 2354 + 32 * e);
@@ -159,5 +171,5 @@ pub fn dispatchers_valid(store: &[u64], e: usize) -> bool
         return false;
     }
     let mut stamps = [0u8; 4096];
-    each_valid(store, e, n, &mut stamps)
+    each_valid(store, e, n, orders, &mut stamps)
 }

@@ -1,15 +1,17 @@
 // A dispatcher's marks and outside ids against the ledger of its topic, which stands from `ledger` on
-// in rows of four words: a mark for each entry, and no outside id among the entries.
+// in rows of four words: a mark for each entry, outside ids that ascend, none of them among the entries.
+use super::rows::above_last;
 use super::rows::two_found;
 use super::rows::twos_ascend;
-use super::rows::twos_distinct;
 use super::stretch::word;
 use bits::UnackedBits;
 ghost use mathlib.Core.Path.{_≡_};
+ghost use mathlib.Core.Bool.{true};
 ghost use Prim.Native.Nat.{_+_, _*_, _≤_, _<_};
 ghost use lib.ListN.{length, getD};
 ghost use Rattle.bits.specs.Bits.{bits-below};
 ghost use Rattle.bits.specs.Four.{words};
+ghost use Rattle.store.specs.Rows.{twos-ascend};
 ghost use Rattle.store.specs.Marks.{mark-fits, joined, marks-right, absent, outside-right};
 
 // Whether only bits below the batch size are set.
@@ -91,16 +93,30 @@ pub fn marks_valid(store: &[u64], ledger: usize, entries: usize, first: usize, n
     mark_fits(count, bits, batch)
 }
 
-// Whether none of n ids stands in the ledger. Where the ledger's ids ascend, as they mostly do, each is
-// searched for by halves.
-fn ids_absent(store: &[u64], first: usize, n: usize, ledger: usize, entries: usize) -> bool
-    requires { ⌜ (first + n * 2 ≤ length (now store)) × (ledger + entries * 4 ≤ length (now store)) ⌝ }
+// Whether none of n ids that ascend stands in the ledger. Where the ledger's ids ascend too, as they
+// mostly do, ids above the last entry are told by the first of them, and others are searched for by
+// halves.
+fn ids_absent(
+    store: &[u64],
+    first: usize,
+    n: usize,
+    ledger: usize,
+    entries: usize,
+    ascend: bool,
+) -> bool
+    requires room { ⌜ (first + n * 2 ≤ length (now store)) × (ledger + entries * 4 ≤ length (now store)) ⌝ }
+    requires ids { ⌜ twos-ascend (now store) first 2 n ≡ true ⌝ }
+    requires ascend { ⌜ (ascend ≡ true → twos-ascend (now store) ledger 4 entries ≡ true) ⌝ }
     ensures { λ r. ⌜ r ≡ absent (now (store .entry)) first n ledger entries ⌝ }
 {
     if n == 0 {
         return true;
     }
-    let ascend = twos_ascend(store, ledger, 4, entries);
+    if ascend {
+        if above_last(store, ledger, 4, entries, store[first], store[first + 1]) {
+            return true;
+        }
+    }
     let mut i = 0;
     while i < n {
         let at = first + i * 2;
@@ -112,14 +128,15 @@ fn ids_absent(store: &[u64], first: usize, n: usize, ledger: usize, entries: usi
     true
 }
 
-// Whether the outside ids of the dispatcher at `at` are distinct and none stands in the ledger.
-pub fn outside_valid(store: &[u64], at: usize, ledger: usize, entries: usize) -> bool
-    requires { ⌜ (getD (now store) (at + 44) 0 ≤ 64) × (at + 176 ≤ length (now store)) × (ledger + entries * 4 ≤ length (now store)) ⌝ }
+// Whether the outside ids of the dispatcher at `at` ascend and none stands in the ledger.
+pub fn outside_valid(store: &[u64], at: usize, ledger: usize, entries: usize, ascend: bool) -> bool
+    requires room { ⌜ (getD (now store) (at + 44) 0 ≤ 64) × (at + 176 ≤ length (now store)) × (ledger + entries * 4 ≤ length (now store)) ⌝ }
+    requires ascend { ⌜ (ascend ≡ true → twos-ascend (now store) ledger 4 entries ≡ true) ⌝ }
     ensures { λ r. ⌜ r ≡ outside-right (now (store .entry)) at ledger entries ⌝ }
 {
     let n = word(store, at + 44);
-    if !twos_distinct(store, at + 45, 2, n) {
+    if !twos_ascend(store, at + 45, 2, n) {
         return false;
     }
-    ids_absent(store, at + 45, n, ledger, entries)
+    ids_absent(store, at + 45, n, ledger, entries, ascend)
 }

@@ -7,7 +7,7 @@ use super::stretch::word;
 ghost use mathlib.Core.Path.{_≡_};
 ghost use mathlib.Core.Bool.{not, _&&_};
 ghost use mathlib.Core.List.{map};
-ghost use Prim.Native.Nat.{_+_, _≤_, _<_};
+ghost use Prim.Native.Nat.{_+_, _*_, _≤_, _<_};
 ghost use lib.Dec.{eqb};
 ghost use lib.ListN.{length, getD, take};
 ghost use Rattle.rules.specs.Table.{all, any, distinct};
@@ -16,6 +16,7 @@ ghost use Rattle.rules.specs.Valid.{valid-message, valid-topic};
 ghost use Rattle.layout.specs.Layout.{decode};
 ghost use Rattle.layout.specs.Canon.{Canon-store};
 ghost use Rattle.layout.specs.Fields.{topic-nth};
+ghost use Rattle.store.specs.Orders.{messages-ascend, topic-order, Known, Ordered};
 
 // Whether the two words at `at` are another id than the given one.
 fn is_other(store: &[u64], at: usize, ledger: u64, entry: u64) -> bool
@@ -44,9 +45,8 @@ fn is_new(store: &[u64], e: usize, t: usize, m: usize, ledger: u64, entry: u64) 
     true
 }
 
-// Whether the messages of topic t are valid and no id stands twice. An id greater than all before
-// it is new; only one that is not greater is compared with each of them. Most are of the same ledger
-// as the last and greater, which is asked first.
+// Whether the messages of topic t are valid and no id stands twice, in whatever order they come. An id
+// greater than all before it is new; only one that is not greater is compared with each of them.
 fn messages_valid(store: &[u64], e: usize, t: usize) -> bool
     requires { ⌜ Canon-store e (now store) × (t < length (decode (now store) .topics)) ⌝ }
     ensures { λ r. ⌜ r ≡ (all valid-message (topic-nth (decode (now (store .entry))) t .messages) && distinct same-id (map (λ (x : StoredMessage). x .id) (topic-nth (decode (now (store .entry))) t .messages))) ⌝ }
@@ -63,13 +63,6 @@ fn messages_valid(store: &[u64], e: usize, t: usize) -> bool
         }
         let x = store[at];
         let y = store[at + 1];
-        if x == ledger {
-            if entry < y {
-                entry = y;
-                m += 1;
-                continue;
-            }
-        }
         if is_above(x, y, ledger, entry) {
             ledger = x;
             entry = y;
@@ -81,25 +74,59 @@ fn messages_valid(store: &[u64], e: usize, t: usize) -> bool
     true
 }
 
-// Whether topic t is valid.
-fn topic_valid(store: &[u64], e: usize, t: usize) -> bool
+// Whether the n messages from `first` on, one at least, have batch sizes of at most 256 and ids that
+// ascend: then they are valid, and no id is looked for.
+fn messages_ascend(store: &[u64], first: usize, n: usize) -> bool
+    requires { ⌜ (1 ≤ n) × (first + n * 4 ≤ length (now store)) ⌝ }
+    ensures { λ r. ⌜ r ≡ messages-ascend (now (store .entry)) first n ⌝ }
+{
+    if 256 < store[first + 3] {
+        return false;
+    }
+    let mut ledger = store[first];
+    let mut entry = store[first + 1];
+    let mut m = 1;
+    while m < n {
+        let at = first + m * 4;
+        if 256 < store[at + 3] {
+            return false;
+        }
+        let x = store[at];
+        let y = store[at + 1];
+        if !is_above(x, y, ledger, entry) {
+            return false;
+        }
+        ledger = x;
+        entry = y;
+        m += 1;
+    }
+    true
+}
+
+// Topic t: 0 if it is not valid, 2 if it is and its ids ascend, else 1.
+fn topic_order(store: &[u64], e: usize, t: usize) -> u8
     requires { ⌜ Canon-store e (now store) × (t < length (decode (now store) .topics)) ⌝ }
-    ensures { λ r. ⌜ r ≡ valid-topic e (topic-nth (decode (now (store .entry))) t) ⌝ }
+    ensures { λ r. ⌜ r ≡ topic-order e (now (store .entry)) t ⌝ }
 {
     let at = 2322 + t * (4 + 4 * e);
     if 255 < store[at] {
-        return false;
+        return 0;
     }
     if store[at + 3] < 1 {
-        return false;
+        return 0;
     }
-    messages_valid(store, e, t)
+    if messages_ascend(store, at + 4, word(store, at + 3)) {
+        return 2;
+    }
+    if messages_valid(store, e, t) { 1 } else { 0 }
 }
 
-// Whether the topics are valid and their numbers distinct: each is found at its own slot.
-pub fn topics_valid(store: &[u64], e: usize) -> bool
-    requires { ⌜ Canon-store e (now store) ⌝ }
-    ensures { λ r. ⌜ r ≡ (distinct eqb (map (λ (t : Topic). t .number) (decode (now (store .entry)) .topics)) && all (valid-topic e) (decode (now (store .entry)) .topics)) ⌝ }
+// Whether the topics are valid and their numbers distinct: each is found at its own slot. What each is
+// known as stands in `orders` then.
+pub fn topics_valid(store: &[u64], e: usize, orders: &mut [u8]) -> bool
+    requires canon { ⌜ Canon-store e (now store) ⌝ }
+    requires orders { ⌜ (length (now orders) ≡ 9) × Known e (now store) (now orders) ⌝ }
+    ensures { λ r. ⌜ Ordered e (now (store .entry)) (now (orders .exit)) r (distinct eqb (map (λ (t : Topic). t .number) (decode (now (store .entry)) .topics)) && all (valid-topic e) (decode (now (store .entry)) .topics)) ⌝ }
 {
     let n = word(store, 2321);
     let width = 4 + 4 * e;
@@ -108,9 +135,11 @@ pub fn topics_valid(store: &[u64], e: usize) -> bool
         if find_topic(store, e, store[2322 + t * width]) < t {
             return false;
         }
-        if !topic_valid(store, e, t) {
+        let order = topic_order(store, e, t);
+        if order == 0 {
             return false;
         }
+        orders[t] = order;
         t += 1;
     }
     true

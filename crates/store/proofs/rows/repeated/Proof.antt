@@ -1,6 +1,8 @@
 -- `store::rows::repeated` meets its contract: a word above the greatest is not there, and else the rows are looked at.
-use mathlib.Core.Path.{sym}
-use Rattle.store.proofs.Among.{among-above}
+use mathlib.Core.Path.{sym, ap, _∙_}
+use Prim.Native.Nat.{ℕ}
+use lib.Dec.{ltb}
+use Rattle.store.proofs.Among.{among-above, first-among}
 use Rattle.store.proofs.rows.repeated.Statement.{statement}
 use Rattle.store.proofs.rows.repeated.Tie as tie
 
@@ -13,7 +15,9 @@ row-of-requires : tie.Need-row-of-requires
 row-of-requires c κs = c .before .before .pre .0
 
 returns-2 : tie.Need-returns-2
-returns-2 c = c .row-of .ensures
+returns-2 c =
+    let a = c .before .before .before .args in
+    ap (λ (k : ℕ). ltb k (a .n)) (c .row-of .ensures) ∙ first-among (a .store .now) (a .first) (a .width) (a .n) (a .a)
 
 pub repeated-spec : {M : Type 1} → statement M
 repeated-spec = tie.close (tie.spec returns row-of-requires returns-2)

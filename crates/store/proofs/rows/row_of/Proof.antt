@@ -1,13 +1,12 @@
 -- `store::rows::row_of` meets its contract. The loop's invariant: no row before i starts with the word.
 use borrow.Author.Needs.{needs}
-use mathlib.Core.Path.{_≡_, sym, _∙_}
+use mathlib.Core.Path.{_≡_, _∙_}
 use mathlib.Core.Bool.{false}
 use Prim.Native.Nat.{_+_, _*_, _-_, _≤_}
 use native.Mathlib.Omega.{arith}
 use lib.ListN.{length}
-use borrow.Author.Tests.{lt-ltb, le-ltb}
 use Rattle.store.specs.Rows.{among}
-use Rattle.store.proofs.Among.{row-ends, among-none, among-found, among-turn}
+use Rattle.store.proofs.Among.{row-ends, among-none, among-turn, first-here, first-nowhere}
 use Rattle.store.proofs.rows.row_of.Statement.{statement}
 use Rattle.store.proofs.rows.row_of.Tie as tie
 
@@ -42,9 +41,8 @@ shared-slice-read-if1 c = let k = inside (c .before) in search needs
 returns : tie.Need-returns Inv-loop μ-loop
 returns c =
     let a = c .before .before .before .before .args in
-    let i = c .before .before .before .loop .i in
-    lt-ltb i (a .n) (c .before .before .loop-test .taken)
-    ∙ sym (among-found (a .store .now) (a .first) (a .width) (a .n) i (a .a) (c .before .before .loop-test .taken) (c .if1 .taken))
+    first-here (a .store .now) (a .first) (a .width) (a .n) (c .before .before .before .loop .i) (a .a) (c .before .before .loop-test .taken)
+    (c .before .before .before .loop .inv .1) (c .if1 .taken)
 
 add-i : tie.Need-add-i Inv-loop μ-loop
 add-i c = search needs
@@ -61,7 +59,7 @@ returns-2 : tie.Need-returns-2 Inv-loop μ-loop
 returns-2 c =
     let a = c .before .before .args in
     let e : c .before .loop .i ≡ a .n = omega arith in
-    le-ltb (c .before .loop .i) (a .n) (c .loop-test .left) ∙ sym (rw e at (c .before .loop .inv .1))
+    e ∙ first-nowhere (a .store .now) (a .first) (a .width) (a .n) (a .a) (rw e at (c .before .loop .inv .1))
 
 pub row-of-spec : {M : Type 1} → statement M
 row-of-spec =

@@ -12,11 +12,11 @@ above-last-requires c κs = search needs
 returns : tie.Need-returns
 returns c =
     let x = c .before .before .before .before .args in
-    sym (last-none (x .store .now) (x .first) (x .width) (x .n) (x .a) (x .b) (sym (c .before .before .before .before .pre .1) ∙ c .before .before .if1 .taken)
+    sym (last-none (x .store .now) (x .first) (x .width) (x .n) (x .a) (x .b) (c .before .before .before .before .pre .1 (c .before .before .if1 .taken))
     (sym (c .before .above-last .ensures) ∙ c .if2 .taken))
 
 two-searched-requires : tie.Need-two-searched-requires
-two-searched-requires c κs = (c .before .before .before .before .pre .0, sym (c .before .before .before .before .pre .1) ∙ c .before .before .if1 .taken)
+two-searched-requires c κs = (c .before .before .before .before .pre .0, c .before .before .before .before .pre .1 (c .before .before .if1 .taken))
 
 returns-2 : tie.Need-returns-2
 returns-2 c = search needs

@@ -1,4 +1,5 @@
--- `store::rows::twos_ascend` meets its contract. The loop's invariant: each row up to row i is above the one before it.
+-- `store::rows::twos_ascend` meets its contract. The loop's invariant: a and b are the two words of the row before row i, and each
+-- row up to that one is above the one before it.
 use borrow.Author.Needs.{needs}
 use mathlib.Core.Path.{_≡_, refl}
 use mathlib.Core.Bool.{true}
@@ -6,37 +7,61 @@ use Prim.Native.Nat.{_+_, _*_, _-_, _≤_}
 use native.Mathlib.Omega.{arith}
 use lib.ListN.{length}
 use Rattle.store.specs.Below.{each-below}
-use Rattle.store.specs.Rows.{two-ascends, twos-ascend}
+use Rattle.store.specs.Rows.{row, row-second, two-ascends, twos-ascend}
 use Rattle.store.proofs.Below.{each-turn, each-stop, each-end}
 use Rattle.store.proofs.Spelt.{answered-no, answered-yes}
 use Rattle.store.proofs.Among.{row-ends}
+use Rattle.store.proofs.RowOrder.{ascend-turn, ascend-next, row-none, second-none}
 use Rattle.store.proofs.rows.twos_ascend.Statement.{statement}
 use Rattle.store.proofs.rows.twos_ascend.Tie as tie
 
 abbrev Inv-loop : tie.InvT-loop
-Inv-loop store first width n i₀ i = (i ≤ n - 1) × (each-below (two-ascends store first width) i ≡ true)
+Inv-loop store first width n a₀ b₀ i₀ a b i =
+    (1 ≤ i) × (i ≤ n) × (a ≡ row store first width (i - 1)) × (b ≡ row-second store first width (i - 1))
+    × (each-below (two-ascends store first width) (i - 1) ≡ true)
 
 abbrev μ-loop : tie.MeasureT-loop
-μ-loop store first width n i₀ i = n - i
+μ-loop store first width n a₀ b₀ i₀ a b i = n - i
 
--- the row of a turn lies in the store
+-- the first row lies in the store
+first-inside : (c : tie.Else1 Inv-loop μ-loop)
+    → c .before .before .args .first + c .before .before .args .width ≤ length (c .before .before .args .store .now)
+first-inside c =
+    let n = c .if1 .left in
+    let k = row-ends (c .before .before .args .first) (c .before .before .args .width) (c .before .before .args .n) 0 (length (c .before .before .args .store .now)) (omega arith) (c .before .before .pre .1) in
+    omega arith
+
+-- so does the row of a turn
 inside : (c : tie.In-loop Inv-loop μ-loop)
-    → c .before .before .before .args .first + (c .before .loop .i * c .before .before .before .args .width + c .before .before .before .args .width) ≤ length (c .before .before .before .args .store .now)
+    → c .before .before .before .before .before .before .args .first + (c .before .loop .i * c .before .before .before .before .before .before .args .width + c .before .before .before .before .before .before .args .width) ≤ length (c .before .before .before .before .before .before .args .store .now)
 inside c =
-    row-ends (c .before .before .before .args .first) (c .before .before .before .args .width) (c .before .before .before .args .n) (c .before .loop .i) (length (c .before .before .before .args .store .now)) (omega arith) (c .before .before .before .pre .1)
+    row-ends (c .before .before .before .before .before .before .args .first) (c .before .before .before .before .before .before .args .width) (c .before .before .before .before .before .before .args .n) (c .before .loop .i) (length (c .before .before .before .before .before .before .args .store .now)) (c .loop-test .taken) (c .before .before .before .before .before .before .pre .1)
 
--- and so does the next
-inside-next : (c : tie.In-loop Inv-loop μ-loop)
-    → c .before .before .before .args .first + ((c .before .loop .i + 1) * c .before .before .before .args .width + c .before .before .before .args .width) ≤ length (c .before .before .before .args .store .now)
-inside-next c =
-    row-ends (c .before .before .before .args .first) (c .before .before .before .args .width) (c .before .before .before .args .n) (c .before .loop .i + 1) (length (c .before .before .before .args .store .now)) (c .loop-test .taken) (c .before .before .before .pre .1)
+returns : tie.Need-returns Inv-loop μ-loop
+unfolding twos-ascend each-below
+returns c = rw (c .if1 .taken)
+
+mul-a : tie.Need-mul-a Inv-loop μ-loop
+mul-a c = let k = first-inside c in search needs
+
+shared-slice-read-a : tie.Need-shared-slice-read-a Inv-loop μ-loop
+shared-slice-read-a c = let k = first-inside (c .before) in search needs
+
+add-b : tie.Need-add-b Inv-loop μ-loop
+add-b c = let k = first-inside (c .before) in search needs
+
+mul-b : tie.Need-mul-b Inv-loop μ-loop
+mul-b c = let k = first-inside (c .before) in search needs
+
+shared-slice-read-b : tie.Need-shared-slice-read-b Inv-loop μ-loop
+shared-slice-read-b c = let k = first-inside (c .before .before) in search needs
 
 loop-holds : tie.Need-loop-holds Inv-loop μ-loop
 unfolding each-below
-loop-holds c = (search needs, refl)
-
-add-loop : tie.Need-add-loop Inv-loop μ-loop
-add-loop c = search needs
+loop-holds c =
+    let x = c .before .before .before .before .args in
+    let n = c .before .before .if1 .left in
+    (omega arith, omega arith, row-none (x .store .now) (x .first) (x .width), second-none (x .store .now) (x .first) (x .width), refl)
 
 mul-at : tie.Need-mul-at Inv-loop μ-loop
 mul-at c = let k = inside c in search needs
@@ -44,54 +69,33 @@ mul-at c = let k = inside c in search needs
 add-at : tie.Need-add-at Inv-loop μ-loop
 add-at c = let k = inside c in search needs
 
-add-next : tie.Need-add-next Inv-loop μ-loop
-add-next c = search needs
+mul-x : tie.Need-mul-x Inv-loop μ-loop
+mul-x c = let k = inside c in search needs
 
-mul-next : tie.Need-mul-next Inv-loop μ-loop
-mul-next c = let k = inside-next c in search needs
+shared-slice-read-x : tie.Need-shared-slice-read-x Inv-loop μ-loop
+shared-slice-read-x c = let k = inside (c .before) in search needs
 
-add-next-2 : tie.Need-add-next-2 Inv-loop μ-loop
-add-next-2 c = let k = inside-next c in search needs
+add-y : tie.Need-add-y Inv-loop μ-loop
+add-y c = let k = inside (c .before) in search needs
 
-mul-is-above : tie.Need-mul-is-above Inv-loop μ-loop
-mul-is-above c = let k = inside-next c in search needs
+mul-y : tie.Need-mul-y Inv-loop μ-loop
+mul-y c = let k = inside (c .before) in search needs
 
-shared-slice-read-is-above : tie.Need-shared-slice-read-is-above Inv-loop μ-loop
-shared-slice-read-is-above c = let k = inside-next (c .before) in search needs
-
-add-is-above : tie.Need-add-is-above Inv-loop μ-loop
-add-is-above c = let k = inside-next (c .before) in search needs
-
-mul-is-above-2 : tie.Need-mul-is-above-2 Inv-loop μ-loop
-mul-is-above-2 c = let k = inside-next (c .before) in search needs
-
-shared-slice-read-is-above-2 : tie.Need-shared-slice-read-is-above-2 Inv-loop μ-loop
-shared-slice-read-is-above-2 c = let k = inside-next (c .before .before) in search needs
-
-mul-is-above-3 : tie.Need-mul-is-above-3 Inv-loop μ-loop
-mul-is-above-3 c = let k = inside (c .before .before) in search needs
-
-shared-slice-read-is-above-3 : tie.Need-shared-slice-read-is-above-3 Inv-loop μ-loop
-shared-slice-read-is-above-3 c = let k = inside (c .before .before .before) in search needs
-
-add-is-above-2 : tie.Need-add-is-above-2 Inv-loop μ-loop
-add-is-above-2 c = let k = inside (c .before .before .before) in search needs
-
-mul-is-above-4 : tie.Need-mul-is-above-4 Inv-loop μ-loop
-mul-is-above-4 c = let k = inside (c .before .before .before) in search needs
-
-shared-slice-read-is-above-4 : tie.Need-shared-slice-read-is-above-4 Inv-loop μ-loop
-shared-slice-read-is-above-4 c = let k = inside (c .before .before .before .before) in search needs
+shared-slice-read-y : tie.Need-shared-slice-read-y Inv-loop μ-loop
+shared-slice-read-y c = let k = inside (c .before .before) in search needs
 
 is-above-requires : tie.Need-is-above-requires Inv-loop μ-loop
 is-above-requires c κs = search needs
 
-returns : tie.Need-returns Inv-loop μ-loop
+returns-2 : tie.Need-returns-2 Inv-loop μ-loop
 unfolding twos-ascend
-returns c =
-    let a = c .before .before .before .before .before .before .before .before .before .args in
-    each-stop (two-ascends (a .store .now) (a .first) (a .width)) (a .n - 1) (c .before .before .before .before .before .before .before .loop .i) (omega arith)
-    (answered-no (c .before .is-above .ensures) (c .if1 .taken))
+returns-2 c =
+    let x = c .before .before .before .before .before .before .before .before .before .before .args in
+    let l = c .before .before .before .before .before .loop in
+    let h : 1 ≤ l .i = l .inv .0 in
+    let k = c .before .before .before .before .loop-test .taken in
+    each-stop (two-ascends (x .store .now) (x .first) (x .width)) (x .n - 1) (l .i - 1) (omega arith)
+    (ascend-turn (x .store .now) (x .first) (x .width) (l .i) (l .a) (l .b) h (l .inv .2) (l .inv .3) (answered-no (c .before .is-above .ensures) (c .if2 .taken)))
 
 add-i : tie.Need-add-i Inv-loop μ-loop
 add-i c = search needs
@@ -101,17 +105,25 @@ loop-less c = search needs
 
 loop-again : tie.Need-loop-again Inv-loop μ-loop
 loop-again c =
-    let a = c .before .before .before .before .before .before .before .before .before .args in (
-      search needs,
-      each-turn (two-ascends (a .store .now) (a .first) (a .width)) (c .before .before .before .before .before .before .before .loop .i) (c .before .before .before .before .before .before .before .loop .inv .1)
-          (answered-yes (c .before .is-above .ensures) (c .if1 .left)),
+    let x = c .before .before .before .before .before .before .before .before .before .before .args in
+    let l = c .before .before .before .before .before .loop in
+    let e : l .i + 1 - 1 ≡ l .i = omega arith in (
+      omega arith,
+      omega arith,
+      rw e,
+      rw e,
+      rw e
+          (ascend-next (x .store .now) (x .first) (x .width) (l .i) (l .inv .0) (l .inv .4)
+          (ascend-turn (x .store .now) (x .first) (x .width) (l .i) (l .a) (l .b) (l .inv .0) (l .inv .2) (l .inv .3) (answered-yes (c .before .is-above .ensures) (c .if2 .left)))),
     )
 
-returns-2 : tie.Need-returns-2 Inv-loop μ-loop
+returns-3 : tie.Need-returns-3 Inv-loop μ-loop
 unfolding twos-ascend
-returns-2 c =
-    let a = c .before .before .before .args in
-    each-end (two-ascends (a .store .now) (a .first) (a .width)) (a .n - 1) (c .before .loop .i) (c .before .loop .inv .0) (omega arith) (c .before .loop .inv .1)
+returns-3 c =
+    let x = c .before .before .before .before .before .before .args in
+    let l = c .before .loop in
+    let k = c .loop-test .left in
+    each-end (two-ascends (x .store .now) (x .first) (x .width)) (x .n - 1) (l .i - 1) (omega arith) (omega arith) (l .inv .4)
 
 pub twos-ascend-spec : {M : Type 1} → statement M
 twos-ascend-spec =
@@ -119,26 +131,23 @@ twos-ascend-spec =
     (tie.spec
     Inv-loop
     μ-loop
+    returns
+    mul-a
+    shared-slice-read-a
+    add-b
+    mul-b
+    shared-slice-read-b
     loop-holds
-    add-loop
     mul-at
     add-at
-    add-next
-    mul-next
-    add-next-2
-    mul-is-above
-    shared-slice-read-is-above
-    add-is-above
-    mul-is-above-2
-    shared-slice-read-is-above-2
-    mul-is-above-3
-    shared-slice-read-is-above-3
-    add-is-above-2
-    mul-is-above-4
-    shared-slice-read-is-above-4
+    mul-x
+    shared-slice-read-x
+    add-y
+    mul-y
+    shared-slice-read-y
     is-above-requires
-    returns
+    returns-2
     add-i
     loop-less
     loop-again
-    returns-2)
+    returns-3)

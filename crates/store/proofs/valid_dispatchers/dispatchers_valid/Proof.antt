@@ -12,17 +12,17 @@ use Rattle.store.proofs.valid_dispatchers.dispatchers_valid.Statement.{
 use Rattle.store.proofs.valid_dispatchers.dispatchers_valid.Tie as tie
 
 -- there are as many dispatchers as the count says
-counted : (c : tie.After-word) → c .word .result ≡ length (decode (c .before .before .args .store .now) .dispatchers)
-counted c = c .word .ensures ∙ read-dispatcher-count (c .before .before .pre)
+counted : (c : tie.After-word) → c .word .result ≡ length (decode (c .before .before .before .args .store .now) .dispatchers)
+counted c = c .word .ensures ∙ read-dispatcher-count (c .before .before .before .pre .0)
 
 -- what was asked of their pairs
 asked : (c : tie.After-twos-distinct) → c .twos-distinct .result
-    ≡ twos-distinct (c .before .before .before .args .store .now) (2355 + 32 * c .before .before .before .args .e) (176 + 9 * c .before .before .before .args .e)
-    (length (decode (c .before .before .before .args .store .now) .dispatchers))
+    ≡ twos-distinct (c .before .before .before .before .args .store .now) (2355 + 32 * c .before .before .before .before .args .e) (176 + 9 * c .before .before .before .before .args .e)
+    (length (decode (c .before .before .before .before .args .store .now) .dispatchers))
 asked c =
     c .twos-distinct .ensures
-    ∙ ap (λ (n : ℕ). twos-distinct (c .before .before .before .args .store .now) (2355 + 32 * c .before .before .before .args .e)
-    (176 + 9 * c .before .before .before .args .e) n) (counted (c .before))
+    ∙ ap (λ (n : ℕ). twos-distinct (c .before .before .before .before .args .store .now) (2355 + 32 * c .before .before .before .before .args .e)
+    (176 + 9 * c .before .before .before .before .args .e) n) (counted (c .before))
 
 mul-word : tie.Need-mul-word
 mul-word c = search needs
@@ -48,23 +48,23 @@ add-twos-distinct-2 c = search needs
 twos-distinct-requires : tie.Need-twos-distinct-requires
 twos-distinct-requires c κs =
     let n = counted c in
-    let r = table-room (c .before .before .pre) in
-    let l : 2355 + 32 * c .before .before .args .e + c .word .result * (176 + 9 * c .before .before .args .e) ≤ length (c .before .before .args .store .now) = rw n r in
+    let r = table-room (c .before .before .before .pre .0) in
+    let l : 2355 + 32 * c .before .before .before .args .e + c .word .result * (176 + 9 * c .before .before .before .args .e) ≤ length (c .before .before .before .args .store .now) = rw n r in
     (search needs, l)
 
 returns : tie.Need-returns
 returns c =
-    fails _ (sym (pairs-reads (c .before .before .before .before .pre)) ∙ answered-no (asked (c .before)) (c .if1 .taken))
+    fails _ (sym (pairs-reads (c .before .before .before .before .before .pre .0)) ∙ answered-no (asked (c .before)) (c .if1 .taken))
 
 slice-aggregate-each-valid : tie.Need-slice-aggregate-each-valid
 slice-aggregate-each-valid c = search needs
 
 each-valid-requires : tie.Need-each-valid-requires
-each-valid-requires c κs = (c .before .before .before .before .before .pre, (counted (c .before .before .before), (refl, zeros-under 4096)))
+each-valid-requires c κs = (c .before .before .before .before .before .before .pre .0, (counted (c .before .before .before), (c .before .before .before .before .before .before .pre .1, (refl, zeros-under 4096))))
 
 returns-2 : tie.Need-returns-2
 returns-2 c =
-    passes (sym (pairs-reads (c .before .before .before .before .before .before .before .pre)) ∙ answered-yes (asked (c .before .before .before .before))
+    passes (sym (pairs-reads (c .before .before .before .before .before .before .before .before .pre .0)) ∙ answered-yes (asked (c .before .before .before .before))
     (c .before .before .before .if1 .left)) (c .before .each-valid .ensures)
 
 pub dispatchers-valid-spec : {M : Type 1} → statement M

@@ -18,29 +18,29 @@ use Rattle.store.proofs.valid_dispatchers.each_valid.Statement.{stateme
 use Rattle.store.proofs.valid_dispatchers.each_valid.Tie as tie
 
 abbrev Inv-loop : tie.InvT-loop
-Inv-loop store e n stamps₀ d₀ stamps d =
+Inv-loop store e n orders stamps₀ d₀ stamps d =
     (d ≤ n) × (length stamps ≡ 4096) × Under stamps (d + 1) × (each-below (λ j. valid-dispatcher (decode store) (dispatcher-nth (decode store) j)) d ≡ true)
 
 abbrev μ-loop : tie.MeasureT-loop
-μ-loop store e n stamps₀ d₀ stamps d = n - d
+μ-loop store e n orders stamps₀ d₀ stamps d = n - d
 
 loop-holds : tie.Need-loop-holds Inv-loop μ-loop
 unfolding each-below
-loop-holds c = (search needs, c .before .before .pre .1 .1 .0, c .before .before .pre .1 .1 .1, refl)
+loop-holds c = (search needs, c .before .before .before .pre .1 .1 .1 .0, c .before .before .before .pre .1 .1 .1 .1, refl)
 
 dispatcher-valid-requires : tie.Need-dispatcher-valid-requires Inv-loop μ-loop
 dispatcher-valid-requires c κs =
-    let n = c .before .before .before .before .before .pre .1 .0 in
+    let n = c .before .before .before .before .before .before .pre .1 .0 in
     let t = c .before .loop-test .taken in
-    (c .before .before .before .before .before .pre .0, (omega arith, (c .before .before .loop .inv .1, c .before .before .loop .inv .2)))
+    (c .before .before .before .before .before .before .pre .0, (omega arith, (c .before .before .before .before .before .before .pre .1 .1 .0, (c .before .before .loop .inv .1, c .before .before .loop .inv .2))))
 
 same-length : tie.Need-same-length Inv-loop μ-loop
 same-length c = search needs
 
 returns : tie.Need-returns Inv-loop μ-loop
 returns c =
-    let s = decode (c .before .before .before .before .before .before .before .before .before .args .store .now) in
-    let n = c .before .before .before .before .before .before .before .before .before .pre .1 .0 in
+    let s = decode (c .before .before .before .before .before .before .before .before .before .before .args .store .now) in
+    let n = c .before .before .before .before .before .before .before .before .before .before .pre .1 .0 in
     let l = c .before .before .before .before .before .loop-test .taken in
     let t : c .before .before .before .before .before .before .loop .d < length (s .dispatchers) = omega arith in
     each-stop (λ j. valid-dispatcher s (dispatcher-nth s j)) (length (s .dispatchers)) (c .before .before .before .before .before .before .loop .d) t
@@ -55,7 +55,7 @@ loop-less c = search needs
 
 loop-again : tie.Need-loop-again Inv-loop μ-loop
 loop-again c =
-    let s = decode (c .before .before .before .before .before .before .before .before .before .args .store .now) in (
+    let s = decode (c .before .before .before .before .before .before .before .before .before .before .args .store .now) in (
       search needs,
       search needs,
       c .before .before .before .dispatcher-valid .ensures .others,
@@ -68,8 +68,8 @@ same-length-2 c = search needs
 
 returns-2 : tie.Need-returns-2 Inv-loop μ-loop
 returns-2 c =
-    let s = decode (c .before .before .before .before .args .store .now) in
-    let n = c .before .before .before .before .pre .1 .0 in
+    let s = decode (c .before .before .before .before .before .args .store .now) in
+    let n = c .before .before .before .before .before .pre .1 .0 in
     let l : length (s .dispatchers) ≤ c .before .loop .d = let t = c .loop-test .left in omega arith in
     let m : c .before .loop .d ≤ length (s .dispatchers) = let t = c .before .loop .inv .0 in omega arith in
     each-end (λ j. valid-dispatcher s (dispatcher-nth s j)) (length (s .dispatchers)) (c .before .loop .d) m l (c .before .loop .inv .3)

@@ -34,7 +34,7 @@ unfolding rest-right
 returns c = rw (← c .before .before .word .ensures) (fails _ (answered-no (c .before .marks-valid .ensures) (c .if1 .taken)))
 
 outside-valid-requires : tie.Need-outside-valid-requires
-outside-valid-requires c κs = search needs
+outside-valid-requires c κs = (search needs, c .before .before .before .before .pre .1 .1)
 
 returns-2 : tie.Need-returns-2
 unfolding rest-right

@@ -1,11 +1,15 @@
 -- `store::valid_marks::ids_absent` meets its contract. The loop's invariant: none of the ids before i is in the ledger.
 use borrow.Author.Needs.{needs}
-use mathlib.Core.Path.{_≡_, refl}
-use mathlib.Core.Bool.{true}
-use Prim.Native.Nat.{_-_, _≤_}
+use mathlib.Core.Path.{_≡_, refl, sym, ap, ap₂, _∙_}
+use mathlib.Core.Bool.{Bool, true, not}
+use Prim.Native.Nat.{ℕ, _+_, _*_, _-_, _≤_, _<_}
+use native.Mathlib.Omega.{arith}
+use lib.ListN.{getD}
 use Rattle.store.specs.Below.{each-below}
+use Rattle.store.specs.Rows.{row, row-second, above-last}
 use Rattle.store.specs.Marks.{absent-id, absent}
-use Rattle.store.proofs.Below.{refuted, upheld, each-turn, each-stop, each-end}
+use Rattle.store.proofs.Below.{refuted, upheld, each-given, each-turn, each-stop, each-end}
+use Rattle.store.proofs.RowOrder.{none-shared, row-none, second-none}
 use Rattle.store.proofs.valid_marks.ids_absent.Statement.{statement}
 use Rattle.store.proofs.valid_marks.ids_absent.Tie as tie
 
@@ -15,12 +19,44 @@ Inv-loop store first n ledger entries ascend i₀ i = (i ≤ n) × (absent store
 abbrev μ-loop : tie.MeasureT-loop
 μ-loop store first n ledger entries ascend i₀ i = n - i
 
+-- the first id is above the last entry, and so are all others
+apart : (c : tie.Then3 Inv-loop μ-loop) (j : ℕ) → j < c .before .before .before .before .before .before .before .args .n
+    → absent-id (c .before .before .before .before .before .before .before .args .store .now) (c .before .before .before .before .before .before .before .args .first) (c .before .before .before .before .before .before .before .args .ledger) (c .before .before .before .before .before .before .before .args .entries) j ≡ true
+apart c j l =
+    let a = c .before .before .before .before .before .before .before .args in
+    let w = a .store .now in
+    let asked : above-last w (a .ledger) 4 (a .entries) (row w (a .first) 2 0) (row-second w (a .first) 2 0) ≡ true =
+    ap₂ (λ (x y : ℕ). above-last w (a .ledger) 4 (a .entries) x y) (sym (row-none w (a .first) 2)) (sym (second-none w (a .first) 2))
+    ∙ sym (c .before .above-last .ensures) ∙ c .if3 .taken in
+    ap not (none-shared w (a .first) 2 (a .n) (a .ledger) 4 (a .entries) (c .before .before .before .before .before .before .before .pre .1 .0) (c .before .before .before .before .before .before .before .pre .1 .1 (c .before .before .before .before .if2 .taken)) asked j l)
+
 returns : tie.Need-returns Inv-loop μ-loop
 unfolding absent each-below
 returns c = rw (c .if1 .taken)
 
-twos-ascend-requires : tie.Need-twos-ascend-requires Inv-loop μ-loop
-twos-ascend-requires c κs = (search needs, search needs)
+mul-above-last : tie.Need-mul-above-last Inv-loop μ-loop
+mul-above-last c = search needs
+
+shared-slice-read-above-last : tie.Need-shared-slice-read-above-last Inv-loop μ-loop
+shared-slice-read-above-last c = let n = c .before .before .if1 .left in search needs
+
+add-above-last : tie.Need-add-above-last Inv-loop μ-loop
+add-above-last c = let n = c .before .before .if1 .left in search needs
+
+mul-above-last-2 : tie.Need-mul-above-last-2 Inv-loop μ-loop
+mul-above-last-2 c = search needs
+
+shared-slice-read-above-last-2 : tie.Need-shared-slice-read-above-last-2 Inv-loop μ-loop
+shared-slice-read-above-last-2 c = let n = c .before .before .before .if1 .left in search needs
+
+above-last-requires : tie.Need-above-last-requires Inv-loop μ-loop
+above-last-requires c κs = (search needs, search needs)
+
+returns-2 : tie.Need-returns-2 Inv-loop μ-loop
+unfolding absent
+returns-2 c =
+    let a = c .before .before .before .before .before .before .before .args in
+    sym (each-given (absent-id (a .store .now) (a .first) (a .ledger) (a .entries)) (a .n) (apart c))
 
 loop-holds : tie.Need-loop-holds Inv-loop μ-loop
 unfolding absent each-below
@@ -48,14 +84,14 @@ shared-slice-read-two-found-2 : tie.Need-shared-slice-read-two-found-2 Inv-loop 
 shared-slice-read-two-found-2 c = search needs
 
 two-found-requires : tie.Need-two-found-requires Inv-loop μ-loop
-two-found-requires c κs = ((search needs, search needs), c .before .before .before .before .twos-ascend .ensures)
+two-found-requires c κs = ((search needs, search needs), c .before .before .before .before .before .before .before .pre .1 .1)
 
-returns-2 : tie.Need-returns-2 Inv-loop μ-loop
+returns-3 : tie.Need-returns-3 Inv-loop μ-loop
 unfolding absent
-returns-2 c =
+returns-3 c =
     let a = c .before .before .before .before .before .before .before .before .before .args in
     each-stop (absent-id (a .store .now) (a .first) (a .ledger) (a .entries)) (a .n) (c .before .before .before .before .before .loop .i) (c .before .before .before .before .loop-test .taken)
-    (refuted (c .before .two-found .ensures) (c .if2 .taken))
+    (refuted (c .before .two-found .ensures) (c .if4 .taken))
 
 add-i : tie.Need-add-i Inv-loop μ-loop
 add-i c = search needs
@@ -69,12 +105,12 @@ loop-again c =
     let a = c .before .before .before .before .before .before .before .before .before .args in (
       search needs,
       each-turn (absent-id (a .store .now) (a .first) (a .ledger) (a .entries)) (c .before .before .before .before .before .loop .i) (c .before .before .before .before .before .loop .inv .1)
-          (upheld (c .before .two-found .ensures) (c .if2 .left)),
+          (upheld (c .before .two-found .ensures) (c .if4 .left)),
     )
 
-returns-3 : tie.Need-returns-3 Inv-loop μ-loop
+returns-4 : tie.Need-returns-4 Inv-loop μ-loop
 unfolding absent
-returns-3 c =
+returns-4 c =
     let a = c .before .before .before .before .before .args in
     each-end (absent-id (a .store .now) (a .first) (a .ledger) (a .entries)) (a .n) (c .before .loop .i) (c .before .loop .inv .0) (c .loop-test .left)
     (c .before .loop .inv .1)
@@ -86,7 +122,13 @@ ids-absent-spec =
     Inv-loop
     μ-loop
     returns
-    twos-ascend-requires
+    mul-above-last
+    shared-slice-read-above-last
+    add-above-last
+    mul-above-last-2
+    shared-slice-read-above-last-2
+    above-last-requires
+    returns-2
     loop-holds
     mul-at
     add-at
@@ -96,8 +138,8 @@ ids-absent-spec =
     mul-two-found-2
     shared-slice-read-two-found-2
     two-found-requires
-    returns-2
+    returns-3
     add-i
     loop-less
     loop-again
-    returns-3)
+    returns-4)

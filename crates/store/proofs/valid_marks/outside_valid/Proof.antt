@@ -1,4 +1,4 @@
--- `store::valid_marks::outside_valid` meets its contract: the ids are distinct, and then none is in the ledger.
+-- `store::valid_marks::outside_valid` meets its contract: the ids ascend, and then none is in the ledger.
 use borrow.Author.Needs.{needs}
 use native.Mathlib.Omega.{arith}
 use Rattle.store.specs.Marks.{outside-right}
@@ -12,26 +12,28 @@ add-word c = search needs
 word-requires : tie.Need-word-requires
 word-requires c κs = search needs
 
-add-twos-distinct : tie.Need-add-twos-distinct
-add-twos-distinct c = search needs
+add-twos-ascend : tie.Need-add-twos-ascend
+add-twos-ascend c = search needs
 
-twos-distinct-requires : tie.Need-twos-distinct-requires
-twos-distinct-requires c κs = let e = c .word .ensures in (search needs, omega arith)
+twos-ascend-requires : tie.Need-twos-ascend-requires
+twos-ascend-requires c κs = let e = c .word .ensures in (search needs, omega arith)
 
 returns : tie.Need-returns
 unfolding outside-right
-returns c = rw (← c .before .before .word .ensures) (fails _ (answered-no (c .before .twos-distinct .ensures) (c .if1 .taken)))
+returns c = rw (← c .before .before .word .ensures) (fails _ (answered-no (c .before .twos-ascend .ensures) (c .if1 .taken)))
 
 add-ids-absent : tie.Need-add-ids-absent
 add-ids-absent c = search needs
 
 ids-absent-requires : tie.Need-ids-absent-requires
-ids-absent-requires c κs = let e = c .before .before .word .ensures in (omega arith, search needs)
+ids-absent-requires c κs =
+    let e = c .before .before .word .ensures in
+    ((omega arith, search needs), (answered-yes (c .before .twos-ascend .ensures) (c .if1 .left), c .before .before .before .before .pre .1))
 
 returns-2 : tie.Need-returns-2
 unfolding outside-right
 returns-2 c =
-    rw (← c .before .before .before .word .ensures) (passes (answered-yes (c .before .before .twos-distinct .ensures) (c .before .if1 .left)) (c .ids-absent .ensures))
+    rw (← c .before .before .before .word .ensures) (passes (answered-yes (c .before .before .twos-ascend .ensures) (c .before .if1 .left)) (c .ids-absent .ensures))
 
 pub outside-valid-spec : {M : Type 1} → statement M
 outside-valid-spec =
@@ -39,8 +41,8 @@ outside-valid-spec =
     (tie.spec
     add-word
     word-requires
-    add-twos-distinct
-    twos-distinct-requires
+    add-twos-ascend
+    twos-ascend-requires
     returns
     add-ids-absent
     ids-absent-requires

@@ -1,10 +1,11 @@
 -- `store::valid_places::holder_slot` meets its contract: the guessed slot holds the id, or all are looked at.
 use borrow.Author.Needs.{needs}
-use mathlib.Core.Path.{_≡_, sym, _∙_}
-use Prim.Native.Nat.{_+_, _*_}
+use mathlib.Core.Path.{_≡_, sym, ap, _∙_}
+use Prim.Native.Nat.{ℕ, _+_, _*_}
 use native.Mathlib.Omega.{arith}
+use lib.Dec.{ltb}
 use borrow.Author.Tests.{lt-ltb}
-use Rattle.store.proofs.Among.{among-found}
+use Rattle.store.proofs.Among.{among-found, first-among}
 use Rattle.store.proofs.valid_places.holder_slot.Statement.{statement}
 use Rattle.store.proofs.valid_places.holder_slot.Tie as tie
 
@@ -28,7 +29,9 @@ row-of-requires : tie.Need-row-of-requires
 row-of-requires c κs = (search needs, omega arith)
 
 returns-2 : tie.Need-returns-2
-returns-2 c = c .row-of .ensures
+returns-2 c =
+    let a = c .before .before .before .args in
+    ap (λ (k : ℕ). ltb k (a .count)) (c .row-of .ensures) ∙ first-among (a .store .now) (a .ring) 1 (a .count) (a .id)
 
 pub holder-slot-spec : {M : Type 1} → statement M
 holder-slot-spec =

@@ -9,7 +9,7 @@ use native.Mathlib.Omega.{arith}
 use lib.Dec.{leb}
 use lib.ListN.{length, getD, take}
 use borrow.Author.Needs.{needs}
-use borrow.Author.Tests.{lt-leb, le-leb, lt-ltb}
+use borrow.Author.Tests.{lt-leb, le-leb}
 use Rattle.rules.specs.Table.{all, any}
 use Rattle.rules.specs.State.{Id, same-id, StoredMessage}
 use Rattle.rules.specs.Ledger.{no-message}
@@ -20,7 +20,7 @@ use Rattle.layout.specs.Offsets.{topic-at, message-in}
 use Rattle.layout.proofs.Gets.{messages-short, read-message-count, read-message-ledger, read-message-entry, read-message-handle, read-message-batch}
 use Rattle.store.proofs.Spelt.{fails, passes, answered-no, answered-yes}
 use Rattle.store.proofs.Inside.{topic-inside}
-use Rattle.store.proofs.Ids.{by-entry, above-after, id-read, Bounded}
+use Rattle.store.proofs.Ids.{above-after, id-read, Bounded}
 use Rattle.store.proofs.Topics.{ids, message-words, messages-valid, message-steps, next-greater, next-new}
 use Rattle.store.proofs.Prefixes.{Passed, passed-start, passed-stop, passed-end}
 use Rattle.store.proofs.valid_topics.messages_valid.Statement.{statement}
@@ -158,6 +158,19 @@ mul-y c = let k = inside (c .before .before .before) in search needs
 shared-slice-read-y : tie.Need-shared-slice-read-y Inv-loop μ-loop
 shared-slice-read-y c = let k = inside (c .before .before .before .before) in omega arith
 
+is-above-requires : tie.Need-is-above-requires Inv-loop μ-loop
+is-above-requires c κs = search needs
+
+is-new-requires : tie.Need-is-new-requires Inv-loop μ-loop
+is-new-requires c κs = let h = here (c .before .before .before .before .before .before) in (c .before .before .before .before .before .before .before .before .before .before .pre .0, c .before .before .before .before .before .before .before .before .before .before .pre .1, omega arith)
+
+returns-2 : tie.Need-returns-2 Inv-loop μ-loop
+returns-2 c =
+    let f : not (any (same-id (current (c .before .before .before .before .before .before .before .before))) (ids (take (c .before .before .before .before .before .before .before .before .before .loop .m) (messages (c .before .before .before .before .before .before .before .before .before .before .before .before))))) ≡ false = answered-no (c .before .is-new .ensures) (c .if3 .taken) in
+    passed-stop message-steps (messages (c .before .before .before .before .before .before .before .before .before .before .before .before)) (c .before .before .before .before .before .before .before .before .before .loop .m) no-message (here (c .before .before .before .before .before .before .before .before)) (c .before .before .before .before .before .before .before .before .before .loop .inv .1)
+    (sym (passes (sym (right (c .before .before .before .before .before .before .before .before)) ∙ le-leb _ 256 (c .before .before .before .before .before .before .if1 .left))
+    (sym (subst (λ (x : Id). not (any (same-id x) (ids (take (c .before .before .before .before .before .before .before .before .before .loop .m) (messages (c .before .before .before .before .before .before .before .before .before .before .before .before))))) ≡ false) (id (c .before .before .before .before .before .before .before .before)) f))))
+
 add-m : tie.Need-add-m Inv-loop μ-loop
 add-m c = search needs
 
@@ -168,48 +181,18 @@ loop-again : tie.Need-loop-again Inv-loop μ-loop
 loop-again c =
     let l = messages (c .before .before .before .before .before .before .before .before .before .before) in
     let m = c .before .before .before .before .before .before .before .loop .m in
-    let g = greatest (c .before .before .before .before .before .before .before) in
-    let x = current (c .before .before .before .before .before .before) in
+    let h = here (c .before .before .before .before .before .before) in
     let r = sym (right (c .before .before .before .before .before .before)) ∙ le-leb _ 256 (c .before .before .before .before .if1 .left) in
-    let n = next-greater l m g x (here (c .before .before .before .before .before .before)) (id (c .before .before .before .before .before .before)) (c .before .before .before .before .before .before .before .loop .inv .1) (c .before .before .before .before .before .before .before .loop .inv .2) r
-    (sym (by-entry g x (c .before .if2 .taken)) ∙ lt-ltb (g .entry) (x .entry) (c .if3 .taken)) in
-    (omega arith, n .0, subst (λ (k : ℕ). Bounded (record { ledger = k; entry = x .entry }) (take (m + 1) l)) (c .before .if2 .taken) (n .1))
-
-is-above-requires : tie.Need-is-above-requires Inv-loop μ-loop
-is-above-requires c κs = search needs
-
-is-new-requires : tie.Need-is-new-requires Inv-loop μ-loop
-is-new-requires c κs = let h = here (c .before .before .before .before .before .before .before) in (c .before .before .before .before .before .before .before .before .before .before .before .pre .0, c .before .before .before .before .before .before .before .before .before .before .before .pre .1, omega arith)
-
-returns-2 : tie.Need-returns-2 Inv-loop μ-loop
-returns-2 c =
-    let f : not (any (same-id (current (c .before .before .before .before .before .before .before .before .before))) (ids (take (c .before .before .before .before .before .before .before .before .before .before .loop .m) (messages (c .before .before .before .before .before .before .before .before .before .before .before .before .before))))) ≡ false = answered-no (c .before .is-new .ensures) (c .if5 .taken) in
-    passed-stop message-steps (messages (c .before .before .before .before .before .before .before .before .before .before .before .before .before)) (c .before .before .before .before .before .before .before .before .before .before .loop .m) no-message (here (c .before .before .before .before .before .before .before .before .before)) (c .before .before .before .before .before .before .before .before .before .before .loop .inv .1)
-    (sym (passes (sym (right (c .before .before .before .before .before .before .before .before .before)) ∙ le-leb _ 256 (c .before .before .before .before .before .before .before .if1 .left))
-    (sym (subst (λ (x : Id). not (any (same-id x) (ids (take (c .before .before .before .before .before .before .before .before .before .before .loop .m) (messages (c .before .before .before .before .before .before .before .before .before .before .before .before .before))))) ≡ false) (id (c .before .before .before .before .before .before .before .before .before)) f))))
-
-add-m-2 : tie.Need-add-m-2 Inv-loop μ-loop
-add-m-2 c = search needs
-
-loop-less-2 : tie.Need-loop-less-2 Inv-loop μ-loop
-loop-less-2 c = search needs
-
-loop-again-2 : tie.Need-loop-again-2 Inv-loop μ-loop
-loop-again-2 c =
-    let l = messages (c .before .before .before .before .before .before .before .before .before .before .before) in
-    let m = c .before .before .before .before .before .before .before .before .loop .m in
-    let h = here (c .before .before .before .before .before .before .before) in
-    let r = sym (right (c .before .before .before .before .before .before .before)) ∙ le-leb _ 256 (c .before .before .before .before .before .if1 .left) in
     ⊎-elim
     (λ w.
-    let n = next-greater l m (greatest (c .before .before .before .before .before .before .before .before)) (current (c .before .before .before .before .before .before .before)) h (id (c .before .before .before .before .before .before .before)) (c .before .before .before .before .before .before .before .before .loop .inv .1) (c .before .before .before .before .before .before .before .before .loop .inv .2) r
+    let n = next-greater l m (greatest (c .before .before .before .before .before .before .before)) (current (c .before .before .before .before .before .before)) h (id (c .before .before .before .before .before .before)) (c .before .before .before .before .before .before .before .loop .inv .1) (c .before .before .before .before .before .before .before .loop .inv .2) r
     (sym (c .before .is-above .ensures ∙ above-after _ _ _ _) ∙ w .0 .taken) in
     (omega arith, n .0, rw (w .1, w .2) (n .1)))
     (λ w.
-    let n = next-new l m (greatest (c .before .before .before .before .before .before .before .before)) (current (c .before .before .before .before .before .before .before)) h (id (c .before .before .before .before .before .before .before)) (c .before .before .before .before .before .before .before .before .loop .inv .1) (c .before .before .before .before .before .before .before .before .loop .inv .2) r
+    let n = next-new l m (greatest (c .before .before .before .before .before .before .before)) (current (c .before .before .before .before .before .before)) h (id (c .before .before .before .before .before .before)) (c .before .before .before .before .before .before .before .loop .inv .1) (c .before .before .before .before .before .before .before .loop .inv .2) r
     (sym (c .before .is-above .ensures ∙ above-after _ _ _ _) ∙ w .0 .left) (answered-yes (w .1 .ensures) (w .2 .left)) in
     (omega arith, n .0, rw (w .3, w .4) (n .1)))
-    (c .if4 .came)
+    (c .if2 .came)
 
 returns-3 : tie.Need-returns-3 Inv-loop μ-loop
 returns-3 c =
@@ -241,13 +224,10 @@ messages-valid-spec =
     add-y
     mul-y
     shared-slice-read-y
-    add-m
-    loop-less
-    loop-again
     is-above-requires
     is-new-requires
     returns-2
-    add-m-2
-    loop-less-2
-    loop-again-2
+    add-m
+    loop-less
+    loop-again
     returns-3)

@@ -1,12 +1,12 @@
 -- `store::valid_topics::topics_valid` meets its contract: the topics are tested one by one. The loop's invariant: those before t
--- have distinct numbers and are valid.
+-- have distinct numbers and are valid, and what is known of their order is true.
 use mathlib.Core.Path.{_≡_, sym, ap, _∙_}
 use mathlib.Core.Bool.{true, not, _&&_}
 use mathlib.Core.List.{List, map}
 use Prim.Native.Nat.{ℕ, _+_, _*_, _-_, _≤_, _<_}
 use native.Mathlib.Omega.{arith}
 use lib.Dec.{eqb}
-use lib.ListN.{length, getD, take}
+use lib.ListN.{length, getD, take, length-set}
 use borrow.Author.Needs.{needs}
 use Rattle.rules.specs.Table.{all, any, distinct}
 use Rattle.rules.specs.State.{Topic, by-number}
@@ -15,10 +15,12 @@ use Rattle.layout.specs.Layout.{decode}
 use Rattle.layout.specs.Fields.{zero-topic}
 use Rattle.layout.proofs.Gets.{read-topic-count, read-topic-number}
 use Rattle.store.specs.Find.{slot}
-use Rattle.store.proofs.Spelt.{fails, passes, answered-no, answered-yes}
+use Rattle.store.specs.Orders.{Known}
+use Rattle.store.proofs.Spelt.{fails, passes}
 use Rattle.store.proofs.Inside.{topic-inside}
 use Rattle.store.proofs.Distinct.{slot-seen, slot-new}
 use Rattle.store.proofs.Topics.{topic-steps}
+use Rattle.store.proofs.Orders.{order-none, order-some, known-more}
 use Rattle.store.proofs.Prefixes.{Passed, passed-start, passed-stop, passed-turn, passed-end}
 use Rattle.store.proofs.valid_topics.topics_valid.Statement.{statement}
 use Rattle.store.proofs.valid_topics.topics_valid.Tie as tie
@@ -26,45 +28,46 @@ use Rattle.store.proofs.valid_topics.topics_valid.Reads as reads
 use Rattle.store.proofs.valid_topics.topics_valid.Lts as lts
 use Rattle.store.proofs.find.find_topic.Reads as find-topic-reads
 use Rattle.store.proofs.stretch.word.Reads as word-reads
-use Rattle.store.proofs.valid_topics.topic_valid.Reads as topic-valid-reads
+use Rattle.store.proofs.valid_topics.topic_order.Reads as topic-order-reads
 
 abbrev Inv-loop : tie.InvT-loop
-Inv-loop store e n width t₀ t =
+Inv-loop store e orders₀ n width t₀ orders t =
     (t ≤ n)
     × Passed (λ l. distinct eqb (map (λ (x : Topic). x .number) l) && all (valid-topic e) l) (decode store .topics) t
+    × (length orders ≡ 9) × Known e store orders
 
 abbrev μ-loop : tie.MeasureT-loop
-μ-loop store e n width t₀ t = n - t
+μ-loop store e orders₀ n width t₀ orders t = n - t
 
 -- the topics
 abbrev topics : tie.Start Inv-loop μ-loop → List Topic
 topics c = decode (c .args .store .now) .topics
 
 -- there are as many as the count says
-counted : (c : tie.After-word Inv-loop μ-loop) → c .word .result ≡ length (topics (c .before .before))
-counted c = c .word .ensures ∙ read-topic-count (c .before .before .pre)
+counted : (c : tie.After-word Inv-loop μ-loop) → c .word .result ≡ length (topics (c .before .before .before))
+counted c = c .word .ensures ∙ read-topic-count (c .before .before .before .pre .0)
 
 -- the slot of a turn lies in the table
-here : (c : tie.In-loop Inv-loop μ-loop) → c .before .loop .t < length (topics (c .before .before .before .before))
+here : (c : tie.In-loop Inv-loop μ-loop) → c .before .loop .t < length (topics (c .before .before .before .before .before))
 here c = let n = counted (c .before .before) in omega arith
 
 -- and in the store
 inside : (c : tie.In-loop Inv-loop μ-loop)
-    → 2322 + (c .before .loop .t * (4 + 4 * c .before .before .before .before .args .e) + (4 + 4 * c .before .before .before .before .args .e)) ≤ length (c .before .before .before .before .args .store .now)
-inside c = topic-inside (c .before .before .before .before .pre) (c .before .loop .t) (here c)
+    → 2322 + (c .before .loop .t * (4 + 4 * c .before .before .before .before .before .args .e) + (4 + 4 * c .before .before .before .before .before .args .e)) ≤ length (c .before .before .before .before .before .args .store .now)
+inside c = topic-inside (c .before .before .before .before .before .pre .0) (c .before .loop .t) (here c)
 
 -- where the topic's number is found
 found : (c : tie.After-find-topic Inv-loop μ-loop)
-    → c .find-topic .result ≡ slot by-number (getD (topics (c .before .before .before .before .before .before)) (c .before .before .before .loop .t) zero-topic .number) (topics (c .before .before .before .before .before .before))
+    → c .find-topic .result ≡ slot by-number (getD (topics (c .before .before .before .before .before .before .before)) (c .before .before .before .loop .t) zero-topic .number) (topics (c .before .before .before .before .before .before .before))
 found c =
     c .find-topic .ensures
-    ∙ ap (λ (k : ℕ). slot by-number k (topics (c .before .before .before .before .before .before))) (read-topic-number (c .before .before .before .before .before .before .pre) (c .before .before .before .loop .t) (here (c .before .before)))
+    ∙ ap (λ (k : ℕ). slot by-number k (topics (c .before .before .before .before .before .before .before))) (read-topic-number (c .before .before .before .before .before .before .before .pre .0) (c .before .before .before .loop .t) (here (c .before .before)))
 
 -- a number found at its own slot is new
 new : (c : tie.Else1 Inv-loop μ-loop)
-    → not (any (eqb (getD (topics (c .before .before .before .before .before .before .before)) (c .before .before .before .before .loop .t) zero-topic .number)) (map (λ (x : Topic). x .number) (take (c .before .before .before .before .loop .t) (topics (c .before .before .before .before .before .before .before))))) ≡ true
+    → not (any (eqb (getD (topics (c .before .before .before .before .before .before .before .before)) (c .before .before .before .before .loop .t) zero-topic .number)) (map (λ (x : Topic). x .number) (take (c .before .before .before .before .loop .t) (topics (c .before .before .before .before .before .before .before .before))))) ≡ true
 new c =
-    ap not (slot-new by-number (getD (topics (c .before .before .before .before .before .before .before)) (c .before .before .before .before .loop .t) zero-topic .number) (topics (c .before .before .before .before .before .before .before)) (c .before .before .before .before .loop .t) (rw (found (c .before)) at (c .if1 .left)))
+    ap not (slot-new by-number (getD (topics (c .before .before .before .before .before .before .before .before)) (c .before .before .before .before .loop .t) zero-topic .number) (topics (c .before .before .before .before .before .before .before .before)) (c .before .before .before .before .loop .t) (rw (found (c .before)) at (c .if1 .left)))
 
 word-requires : tie.Need-word-requires Inv-loop μ-loop
 word-requires c κs = search needs
@@ -76,7 +79,7 @@ add-width : tie.Need-add-width Inv-loop μ-loop
 add-width c = search needs
 
 loop-holds : tie.Need-loop-holds Inv-loop μ-loop
-loop-holds c = (search needs, passed-start (topic-steps (c .before .before .args .e)) (topics (c .before .before)))
+loop-holds c = (search needs, passed-start (topic-steps (c .before .before .before .args .e)) (topics (c .before .before .before)), c .before .before .before .pre .1 .0, c .before .before .before .pre .1 .1)
 
 mul-find-topic : tie.Need-mul-find-topic Inv-loop μ-loop
 mul-find-topic c = let k = inside c in search needs
@@ -93,22 +96,44 @@ shared-slice-read-find-topic c = let k = inside (c .before) in omega arith
 find-topic-requires : tie.Need-find-topic-requires Inv-loop μ-loop
 find-topic-requires c κs = search needs
 
+same-length : tie.Need-same-length Inv-loop μ-loop
+same-length c = search needs
+
 returns : tie.Need-returns Inv-loop μ-loop
 returns c =
-    let l = topics (c .before .before .before .before .before .before .before) in
+    let l = topics (c .before .before .before .before .before .before .before .before) in
     let t = c .before .before .before .before .loop .t in
     let h = here (c .before .before .before) in
     let b : t ≤ length l = omega arith in
-    passed-stop (topic-steps (c .before .before .before .before .before .before .before .args .e)) l t zero-topic h (c .before .before .before .before .loop .inv .1)
-    (sym (fails _ (ap not (slot-seen by-number (getD l t zero-topic .number) l t b (rw (found (c .before)) at (c .if1 .taken))))))
+    record {
+      answer =
+          passed-stop (topic-steps (c .before .before .before .before .before .before .before .before .args .e)) l t zero-topic h (c .before .before .before .before .loop .inv .1)
+          (sym (fails _ (ap not (slot-seen by-number (getD l t zero-topic .number) l t b (rw (found (c .before)) at (c .if1 .taken))))));
+      known = c .before .before .before .before .loop .inv .3;
+    }
 
-topic-valid-requires : tie.Need-topic-valid-requires Inv-loop μ-loop
-topic-valid-requires c κs = (c .before .before .before .before .before .before .before .pre, here (c .before .before .before))
+topic-order-requires : tie.Need-topic-order-requires Inv-loop μ-loop
+topic-order-requires c κs = (c .before .before .before .before .before .before .before .before .pre .0, here (c .before .before .before))
+
+same-length-2 : tie.Need-same-length-2 Inv-loop μ-loop
+same-length-2 c = search needs
 
 returns-2 : tie.Need-returns-2 Inv-loop μ-loop
 returns-2 c =
-    passed-stop (topic-steps (c .before .before .before .before .before .before .before .before .before .args .e)) (topics (c .before .before .before .before .before .before .before .before .before)) (c .before .before .before .before .before .before .loop .t) zero-topic (here (c .before .before .before .before .before)) (c .before .before .before .before .before .before .loop .inv .1)
-    (sym (passes (new (c .before .before)) (sym (answered-no (c .before .topic-valid .ensures) (c .if2 .taken)))))
+    let a = c .before .before .before .before .before .before .before .before .before .before .args in
+    record {
+      answer =
+          passed-stop (topic-steps (a .e)) (topics (c .before .before .before .before .before .before .before .before .before .before)) (c .before .before .before .before .before .before .loop .t) zero-topic (here (c .before .before .before .before .before)) (c .before .before .before .before .before .before .loop .inv .1)
+          (sym (passes (new (c .before .before)) (sym (order-none (a .e) (a .store .now) (c .before .before .before .before .before .before .loop .t) (c .before .topic-order .ensures) (c .if2 .taken)))));
+      known = c .before .before .before .before .before .before .loop .inv .3;
+    }
+
+slice-write-orders : tie.Need-slice-write-orders Inv-loop μ-loop
+slice-write-orders c =
+    let h = here (c .before .before .before .before .before) in
+    let f = c .before .before .before .before .before .before .before .before .before .before .pre .0 .shaped .topics-fit in
+    let l = c .before .before .before .before .before .before .loop .inv .2 in
+    omega arith
 
 add-t : tie.Need-add-t Inv-loop μ-loop
 add-t c = search needs
@@ -117,17 +142,29 @@ loop-less : tie.Need-loop-less Inv-loop μ-loop
 loop-less c = search needs
 
 loop-again : tie.Need-loop-again Inv-loop μ-loop
-loop-again c = (
-  search needs,
-  passed-turn (topic-steps (c .before .before .before .before .before .before .before .before .before .args .e)) (topics (c .before .before .before .before .before .before .before .before .before)) (c .before .before .before .before .before .before .loop .t) zero-topic (here (c .before .before .before .before .before)) (c .before .before .before .before .before .before .loop .inv .1)
-      (sym (passes (new (c .before .before)) (sym (answered-yes (c .before .topic-valid .ensures) (c .if2 .left))))),
-)
+loop-again c =
+    let a = c .before .before .before .before .before .before .before .before .before .before .args in
+    let h = here (c .before .before .before .before .before) in
+    let f = c .before .before .before .before .before .before .before .before .before .before .pre .0 .shaped .topics-fit in
+    let l = c .before .before .before .before .before .before .loop .inv .2 in (
+      search needs,
+      passed-turn (topic-steps (a .e)) (topics (c .before .before .before .before .before .before .before .before .before .before)) (c .before .before .before .before .before .before .loop .t) zero-topic h (c .before .before .before .before .before .before .loop .inv .1)
+          (sym (passes (new (c .before .before)) (sym (order-some (a .e) (a .store .now) (c .before .before .before .before .before .before .loop .t) (c .before .topic-order .ensures) (c .if2 .left))))),
+      length-set (c .before .before .before .before .before .before .loop .orders) (c .before .before .before .before .before .before .loop .t) (c .before .topic-order .result) ∙ l,
+      known-more (a .e) (a .store .now) (c .before .before .before .before .before .before .loop .orders) (c .before .before .before .before .before .before .loop .t) (c .before .topic-order .result) (omega arith) (c .before .topic-order .ensures) (c .before .before .before .before .before .before .loop .inv .3),
+    )
+
+same-length-3 : tie.Need-same-length-3 Inv-loop μ-loop
+same-length-3 c = search needs
 
 returns-3 : tie.Need-returns-3 Inv-loop μ-loop
 returns-3 c =
     let n = counted (c .before .before) in
-    let l : length (topics (c .before .before .before .before)) ≤ c .before .loop .t = omega arith in
-    passed-end (topic-steps (c .before .before .before .before .args .e)) (topics (c .before .before .before .before)) (c .before .loop .t) l (c .before .loop .inv .1)
+    let l : length (topics (c .before .before .before .before .before)) ≤ c .before .loop .t = omega arith in
+    record {
+      answer = passed-end (topic-steps (c .before .before .before .before .before .args .e)) (topics (c .before .before .before .before .before)) (c .before .loop .t) l (c .before .loop .inv .1);
+      known = c .before .loop .inv .3;
+    }
 
 pub topics-valid-spec : {M : Type 1} → statement M
 topics-valid-spec =
@@ -144,10 +181,14 @@ topics-valid-spec =
     mul-find-topic-2
     shared-slice-read-find-topic
     find-topic-requires
+    same-length
     returns
-    topic-valid-requires
+    topic-order-requires
+    same-length-2
     returns-2
+    slice-write-orders
     add-t
     loop-less
     loop-again
+    same-length-3
     returns-3)

@@ -1,0 +1,187 @@
+-- `store::valid_topics::messages_ascend` meets its contract. The loop's invariant: the sizes before message m are right, ledger and
+-- entry are the id before it, and each id up to that one is above the one before it.
+use borrow.Author.Needs.{needs}
+use mathlib.Core.Path.{_≡_, refl, sym, ap, _∙_}
+use mathlib.Core.Bool.{Bool, true, false, _&&_, and-false}
+use Prim.Native.Nat.{ℕ, _+_, _*_, _-_, _≤_}
+use native.Mathlib.Omega.{arith}
+use lib.Dec.{leb}
+use lib.ListN.{length, getD}
+use borrow.Author.Tests.{lt-leb, le-leb}
+use Rattle.store.specs.Below.{each-below}
+use Rattle.store.specs.Rows.{row, row-second, two-ascends, twos-ascend}
+use Rattle.store.specs.Orders.{batch-right, messages-ascend}
+use Rattle.store.proofs.Below.{each-turn, each-stop, each-end}
+use Rattle.store.proofs.Spelt.{fails, passes, answered-no, answered-yes}
+use Rattle.store.proofs.RowOrder.{ascend-turn, ascend-next, row-none, second-none}
+use Rattle.store.proofs.valid_topics.messages_ascend.Statement.{statement}
+use Rattle.store.proofs.valid_topics.messages_ascend.Tie as tie
+
+abbrev Inv-loop : tie.InvT-loop
+Inv-loop store first n ledger₀ entry₀ m₀ ledger entry m =
+    (1 ≤ m) × (m ≤ n) × (ledger ≡ row store first 4 (m - 1)) × (entry ≡ row-second store first 4 (m - 1))
+    × (each-below (batch-right store first) m ≡ true) × (each-below (two-ascends store first 4) (m - 1) ≡ true)
+
+abbrev μ-loop : tie.MeasureT-loop
+μ-loop store first n ledger₀ entry₀ m₀ ledger entry m = n - m
+
+-- the first size
+first-size : (c : tie.After-shared-slice-known2 Inv-loop μ-loop) → batch-right (c .before .before .args .store .now) (c .before .before .args .first) 0 ≡ leb (getD (c .before .before .args .store .now) (c .before .before .args .first + 3) 0) 256
+first-size c = let e : c .before .before .args .first + 0 * 4 + 3 ≡ c .before .before .args .first + 3 = omega arith in ap (λ (k : ℕ). leb (getD (c .before .before .args .store .now) k 0) 256) e
+
+add-if1 : tie.Need-add-if1 Inv-loop μ-loop
+add-if1 c = search needs
+
+mul-if1 : tie.Need-mul-if1 Inv-loop μ-loop
+mul-if1 c = search needs
+
+shared-slice-read-if1 : tie.Need-shared-slice-read-if1 Inv-loop μ-loop
+shared-slice-read-if1 c = search needs
+
+returns : tie.Need-returns Inv-loop μ-loop
+unfolding messages-ascend
+returns c =
+    let a = c .before .before .before .args in
+    fails _ (sym (each-stop (batch-right (a .store .now) (a .first)) (a .n) 0 (c .before .before .before .pre .0) (first-size (c .before) ∙ lt-leb _ 256 (c .if1 .taken))))
+
+mul-ledger : tie.Need-mul-ledger Inv-loop μ-loop
+mul-ledger c = search needs
+
+shared-slice-read-ledger : tie.Need-shared-slice-read-ledger Inv-loop μ-loop
+shared-slice-read-ledger c = search needs
+
+add-entry : tie.Need-add-entry Inv-loop μ-loop
+add-entry c = search needs
+
+mul-entry : tie.Need-mul-entry Inv-loop μ-loop
+mul-entry c = search needs
+
+shared-slice-read-entry : tie.Need-shared-slice-read-entry Inv-loop μ-loop
+shared-slice-read-entry c = search needs
+
+loop-holds : tie.Need-loop-holds Inv-loop μ-loop
+unfolding each-below
+loop-holds c =
+    let x = c .before .before .before .before .before .args in (
+      omega arith,
+      c .before .before .before .before .before .pre .0,
+      row-none (x .store .now) (x .first) 4,
+      second-none (x .store .now) (x .first) 4,
+      first-size (c .before .before .before) ∙ le-leb _ 256 (c .before .before .if1 .left),
+      refl,
+    )
+
+mul-at : tie.Need-mul-at Inv-loop μ-loop
+mul-at c = search needs
+
+add-at : tie.Need-add-at Inv-loop μ-loop
+add-at c = search needs
+
+add-if2 : tie.Need-add-if2 Inv-loop μ-loop
+add-if2 c = search needs
+
+mul-if2 : tie.Need-mul-if2 Inv-loop μ-loop
+mul-if2 c = search needs
+
+shared-slice-read-if2 : tie.Need-shared-slice-read-if2 Inv-loop μ-loop
+shared-slice-read-if2 c = search needs
+
+returns-2 : tie.Need-returns-2 Inv-loop μ-loop
+unfolding messages-ascend
+returns-2 c =
+    let a = c .before .before .before .before .before .before .before .before .before .args in
+    fails _ (sym (each-stop (batch-right (a .store .now) (a .first)) (a .n) (c .before .before .before .loop .m) (c .before .before .loop-test .taken) (lt-leb _ 256 (c .if2 .taken))))
+
+mul-x : tie.Need-mul-x Inv-loop μ-loop
+mul-x c = search needs
+
+shared-slice-read-x : tie.Need-shared-slice-read-x Inv-loop μ-loop
+shared-slice-read-x c = search needs
+
+add-y : tie.Need-add-y Inv-loop μ-loop
+add-y c = search needs
+
+mul-y : tie.Need-mul-y Inv-loop μ-loop
+mul-y c = search needs
+
+shared-slice-read-y : tie.Need-shared-slice-read-y Inv-loop μ-loop
+shared-slice-read-y c = search needs
+
+is-above-requires : tie.Need-is-above-requires Inv-loop μ-loop
+is-above-requires c κs = search needs
+
+returns-3 : tie.Need-returns-3 Inv-loop μ-loop
+unfolding messages-ascend twos-ascend
+returns-3 c =
+    let x = c .before .before .before .before .before .before .before .before .before .before .before .before .before .args in
+    let l = c .before .before .before .before .before .before .before .loop in
+    let h : 1 ≤ l .m = l .inv .0 in
+    let k = c .before .before .before .before .before .before .loop-test .taken in
+    let no : each-below (two-ascends (x .store .now) (x .first) 4) (x .n - 1) ≡ false =
+    sym (each-stop (two-ascends (x .store .now) (x .first) 4) (x .n - 1) (l .m - 1) (omega arith)
+    (ascend-turn (x .store .now) (x .first) 4 (l .m) (l .ledger) (l .entry) h (l .inv .2) (l .inv .3) (answered-no (c .before .is-above .ensures) (c .if3 .taken)))) in
+    sym (ap (λ (t : Bool). each-below (batch-right (x .store .now) (x .first)) (x .n) && t) no ∙ and-false (each-below (batch-right (x .store .now) (x .first)) (x .n)))
+
+add-m : tie.Need-add-m Inv-loop μ-loop
+add-m c = search needs
+
+loop-less : tie.Need-loop-less Inv-loop μ-loop
+loop-less c = search needs
+
+loop-again : tie.Need-loop-again Inv-loop μ-loop
+loop-again c =
+    let x = c .before .before .before .before .before .before .before .before .before .before .before .before .before .args in
+    let l = c .before .before .before .before .before .before .before .loop in
+    let e : l .m + 1 - 1 ≡ l .m = omega arith in (
+      omega arith,
+      omega arith,
+      rw e,
+      rw e,
+      each-turn (batch-right (x .store .now) (x .first)) (l .m) (l .inv .4) (le-leb _ 256 (c .before .before .before .before .if2 .left)),
+      rw e
+          (ascend-next (x .store .now) (x .first) 4 (l .m) (l .inv .0) (l .inv .5)
+          (ascend-turn (x .store .now) (x .first) 4 (l .m) (l .ledger) (l .entry) (l .inv .0) (l .inv .2) (l .inv .3) (answered-yes (c .before .is-above .ensures) (c .if3 .left)))),
+    )
+
+returns-4 : tie.Need-returns-4 Inv-loop μ-loop
+unfolding messages-ascend twos-ascend
+returns-4 c =
+    let x = c .before .before .before .before .before .before .before .args in
+    let l = c .before .loop in
+    let k = c .loop-test .left in
+    passes (sym (each-end (batch-right (x .store .now) (x .first)) (x .n) (l .m) (l .inv .1) k (l .inv .4)))
+    (each-end (two-ascends (x .store .now) (x .first) 4) (x .n - 1) (l .m - 1) (omega arith) (omega arith) (l .inv .5))
+
+pub messages-ascend-spec : {M : Type 1} → statement M
+messages-ascend-spec =
+    tie.close
+    (tie.spec
+    Inv-loop
+    μ-loop
+    add-if1
+    mul-if1
+    shared-slice-read-if1
+    returns
+    mul-ledger
+    shared-slice-read-ledger
+    add-entry
+    mul-entry
+    shared-slice-read-entry
+    loop-holds
+    mul-at
+    add-at
+    add-if2
+    mul-if2
+    shared-slice-read-if2
+    returns-2
+    mul-x
+    shared-slice-read-x
+    add-y
+    mul-y
+    shared-slice-read-y
+    is-above-requires
+    returns-3
+    add-m
+    loop-less
+    loop-again
+    returns-4)
