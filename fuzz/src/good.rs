@@ -53,12 +53,32 @@ fn bits(entry: &Entry, wanted: [u64; 4]) -> [u64; 4] {
 
 fn topic(r: &mut Random, e: usize, number: usize) -> Topic {
     let count = r.upto(e).max(1);
-    // Some ledgers have ids out of order.
-    let up = r.chance();
-    let id = |k: usize| if up { k } else { (k * 7 + 3) % 8191 } as u64;
+    // Half of the ledgers ascend, with gaps between the entries; others have ids out of order.
+    let kind = r.below(4);
+    let id = |k: usize| match kind {
+        0 | 1 => [k / 7, 2 * k],
+        2 => [k % 3, k],
+        _ => [(k * 7 + 3) % 8191 % 3, (k * 7 + 3) % 8191],
+    };
     let size = |r: &mut Random| [0, 1, 2, 3, 64, 65, 255, 256][r.below(8)];
-    let entries = (0..count).map(|k| [id(k) % 3, id(k), r.word(), size(r)]).collect();
+    let entries =
+        (0..count).map(|k| [id(k)[0] as u64, id(k)[1] as u64, r.word(), size(r)]).collect();
     Topic { number: number as u64, entries }
+}
+
+/// Ids that are not in the ledger, ascending: past its last one, or among its own.
+fn outside(r: &mut Random, ledger: &[Entry]) -> Vec<[u64; 2]> {
+    let count = r.upto(OUTSIDE);
+    if r.chance() {
+        return (0..count).map(|j| [9_000, j as u64 * 3]).collect();
+    }
+    let most = ledger.len() + 9;
+    let mut ids: Vec<[u64; 2]> =
+        (0..count).map(|_| [r.below(most / 7 + 1) as u64, r.below(2 * most) as u64]).collect();
+    ids.sort_unstable();
+    ids.dedup();
+    ids.retain(|id| ledger.iter().all(|entry| entry[..2] != id[..]));
+    ids
 }
 
 fn dispatcher(r: &mut Random, pair: (u64, u64), ledger: &[Entry]) -> Dispatcher {
@@ -71,7 +91,7 @@ fn dispatcher(r: &mut Random, pair: (u64, u64), ledger: &[Entry]) -> Dispatcher 
     let used = r.upto(places.len());
     let held = if ring.is_empty() { 0 } else { r.upto(used) };
     let flight = places[..held].iter().map(|p| [ring[r.below(ring.len())], *p]).collect();
-    let outside = (0..r.upto(OUTSIDE)).map(|j| [9, j as u64 * 3]).collect();
+    let outside = outside(r, ledger);
     let mark = |r: &mut Random, entry: &Entry| Mark {
         complete: r.below(2) as u64,
         count: [0, 1, (1 << 32) - 1][r.below(3)],

@@ -240,7 +240,7 @@ fn valid_dispatcher(s: &State, d: &Dispatcher) -> bool {
         && d.mark_delete <= entries
         && (ZERO - (1 << 60)..=ZERO + (1 << 60)).contains(&d.total)
         && distinct(d.ring.iter())
-        && distinct(d.outside.iter())
+        && d.outside.windows(2).all(|two| two[0] < two[1])
         && d.outside.iter().all(|id| ids.binary_search(id).is_err())
         && d.flight.iter().all(|held| d.ring.contains(&held[0]))
         && positions().all(|position| position < d.cursor)

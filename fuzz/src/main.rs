@@ -68,6 +68,27 @@ fn change_each(words: &mut [u64], places: &[usize], what: &str, r: &mut Random, 
     }
 }
 
+/// Two neighbouring outside ids of each dispatcher in the other order, and the first of them twice:
+/// neither spells a state.
+fn exchange_outside(words: &mut [u64], state: &State, what: &str, seen: &mut Seen) {
+    for (d, dispatcher) in state.dispatchers.iter().enumerate() {
+        let at = 2355 + 32 * state.e + d * (176 + 9 * state.e) + 45;
+        for j in 1..dispatcher.outside.len() {
+            let two = at + 2 * (j - 1)..at + 2 * (j + 1);
+            let kept = words[two.clone()].to_vec();
+            let told = seen.told;
+            words[two.clone()].rotate_left(2);
+            compare(words, &format!("{what}, outside ids {j} and the one before exchanged"), seen);
+            words[two.clone()].copy_from_slice(&[kept[0], kept[1], kept[0], kept[1]]);
+            compare(words, &format!("{what}, outside id {j} is the one before it"), seen);
+            if seen.told != told + 2 {
+                fail(&format!("{what}: outside ids that do not ascend spell a state"));
+            }
+            words[two].copy_from_slice(&kept);
+        }
+    }
+}
+
 /// One good store: it is accepted, its changes are told or spell another state, and words past
 /// the needed ones and shorter stores are treated as they should be.
 fn try_state(state: &State, what: &str, at_most: usize, r: &mut Random, seen: &mut Seen) {
@@ -85,6 +106,7 @@ fn try_state(state: &State, what: &str, at_most: usize, r: &mut Random, seen: &m
     let all: Vec<usize> = (0..words.len()).collect();
     change_each(&mut words, &some(&used, r), what, r, seen);
     change_each(&mut words, &some(&all, r), what, r, seen);
+    exchange_outside(&mut words, state, what, seen);
     for len in [0, 1, 15, 16, words.len() - 1] {
         compare(&words[..len], &format!("{what}, {len} words"), seen);
     }

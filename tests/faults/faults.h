@@ -111,6 +111,7 @@ void restore(void);
 /* A good store lent with every length below the needed one, and none at all. */
 void short_stores(void);
 void damaged_words(uint64_t e);
+void outside_order(void);
 
 /* ---- lists.c ---- */
 

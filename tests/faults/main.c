@@ -82,6 +82,10 @@ int main(int argc, char **argv)
              damaged, unspelt, damaged - unspelt);
     ended(text);
 
+    begin("outside ids");
+    outside_order();
+    ended("ids out of order, or one of them twice");
+
     begin("soak");
     soak(wanted);
     snprintf(text, sizeof text, "at random: %lu damaged stores, %lu refused by 1, %lu other states", damaged,

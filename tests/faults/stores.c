@@ -221,3 +221,42 @@ void damaged_words(uint64_t e)
         damage(i, ~w);
     }
 }
+
+/* Outside ids in another order than theirs, or one of them twice, spell nothing; an ack of ids in any order
+ * leaves them ascending. */
+void outside_order(void)
+{
+    static const uint64_t ascending[] = {4, 3, 2, 3, 7, 9, 0, 9, 1};
+    uint64_t *ids;
+    int op;
+    good(4);
+    ids = store->words + DISPATCHER(4, 0) + 44;
+    check(ids[0] == 2 && ids[1] == 7 && ids[2] == 7 && ids[3] == 8 && ids[4] == 8, "outside ids 7 7 and 8 8");
+    keep();
+    for (op = APPEND; op <= PUSH; op++) {
+        restore();
+        ids[1] = ids[2] = 8;
+        ids[3] = ids[4] = 7;
+        refused(one_of((enum operation)op), 1);
+        ids[1] = ids[2] = 7;
+        refused(one_of((enum operation)op), 1);
+        ids[3] = 7;
+        ids[4] = 6;
+        refused(one_of((enum operation)op), 1);
+        ids[4] = 8;
+        does(one_of((enum operation)op));
+    }
+    opened(4, 0, 0);
+    done(subscribe(7, 1, 1, 1));
+    list.n = 0;
+    group(9, 1, 0, 0, 0);
+    group(3, 7, 0, 0, 0);
+    group(3, 2, 1, 1, 5);
+    group(9, 0, 0, 0, 0);
+    group(3, 7, 0, 0, 0);
+    done(of(ACK, 7));
+    check(memcmp(ids, ascending, sizeof ascending) == 0, "outside ids do not ascend");
+    done(append(1, 3, 7, 1));
+    check(ids[0] == 3 && ids[1] == 3 && ids[2] == 2 && ids[3] == 9 && ids[4] == 0 && ids[5] == 9 && ids[6] == 1,
+          "outside ids after an append");
+}

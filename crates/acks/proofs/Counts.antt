@@ -1,21 +1,22 @@
 -- How many ids stand outside the ledger after an ack: as many as before, and the groups that count. So there are never fewer,
 -- and the code may count them before it writes.
 use mathlib.Core.Path.{_≡_, refl, _∙_, subst}
-use mathlib.Core.Bool.{Bool, true, false, cond, _||_}
-use mathlib.Core.List.{List, [], _∷_, _++_}
+use mathlib.Core.Bool.{Bool, true, false, cond}
+use mathlib.Core.List.{List, [], _∷_}
 use Prim.Native.Nat.{ℕ, suc, _+_, _≤_}
 use native.Mathlib.Omega.{arith}
 use lib.Dec.{ltb, leb·suc-suc}
-use lib.ListN.{length, length-append}
+use lib.ListN.{length}
 use borrow.Author.Tests.{lt-ltb}
 use Rattle.rules.specs.Table.{any}
 use Rattle.rules.specs.State.{Id, same-id, StoredMessage, Dispatcher}
-use Rattle.rules.specs.Ledger.{position-of, holds-id}
+use Rattle.rules.specs.Ledger.{position-of, holds-id, insert-id}
 use Rattle.rules.specs.Groups.{Group}
 use Rattle.rules.specs.Dispatcher.{with-marks, is-outside, ack-id}
 use Rattle.rules.specs.Commands.{ack-groups}
 use Rattle.rules.proofs.Table.{by-test, turned-round}
 use Rattle.rules.proofs.State.{decides-ids}
+use Rattle.rules.proofs.Ids.{any-insert-id, length-insert-id}
 use Rattle.store.specs.Find.{slot}
 use Rattle.groups.specs.Walk.{group-at, groups-from, end-at}
 use Rattle.groups.proofs.Walks.{Turn, stands-end}
@@ -30,15 +31,9 @@ slot-any i (a ∷ l) =
     by-test (same-id i a) (λ t. rw t (lt-ltb 0 (suc (length l)) (omega arith)))
     (λ t. rw t (leb·suc-suc (suc (slot by-itself i l)) (length l) ∙ slot-any i l))
 
--- a test of one more
-any-last : {A : Type 0} (p : A → Bool) (l : List A) (a : A) → any p (l ++ a ∷ []) ≡ any p l || p a
-unfolding any
-any-last p [] a = by-test (p a) (λ t. rw t) (λ t. rw t)
-any-last p (b ∷ l) a = by-test (p b) (λ t. rw t) (λ t. rw t (any-last p l a))
-
 -- the outside ids after an ack of one id
 unfoldable pub ids-after : List StoredMessage → List Id → Id → List Id
-ids-after ledger ids i = cond (holds-id i ledger) ids (cond (any (same-id i) ids) ids (ids ++ i ∷ []))
+ids-after ledger ids i = cond (holds-id i ledger) ids (cond (any (same-id i) ids) ids (insert-id i ids))
 
 -- are those
 pub outside-of : (ledger : List StoredMessage) (d : Dispatcher) (i : Id) (incoming : List ℕ)
@@ -52,30 +47,30 @@ bit ledger ids i later = cond (holds-id i ledger) 0 (cond (any (same-id i) ids) 
 
 module _ (ledger : List StoredMessage) (ids : List Id) (i : Id) (h : holds-id i ledger ≡ false) (u : any (same-id i) ids ≡ false) where
   -- an id that counts and is the new one
-  bit-same : (later : Bool) → (bit ledger (ids ++ i ∷ []) i later ≡ 0) × (bit ledger ids i later ≡ cond later 0 1)
+  bit-same : (later : Bool) → (bit ledger (insert-id i ids) i later ≡ 0) × (bit ledger ids i later ≡ cond later 0 1)
   unfolding bit
-  bit-same later = (rw (h, any-last (same-id i) ids i, u, decides-ids .self i), rw (h, u))
+  bit-same later = (rw (h, any-insert-id (same-id i) i ids, decides-ids .self i), rw (h, u))
 
   -- any other id counts as before
-  bit-other : (j : Id) (later : Bool) → same-id i j ≡ false → bit ledger (ids ++ i ∷ []) j later ≡ bit ledger ids j later
+  bit-other : (j : Id) (later : Bool) → same-id i j ≡ false → bit ledger (insert-id i ids) j later ≡ bit ledger ids j later
   unfolding bit
   bit-other j later e =
       by-test (any (same-id j) ids)
-      (λ t. rw (any-last (same-id j) ids i, t))
-      (λ t. rw (any-last (same-id j) ids i, t, turned-round decides-ids i j e))
+      (λ t. rw (any-insert-id (same-id j) i ids, t, turned-round decides-ids i j e))
+      (λ t. rw (any-insert-id (same-id j) i ids, t, turned-round decides-ids i j e))
 
   -- once a new id is outside, the group that names it last no longer counts
-  one-less : (gs : List Group) → new-count ledger (ids ++ i ∷ []) gs + cond (named i gs) 1 0 ≡ new-count ledger ids gs
+  one-less : (gs : List Group) → new-count ledger (insert-id i ids) gs + cond (named i gs) 1 0 ≡ new-count ledger ids gs
   unfolding new-count new-bit named any bit
   one-less [] = refl
   one-less (g ∷ gs) =
       let r = one-less gs in
       by-test (same-id i (g .id))
       (λ t. let e : i ≡ g .id = decides-ids .equal i (g .id) t in
-      let b : (bit ledger (ids ++ i ∷ []) (g .id) (named (g .id) gs) ≡ 0) × (bit ledger ids (g .id) (named (g .id) gs) ≡ cond (named i gs) 0 1) =
-      subst (λ (j : Id). (bit ledger (ids ++ i ∷ []) j (named j gs) ≡ 0) × (bit ledger ids j (named j gs) ≡ cond (named i gs) 0 1)) e (bit-same (named i gs)) in
+      let b : (bit ledger (insert-id i ids) (g .id) (named (g .id) gs) ≡ 0) × (bit ledger ids (g .id) (named (g .id) gs) ≡ cond (named i gs) 0 1) =
+      subst (λ (j : Id). (bit ledger (insert-id i ids) j (named j gs) ≡ 0) × (bit ledger ids j (named j gs) ≡ cond (named i gs) 0 1)) e (bit-same (named i gs)) in
       rw t (rw (b .0, b .1) (by-test (named i gs) (λ n. let r′ = rw n at r in rw n (omega arith)) (λ n. let r′ = rw n at r in rw n (omega arith)))))
-      (λ t. let b : bit ledger (ids ++ i ∷ []) (g .id) (named (g .id) gs) ≡ bit ledger ids (g .id) (named (g .id) gs) = bit-other (g .id) (named (g .id) gs) t in
+      (λ t. let b : bit ledger (insert-id i ids) (g .id) (named (g .id) gs) ≡ bit ledger ids (g .id) (named (g .id) gs) = bit-other (g .id) (named (g .id) gs) t in
       rw (t, b) (omega arith))
 
 -- what one group adds
@@ -85,7 +80,7 @@ unfolding ids-after new-bit
 step ledger ids g gs =
     by-test (holds-id (g .id) ledger) (λ t. rw t (omega arith))
     (λ t. by-test (any (same-id (g .id)) ids) (λ u. rw (t, u) (omega arith))
-    (λ u. let l = length-append ids (g .id ∷ []) in
+    (λ u. let l = length-insert-id (g .id) ids in
     let o = one-less ledger ids (g .id) t u gs in
     rw (t, u) (by-test (named (g .id) gs) (λ n. let o′ = rw n at o in rw n (omega arith)) (λ n. let o′ = rw n at o in rw n (omega arith)))))
 

@@ -1,22 +1,23 @@
 -- One mark or one outside id acknowledged, as the code does it and as the rules say it.
 use mathlib.Core.Path.{_≡_, refl, sym, ap, _∙_}
 use mathlib.Core.Bool.{Bool, true, false, cond, not, _&&_, _||_}
-use mathlib.Core.List.{List, [], _∷_, _++_}
+use mathlib.Core.List.{List, [], _∷_}
 use Prim.Native.Nat.{ℕ, zero, suc, _≤_, _<_}
 use native.Mathlib.Nat.{not-suc-le-zero}
 use native.Mathlib.Omega.{arith}
 use lib.Dec.{ltb}
 use lib.Seq.{set-getD}
-use lib.ListN.{length, length-append, set, take}
+use lib.ListN.{length, set, take}
 use borrow.Author.Tests.{lt-ltb, le-ltb, ltb-true, ltb-false}
 use Rattle.bits.specs.declared.UnackedBits.{UnackedBits}
 use Rattle.bits.specs.Bits.{fresh-unacked-bits, and-into, bits-empty}
 use Rattle.bits.specs.Four.{words, four}
 use Rattle.rules.specs.Table.{is-empty}
 use Rattle.rules.specs.State.{Id, StoredMessage, Mark, Dispatcher, State, completed, by-number, ledger-of, with-dispatchers}
-use Rattle.rules.specs.Ledger.{position-of, message-at, batch-size-of}
+use Rattle.rules.specs.Ledger.{position-of, message-at, batch-size-of, insert-id}
 use Rattle.rules.specs.Dispatcher.{with-marks, mark-at, is-outside, bits-left, ack-entry, ack-mark, ack-id}
 use Rattle.rules.proofs.Table.{by-test}
+use Rattle.rules.proofs.Ids.{length-insert-id}
 use Rattle.dispatcher.specs.Values.{mark-of}
 use Rattle.dispatcher.specs.declared.marks.Mark as declared
 use Rattle.layout.specs.Layout.{decode, put}
@@ -117,19 +118,19 @@ module _ (ledger : List StoredMessage) (d : Dispatcher) (i : Id) (incoming : Lis
 
   -- an id that is not in it
   pub ack-missing : (k : ℕ) → k ≡ position-of i ledger → length ledger ≤ k
-      → with-marks d (d .marks) (cond (is-outside i d) (d .outside) (d .outside ++ i ∷ [])) ≡ ack-id ledger d i incoming
+      → with-marks d (d .marks) (cond (is-outside i d) (d .outside) (insert-id i (d .outside))) ≡ ack-id ledger d i incoming
   unfolding ack-id
   ack-missing k e h = rw (le-ltb (position-of i ledger) (length ledger) (omega arith))
 
   -- has room where the ack has
   pub ack-room : (k : ℕ) → k ≡ position-of i ledger → length ledger ≤ k → length (ack-id ledger d i incoming .outside) ≤ 64
-      → length (cond (is-outside i d) (d .outside) (d .outside ++ i ∷ [])) ≤ 64
+      → length (cond (is-outside i d) (d .outside) (insert-id i (d .outside))) ≤ 64
   unfolding with-marks
   ack-room k e h r = rw (← ack-missing k e h) at r
 
 -- one more has room
-pub last-room : (i : Id) (x : Dispatcher) → is-outside i x ≡ false → length (cond (is-outside i x) (x .outside) (x .outside ++ i ∷ [])) ≤ 64 → length (x .outside) < 64
-last-room i x e h = let h′ : length (x .outside ++ i ∷ []) ≤ 64 = rw e at h in let n = length-append (x .outside) (i ∷ []) in omega arith
+pub last-room : (i : Id) (x : Dispatcher) → is-outside i x ≡ false → length (cond (is-outside i x) (x .outside) (insert-id i (x .outside))) ≤ 64 → length (x .outside) < 64
+last-room i x e h = let h′ : length (insert-id i (x .outside)) ≤ 64 = rw e at h in let n = length-insert-id i (x .outside) in omega arith
 
 -- words that stay are those of a dispatcher whose marks and outside ids stay
 pub unchanged : {e : ℕ} {ws : List ℕ} (d : ℕ) → Dispatcher-in e ws d

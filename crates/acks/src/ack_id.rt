@@ -5,7 +5,7 @@ use bits::UnackedBits;
 use dispatcher::marks::Mark;
 use dispatcher::marks::load_mark;
 use dispatcher::marks::save_mark;
-use dispatcher::outside::append_outside;
+use dispatcher::outside::insert_outside;
 use groups::walk::and_group;
 use groups::walk::group_end;
 use groups::walk::group_words;
@@ -15,13 +15,12 @@ use store::find::find_topic;
 use store::find::ledger_length;
 ghost use mathlib.Core.Path.{_≡_};
 ghost use mathlib.Core.Bool.{cond, _||_};
-ghost use mathlib.Core.List.{_++_, _∷_, []};
 ghost use Prim.Native.Nat.{_≤_, _<_};
 ghost use lib.ListN.{length, set};
 ghost use Rattle.bits.specs.Bits.{fresh-unacked-bits, bits-empty};
 ghost use Rattle.bits.specs.Four.{four, words};
 ghost use Rattle.rules.specs.State.{completed, ledger-of};
-ghost use Rattle.rules.specs.Ledger.{message-at};
+ghost use Rattle.rules.specs.Ledger.{message-at, insert-id};
 ghost use Rattle.rules.specs.Dispatcher.{with-marks, mark-at, is-outside, bits-left, ack-mark, ack-id};
 ghost use Rattle.rules.specs.Commands.{ack-groups};
 ghost use Rattle.layout.specs.Layout.{decode, put};
@@ -108,13 +107,14 @@ fn ack_entry(store: &mut [u64], e: usize, d: usize, topic: u64, k: usize, list: 
     save_mark(store, e, d, k, acked);
 }
 
-// Dispatcher `d` acknowledges an id that is not in the ledger: it joins the outside ids once.
+// Dispatcher `d` acknowledges an id that is not in the ledger: it joins the outside ids once, in its
+// place.
 fn ack_outside(store: &mut [u64], e: usize, d: usize, ledger: u64, entry: u64)
-    requires { ⌜ Dispatcher-in e (now store) d × (length (cond (is-outside (id-of ledger entry) (dispatcher-nth (decode (now store)) d)) (dispatcher-nth (decode (now store)) d .outside) (dispatcher-nth (decode (now store)) d .outside ++ id-of ledger entry ∷ [])) ≤ 64) ⌝ }
-    ensures { λ _. ⌜ now (store .exit) ≡ put (now (store .entry)) (set-dispatcher (decode (now (store .entry))) d (with-marks (dispatcher-nth (decode (now (store .entry))) d) (dispatcher-nth (decode (now (store .entry))) d .marks) (cond (is-outside (id-of ledger entry) (dispatcher-nth (decode (now (store .entry))) d)) (dispatcher-nth (decode (now (store .entry))) d .outside) (dispatcher-nth (decode (now (store .entry))) d .outside ++ id-of ledger entry ∷ [])))) ⌝ }
+    requires { ⌜ Dispatcher-in e (now store) d × (length (cond (is-outside (id-of ledger entry) (dispatcher-nth (decode (now store)) d)) (dispatcher-nth (decode (now store)) d .outside) (insert-id (id-of ledger entry) (dispatcher-nth (decode (now store)) d .outside))) ≤ 64) ⌝ }
+    ensures { λ _. ⌜ now (store .exit) ≡ put (now (store .entry)) (set-dispatcher (decode (now (store .entry))) d (with-marks (dispatcher-nth (decode (now (store .entry))) d) (dispatcher-nth (decode (now (store .entry))) d .marks) (cond (is-outside (id-of ledger entry) (dispatcher-nth (decode (now (store .entry))) d)) (dispatcher-nth (decode (now (store .entry))) d .outside) (insert-id (id-of ledger entry) (dispatcher-nth (decode (now (store .entry))) d .outside))))) ⌝ }
 {
     if !is_outside(store, e, d, ledger, entry) {
-        append_outside(store, e, d, ledger, entry);
+        insert_outside(store, e, d, ledger, entry);
     }
 }
 

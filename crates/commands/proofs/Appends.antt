@@ -21,6 +21,7 @@ use Rattle.rules.specs.Calls.{rule}
 use Rattle.rules.specs.Calls.Call.{Append}
 use Rattle.rules.specs.Valid.{Valid}
 use Rattle.rules.proofs.Table.{by-test, decides-numbers}
+use Rattle.rules.proofs.Ids.{ascending-distinct}
 use Rattle.layout.specs.Layout.{decode, put as put-state}
 use Rattle.layout.specs.Whole.{Shaped, Shaped-topic}
 use Rattle.layout.specs.Canon.{Canon-store}
@@ -212,7 +213,7 @@ pub all-take : (s : State) (topic : ℕ) → Valid s → length (ledger-of s top
 all-take s topic v r d m q =
     let w = v .each-dispatcher d m in
     let l : length (ledger-of s (d .pair .topic)) < s .entries = subst (λ (n : ℕ). length (ledger-of s n) < s .entries) q r in
-    record { room = rw (w .entry-marks .one-each) l; outside-once = w .outside-ids .outside-distinct }
+    record { room = rw (w .entry-marks .one-each) l; outside-once = ascending-distinct (d .outside) (w .outside-ids .outside-ascending) }
 
 module _ {e : ℕ} {ws : List ℕ} (t topic : ℕ) (h : Canon-store e ws) (q : t ≡ slot by-number topic (decode ws .topics)) where
   -- a topic joined fits

@@ -1,12 +1,15 @@
 -- Words of a dispatcher's lists as the code reads and writes them.
-use mathlib.Core.Path.{_≡_, ap₂, _∙_}
-use mathlib.Core.Bool.{true}
+use mathlib.Core.Path.{_≡_, sym, ap₂, _∙_}
+use mathlib.Core.Bool.{true, or-false}
 use mathlib.Core.List.{List, [], _∷_, _++_}
 use Prim.Native.Nat.{ℕ, suc, _+_, _-_, _*_, _^_, _<_, min}
 use native.Mathlib.Omega.{arith}
+use lib.Dec.{ltb}
 use lib.ListN.{length, getD, set, take, drop}
+use borrow.Author.Tests.{le-ltb, eq-eqb, ne-eqb}
 use Rattle.words.specs.Act.{close}
-use Rattle.rules.specs.State.{new-mark}
+use Rattle.rules.specs.State.{Id, new-mark}
+use Rattle.rules.specs.Ledger.{after-id}
 use Rattle.rules.specs.Dispatcher.{with-marks, mark-at}
 use Rattle.rules.specs.Commands.{raised}
 use Rattle.layout.specs.Layout.{decode, put}
@@ -16,6 +19,16 @@ use Rattle.layout.specs.Placed.{Dispatcher-in}
 use Rattle.layout.proofs.GetsDispatcher.{read-outside-count, read-outside-ledger, read-outside-entry, read-mark-count, read-redelivery-count}
 use Rattle.layout.proofs.SetsDispatcher as layout
 use Rattle.ledger.specs.Ids.{id-of, id-at}
+
+-- an id comes after another of the same ledger by its entry
+pub after-same : (a b : Id) → a .ledger ≡ b .ledger → ltb (b .entry) (a .entry) ≡ after-id a b
+unfolding after-id
+after-same a b e = rw (le-ltb (b .ledger) (a .ledger) (omega arith), eq-eqb (a .ledger) (b .ledger) e)
+
+-- and after one of another ledger by its ledger
+pub after-other : (a b : Id) → (a .ledger ≡ b .ledger → ⊥) → ltb (b .ledger) (a .ledger) ≡ after-id a b
+unfolding after-id
+after-other a b f = rw (ne-eqb (a .ledger) (b .ledger) f) (sym (or-false (ltb (b .ledger) (a .ledger))))
 
 module _ {e : ℕ} {ws : List ℕ} (d at : ℕ) (h : Dispatcher-in e ws d) (a : at ≡ dispatcher-at e d) where
   -- the number of outside ids

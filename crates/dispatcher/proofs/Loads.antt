@@ -5,13 +5,15 @@ use mathlib.Core.List.{List, [], _∷_, _++_}
 use Prim.Native.Nat.{ℕ, suc, _+_, _-_, _*_, _≤_, _<_}
 use native.Mathlib.Omega.{arith}
 use lib.Dec.{eqb}
-use lib.ListN.{length, getD, set, take}
+use lib.ListN.{length, getD, set, take, drop}
 use Rattle.words.specs.Codec.{bit}
-use Rattle.words.specs.Act.{lay, clear}
+use Rattle.words.specs.Act.{up, lay, clear, both}
 use Rattle.words.proofs.Lists.{writes-keep}
 use Rattle.bits.specs.declared.UnackedBits.{UnackedBits}
-use Rattle.rules.specs.State.{Mark, Dispatcher, State, new-mark}
+use Rattle.rules.specs.State.{Id, Mark, Dispatcher, State, new-mark}
+use Rattle.rules.specs.Ledger.{after-id, insert-id}
 use Rattle.rules.specs.Dispatcher.{of-parts, with-next, with-cursor, with-mark-delete, with-total, with-places, with-marks, mark-at, complete-at}
+use Rattle.rules.proofs.Table.{by-test}
 use Rattle.layout.specs.Records.{held-codec}
 use Rattle.layout.specs.Layout.{decode, put}
 use Rattle.layout.specs.Offsets.{dispatcher-at, outside-id-in, mark-in, flight-in, held-in}
@@ -24,9 +26,12 @@ use Rattle.layout.proofs.Parts.{flight-part}
 use Rattle.layout.proofs.Spot.{spot-in, lists}
 use Rattle.layout.proofs.GetsDispatcher.{read-mark-complete, read-redelivery-count, read-w0, read-w1, read-w2, read-w3, read-next, read-cursor, read-mark-delete, read-total, dispatcher-here}
 use Rattle.layout.proofs.SetsDispatcher as layout
+use Rattle.store.specs.Find.{slot}
+use Rattle.store.proofs.Finding.{slot-le}
 use Rattle.frame.proofs.Frame.{dispatcher-twice, dispatcher-set-in}
 use Rattle.ledger.specs.Ids.{id-of}
 use Rattle.dispatcher.specs.Held.{held-of}
+use Rattle.dispatcher.specs.Outside.{by-order}
 use Rattle.dispatcher.specs.Values.{mark-of, head-of, with-head}
 use Rattle.dispatcher.specs.declared.marks.Mark as declared
 use Rattle.heads.specs.declared.Head as numbers
@@ -48,6 +53,12 @@ six-words a b c d f g to ws =
     let four : to + 4 ≡ suc (suc (suc (suc to))) = omega arith in
     let five : to + 5 ≡ suc (suc (suc (suc (suc to)))) = omega arith in
     rw (one, two, three, four, five)
+
+-- an id inserted stands before the first that comes after it
+placed : (i : Id) (l : List Id) → insert-id i l ≡ take (slot by-order i l) l ++ i ∷ drop (slot by-order i l) l
+unfolding insert-id slot
+placed i [] = refl
+placed i (j ∷ l) = by-test (after-id j i) (λ t. rw t) (λ t. rw t (ap (λ (m : List Id). j ∷ m) (placed i l)))
 
 module _ {e : ℕ} {ws : List ℕ} (d at : ℕ) (h : Dispatcher-in e ws d) (a : at ≡ dispatcher-at e d) where
   abbrev D : Dispatcher
@@ -95,12 +106,19 @@ module _ {e : ℕ} {ws : List ℕ} (d at : ℕ) (h : Dispatcher-in e ws d) (a : 
   head-here =
       rw a (rw (read-next (h .canon) d (h .there), read-cursor (h .canon) d (h .there), read-mark-delete (h .canon) d (h .there), read-total (h .canon) d (h .there)))
 
-  -- an id written after the others, then their count raised
-  pub appended-outside : (n i k : ℕ) → n ≡ length (D .outside) → length (D .outside) < 64
-      → set (set (set ws (at + 45 + n * 2) i) (at + 45 + n * 2 + 1) k) (at + 44) (n + 1) ≡ put ws (set-dispatcher (decode ws) d (with-marks D (D .marks) (D .outside ++ id-of i k ∷ [])))
-  appended-outside n i k c l =
-      let to : at + 45 + n * 2 ≡ dispatcher-at e d + outside-id-in n = omega arith in
-      rw (two-words i k (at + 45 + n * 2) ws, to, a, c) (layout.append-outside (h .canon) d (h .there) (id-of i k) l)
+  -- an id written in its place, those from there on moved up, then their count raised
+  pub inserted-outside : {us : List ℕ} (n j i k : ℕ) → n ≡ length (D .outside) → j ≡ slot by-order (id-of i k) (D .outside) → length (D .outside) < 64
+      → us ≡ up 2 ((n - j) * 2) .run (at + 45 + j * 2) ws
+      → set (set (set us (at + 45 + j * 2) i) (at + 45 + j * 2 + 1) k) (at + 44) (n + 1)
+      ≡ put ws (set-dispatcher (decode ws) d (with-marks D (D .marks) (insert-id (id-of i k) (D .outside))))
+  unfolding both
+  inserted-outside {us} n j i k c p l w =
+      let to : at + 45 + j * 2 ≡ dispatcher-at e d + outside-id-in j = omega arith in
+      let few = slot-le by-order (id-of i k) (D .outside) in
+      rw (two-words i k (at + 45 + j * 2) us, w, to, a, c)
+      (layout.insert-outside (h .canon) d (h .there) j (id-of i k) (omega arith) l
+      ∙ ap (λ (ids : List Id). put ws (set-dispatcher (decode ws) d (with-marks D (D .marks) ids)))
+      (ap (λ (m : ℕ). take m (D .outside) ++ id-of i k ∷ drop m (D .outside)) p ∙ sym (placed (id-of i k) (D .outside))))
 
   -- ---- the four numbers written
 

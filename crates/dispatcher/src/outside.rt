@@ -1,19 +1,21 @@
-// The complete ids of a dispatcher that are not in the ledger.
+// The complete ids of a dispatcher that are not in the ledger. They ascend by ledger, then by entry.
 use ledger::find::same_id;
 use store::movers::close_gap;
+use store::movers::move_up;
 use store::offsets::dispatcher_at;
 use store::stretch::word;
 ghost use mathlib.Core.Path.{_≡_};
-ghost use mathlib.Core.List.{_++_, _∷_, []};
+ghost use mathlib.Core.List.{_++_};
 ghost use Prim.Native.Nat.{_+_, _<_};
 ghost use lib.ListN.{length, take, drop};
+ghost use Rattle.rules.specs.Ledger.{after-id, insert-id};
 ghost use Rattle.rules.specs.Dispatcher.{with-marks};
 ghost use Rattle.layout.specs.Layout.{decode, put};
 ghost use Rattle.layout.specs.Fields.{dispatcher-nth, set-dispatcher};
 ghost use Rattle.layout.specs.Placed.{Dispatcher-in};
 ghost use Rattle.store.specs.Find.{slot};
-ghost use Rattle.ledger.specs.Ids.{id-of};
-ghost use Rattle.dispatcher.specs.Outside.{by-itself};
+ghost use Rattle.ledger.specs.Ids.{id-of, id-at};
+ghost use Rattle.dispatcher.specs.Outside.{by-itself, by-order};
 
 // The number of outside ids of dispatcher `d`.
 pub fn outside_count(store: &[u64], e: usize, d: usize) -> usize
@@ -52,14 +54,46 @@ pub fn remove_outside(store: &mut [u64], e: usize, d: usize, j: usize)
     store[at + 44] = (n - 1) as u64;
 }
 
-// An id becomes the last of the outside ids of dispatcher `d`, which has room.
-pub fn append_outside(store: &mut [u64], e: usize, d: usize, ledger: u64, entry: u64)
-    requires { ⌜ Dispatcher-in e (now store) d × (length (dispatcher-nth (decode (now store)) d .outside) < 64) ⌝ }
-    ensures { λ _. ⌜ now (store .exit) ≡ put (now (store .entry)) (set-dispatcher (decode (now (store .entry))) d (with-marks (dispatcher-nth (decode (now (store .entry))) d) (dispatcher-nth (decode (now (store .entry))) d .marks) (dispatcher-nth (decode (now (store .entry))) d .outside ++ id-of ledger entry ∷ []))) ⌝ }
+// Whether the id at an offset comes after (`ledger`, `entry`).
+fn is_after(store: &[u64], at: usize, ledger: u64, entry: u64) -> bool
+    requires { ⌜ at + 1 < length (now store) ⌝ }
+    ensures { λ r. ⌜ r ≡ after-id (id-at (now (store .entry)) at) (id-of ledger entry) ⌝ }
+{
+    if store[at] == ledger {
+        entry < store[at + 1]
+    } else {
+        ledger < store[at]
+    }
+}
+
+// The place of an id among the outside ids of dispatcher `d`: that of the first which comes after it,
+// their number where there is none.
+fn place_for_outside(store: &[u64], e: usize, d: usize, ledger: u64, entry: u64) -> usize
+    requires { ⌜ Dispatcher-in e (now store) d ⌝ }
+    ensures { λ r. ⌜ r ≡ slot by-order (id-of ledger entry) (dispatcher-nth (decode (now (store .entry))) d .outside) ⌝ }
 {
     let at = dispatcher_at(e, d);
     let n = word(store, at + 44);
-    let free = at + 45 + n * 2;
+    let mut j = 0;
+    while j < n {
+        if is_after(store, at + 45 + j * 2, ledger, entry) {
+            return j;
+        }
+        j += 1;
+    }
+    j
+}
+
+// An id joins the outside ids of dispatcher `d`, which have room, in its place among them.
+pub fn insert_outside(store: &mut [u64], e: usize, d: usize, ledger: u64, entry: u64)
+    requires { ⌜ Dispatcher-in e (now store) d × (length (dispatcher-nth (decode (now store)) d .outside) < 64) ⌝ }
+    ensures { λ _. ⌜ now (store .exit) ≡ put (now (store .entry)) (set-dispatcher (decode (now (store .entry))) d (with-marks (dispatcher-nth (decode (now (store .entry))) d) (dispatcher-nth (decode (now (store .entry))) d .marks) (insert-id (id-of ledger entry) (dispatcher-nth (decode (now (store .entry))) d .outside)))) ⌝ }
+{
+    let at = dispatcher_at(e, d);
+    let n = word(store, at + 44);
+    let j = place_for_outside(store, e, d, ledger, entry);
+    let free = at + 45 + j * 2;
+    move_up(store, free, 2, (n - j) * 2);
     store[free] = ledger;
     store[free + 1] = entry;
     store[at + 44] = (n + 1) as u64;

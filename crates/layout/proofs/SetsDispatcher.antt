@@ -7,10 +7,10 @@ use Prim.Native.Nat.{ℕ, _+_, _-_, _*_, _≤_, _<_}
 use native.Mathlib.Nat.{add-zero}
 use native.Mathlib.Omega.{arith}
 use lib.ListN.{length, getD, set, take, drop, replicate}
-use Rattle.words.specs.Act.{store, lay, close}
+use Rattle.words.specs.Act.{store, up, lay, both, close}
 use Rattle.words.specs.Codec.{word, pair, via, flag, asFlag, spell, bit}
 use Rattle.words.proofs.Field.{writes-flag}
-use Rattle.words.proofs.Lists.{writes-append, writes-remove}
+use Rattle.words.proofs.Lists.{writes-append, writes-insert, writes-remove}
 use Rattle.words.proofs.Entries.{appends-entry, cuts-entries}
 use Rattle.bits.specs.declared.UnackedBits.{UnackedBits}
 use Rattle.rules.specs.State.{Id, Mark, Held, Dispatcher, new-mark}
@@ -220,17 +220,18 @@ module _ {e : ℕ} {ws : List ℕ} (h : Canon-store e ws) (d : ℕ) (k : d < len
 
   -- ---- the outside ids
 
-  -- one more id
-  pub append-outside : (x : Id) → length (dispatcher-now ws d .outside) < 64
-      → set (lay (x .ledger ∷ x .entry ∷ []) .run (dispatcher-at e d + outside-id-in (length (dispatcher-now ws d .outside))) ws)
+  -- one more id, before id j: those from j on move up, it is laid in, the count is stored
+  pub insert-outside : (j : ℕ) (x : Id) → j ≤ length (dispatcher-now ws d .outside) → length (dispatcher-now ws d .outside) < 64
+      → set (both (up 2 ((length (dispatcher-now ws d .outside) - j) * 2)) (lay (x .ledger ∷ x .entry ∷ [])) .run (dispatcher-at e d + outside-id-in j) ws)
       (dispatcher-at e d + outside-in) (length (dispatcher-now ws d .outside) + 1)
-      ≡ put-dispatcher-at ws d (with-marks (dispatcher-now ws d) (dispatcher-now ws d .marks) (dispatcher-now ws d .outside ++ x ∷ []))
-  append-outside x l =
-      ap (λ (vs : List ℕ). set (lay vs .run (dispatcher-at e d + outside-id-in (length (dispatcher-now ws d .outside))) ws)
+      ≡ put-dispatcher-at ws d
+      (with-marks (dispatcher-now ws d) (dispatcher-now ws d .marks) (take j (dispatcher-now ws d .outside) ++ x ∷ drop j (dispatcher-now ws d .outside)))
+  insert-outside j x m l =
+      ap (λ (vs : List ℕ). set (both (up 2 ((length (dispatcher-now ws d .outside) - j) * 2)) (lay vs) .run (dispatcher-at e d + outside-id-in j) ws)
       (dispatcher-at e d + outside-in) (length (dispatcher-now ws d .outside) + 1)) (sym (enc-id x))
-      ∙ lists h (spot-in (dispatcher-here h d k) (outside-part e _)) (lay (id-codec .enc x)) _ _
-      (writes-append id-codec width-id 64 (dispatcher-now ws d .outside) x l)
-      (dispatcher-at e d + outside-id-in (length (dispatcher-now ws d .outside))) (omega arith)
+      ∙ lists h (spot-in (dispatcher-here h d k) (outside-part e _)) (both (up 2 ((length (dispatcher-now ws d .outside) - j) * 2)) (lay (id-codec .enc x))) _ _
+      (writes-insert id-codec width-id 64 (dispatcher-now ws d .outside) j x m l)
+      (dispatcher-at e d + outside-id-in j) (omega arith)
 
   -- id j is taken out
   pub remove-outside : (j : ℕ) → j < length (dispatcher-now ws d .outside)

@@ -38,7 +38,7 @@ pub fn open_gap(store: &mut [u64], at: usize, width: usize, count: usize)
 }
 
 // The `count` words at `at` move up by `width` words, the last one first.
-fn move_up(store: &mut [u64], at: usize, width: usize, count: usize)
+pub fn move_up(store: &mut [u64], at: usize, width: usize, count: usize)
     requires { ⌜ at + width + count ≤ length (now store) ⌝ }
     ensures { λ _. ⌜ now (store .exit) ≡ up width count .run at (now (store .entry)) ⌝ }
 {

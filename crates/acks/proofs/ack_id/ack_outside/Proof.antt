@@ -12,8 +12,8 @@ use Rattle.acks.proofs.ack_id.ack_outside.Tie as tie
 is-outside-requires : tie.Need-is-outside-requires
 is-outside-requires c κs = search needs
 
-append-outside-requires : tie.Need-append-outside-requires
-append-outside-requires c κs =
+insert-outside-requires : tie.Need-insert-outside-requires
+insert-outside-requires c κs =
     let a = c .before .before .before .before .before .args in
     let n = sym (c .before .before .is-outside .ensures) ∙ not-true _ (c .before .if1 .taken) in
     (c .before .before .before .before .before .pre .0, last-room (id-of (a .ledger) (a .entry)) (dispatcher-nth (decode (a .store .now)) (a .d)) n (c .before .before .before .before .before .pre .1))
@@ -22,7 +22,7 @@ same-length : tie.Need-same-length
 same-length c = search needs
 
 returns : tie.Need-returns
-returns c = let n = sym (c .before .before .before .before .before .is-outside .ensures) ∙ not-true _ (c .before .before .before .before .if1 .taken) in rw n (c .before .before .append-outside .ensures)
+returns c = let n = sym (c .before .before .before .before .before .is-outside .ensures) ∙ not-true _ (c .before .before .before .before .if1 .taken) in rw n (c .before .before .insert-outside .ensures)
 
 same-length-2 : tie.Need-same-length-2
 same-length-2 c = search needs
@@ -35,7 +35,7 @@ ack-outside-spec =
     tie.close
     (tie.spec
     is-outside-requires
-    append-outside-requires
+    insert-outside-requires
     same-length
     returns
     same-length-2
