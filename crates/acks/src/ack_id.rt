@@ -132,7 +132,7 @@ fn ack_here(store: &mut [u64], e: usize, d: usize, topic: u64, list: &[u64], at:
 }
 
 // Dispatcher `d` acknowledges the ids of a list, in order.
-pub fn ack_all(store: &mut [u64], e: usize, d: usize, topic: u64, list: &[u64])
+pub(crate) fn ack_all(store: &mut [u64], e: usize, d: usize, topic: u64, list: &[u64])
     requires { ⌜ Ackable e (now store) d topic × Stands (now list) 0 × (length (ack-groups (ledger-of (decode (now store)) topic) (dispatcher-nth (decode (now store)) d) (groups-from (now list) 0) .outside) ≤ 64) ⌝ }
     ensures { λ _. ⌜ now (store .exit) ≡ put (now (store .entry)) (set-dispatcher (decode (now (store .entry))) d (ack-groups (ledger-of (decode (now (store .entry))) topic) (dispatcher-nth (decode (now (store .entry))) d) (groups-from (now (list .entry)) 0))) ⌝ }
 {

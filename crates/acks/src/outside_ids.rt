@@ -31,7 +31,7 @@ fn in_ledger(store: &[u64], e: usize, topic: u64, list: &[u64], at: usize) -> bo
 }
 
 // Whether an id is among the outside ids of dispatcher `d`.
-pub fn is_outside(store: &[u64], e: usize, d: usize, ledger: u64, entry: u64) -> bool
+pub(crate) fn is_outside(store: &[u64], e: usize, d: usize, ledger: u64, entry: u64) -> bool
     requires { ⌜ Dispatcher-in e (now store) d ⌝ }
     ensures { λ r. ⌜ r ≡ is-outside (id-of ledger entry) (dispatcher-nth (decode (now (store .entry))) d) ⌝ }
 {
@@ -87,7 +87,7 @@ fn new_ids(store: &[u64], e: usize, d: usize, topic: u64, list: &[u64]) -> usize
 }
 
 // Whether more than 64 ids would stand outside the ledger after an ack of a list.
-pub fn passes_64(store: &[u64], e: usize, d: usize, topic: u64, list: &[u64]) -> bool
+pub(crate) fn passes_64(store: &[u64], e: usize, d: usize, topic: u64, list: &[u64]) -> bool
     requires { ⌜ Dispatcher-in e (now store) d × Stands (now list) 0 ⌝ }
     ensures { λ r. ⌜ r ≡ ltb 64 (length (ack-groups (ledger-of (decode (now (store .entry))) topic) (dispatcher-nth (decode (now (store .entry))) d) (groups-from (now (list .entry)) 0) .outside)) ⌝ }
 {

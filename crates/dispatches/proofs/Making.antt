@@ -20,9 +20,8 @@ use Rattle.rules.specs.Calls.{rule, value-number, answer-word}
 use Rattle.rules.specs.Calls.Call.{Push}
 use Rattle.layout.specs.Layout.{decode, spells}
 use Rattle.layout.specs.Calls.{outcome, answer, with-records, list-after}
-use Rattle.frame.proofs.Frame.{canon-of, valid-now}
-use Rattle.push.proofs.Whole.{push-same}
-use Rattle.pending.proofs.Pushing.{due-small}
+use Rattle.layout.proofs.FewDue.{few-due}
+use Rattle.frame.proofs.Frame.{valid-now}
 use Rattle.records.proofs.Filled.{flats-length}
 use Rattle.records.specs.declared.record.Dispatch as declared
 use Rattle.dispatches.specs.Listed.{records-in, dispatched, room, listed}
@@ -63,17 +62,14 @@ by-room r l s few true h = record { counted = told-done (length l) few; within =
 by-room r l s few false h = record { counted = told-short (length l); within = omega arith }
 
 module _ (ws : List ℕ) (r : ℕ) where
-  few-due : spells ws ≡ true → length (push-pending (decode ws) .dispatched) < 2 ^ 56
-  few-due spelt =
-      let same = ap (λ (p : Pushed). length (p .dispatched)) (push-same (decode ws) (valid-now ws spelt)) in
-      let small = due-small (decode ws) (canon-of (decode ws .entries) ws spelt refl .shaped) in
-      omega (arith, same, small)
+  few : spells ws ≡ true → length (push-pending (decode ws) .dispatched) < 2 ^ 56
+  few spelt = omega (arith, few-due (decode ws) (valid-now ws spelt))
 
   by-words : (b : Bool) → spells ws ≡ b → Pushing r (cond b (rule (decode ws) (Push r)) (refused 1))
   unfolding answer-word dispatched rule push
   by-words true h =
       let all : Pushed = push-pending (decode ws) in
-      by-room r (all .dispatched) (all .state) (few-due h) (leb (length (all .dispatched)) r) refl
+      by-room r (all .dispatched) (all .state) (few h) (leb (length (all .dispatched)) r) refl
   by-words false h = record { counted = refl; within = omega arith }
 
   pushing : Pushing r (outcome ws (Push r))
