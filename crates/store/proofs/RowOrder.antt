@@ -24,11 +24,6 @@ says-above : (a b c d : ℕ) → Says (pair-above a b c d) ((c < a) ⊎ ((a ≡ 
 unfolding pair-above
 says-above a b c d = says-or _ _ (says-ltb c a) (says-and _ _ (says-eqb a c) (says-ltb d b))
 
--- the second words decide nothing
-pub above-plain : (a b c d : ℕ) → (eqb a c && ltb d b) ≡ false → ltb c a ≡ pair-above a b c d
-unfolding pair-above
-above-plain a b c d e = rw e (sym (or-false (ltb c a)))
-
 -- the test where the first words are the same
 pub above-second : (a b c d : ℕ) → a ≡ c → ltb d b ≡ pair-above a b c d
 unfolding pair-above

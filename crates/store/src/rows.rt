@@ -81,14 +81,12 @@ pub fn two_among(store: &[u64], first: usize, width: usize, n: usize, a: u64, b:
 }
 
 // Whether two words are above another two: by the first words, or by the second where the first are
-// the same, which is asked first, as rows in order mostly share their first word.
+// the same.
 pub fn is_above(a: u64, b: u64, c: u64, d: u64) -> bool
     ensures { λ r. ⌜ r ≡ pair-above a b c d ⌝ }
 {
     if a == c {
-        if d < b {
-            return true;
-        }
+        return d < b;
     }
     c < a
 }

@@ -75,7 +75,8 @@ fn messages_valid(store: &[u64], e: usize, t: usize) -> bool
 }
 
 // Whether the n messages from `first` on, one at least, have batch sizes of at most 256 and ids that
-// ascend: then they are valid, and no id is looked for.
+// ascend: then they are valid, and no id is looked for. Most are of the same ledger as the last, which
+// is asked first.
 fn messages_ascend(store: &[u64], first: usize, n: usize) -> bool
     requires { ⌜ (1 ≤ n) × (first + n * 4 ≤ length (now store)) ⌝ }
     ensures { λ r. ⌜ r ≡ messages-ascend (now (store .entry)) first n ⌝ }
@@ -93,10 +94,16 @@ fn messages_ascend(store: &[u64], first: usize, n: usize) -> bool
         }
         let x = store[at];
         let y = store[at + 1];
-        if !is_above(x, y, ledger, entry) {
-            return false;
+        if x == ledger {
+            if y <= entry {
+                return false;
+            }
+        } else {
+            if x < ledger {
+                return false;
+            }
+            ledger = x;
         }
-        ledger = x;
         entry = y;
         m += 1;
     }

@@ -3,17 +3,18 @@
 use borrow.Author.Needs.{needs}
 use mathlib.Core.Path.{_≡_, refl, sym, ap, _∙_}
 use mathlib.Core.Bool.{Bool, true, false, _&&_, and-false}
+use mathlib.Core.Logic.{⊎-elim}
 use Prim.Native.Nat.{ℕ, _+_, _*_, _-_, _≤_}
 use native.Mathlib.Omega.{arith}
 use lib.Dec.{leb}
 use lib.ListN.{length, getD}
-use borrow.Author.Tests.{lt-leb, le-leb}
+use borrow.Author.Tests.{lt-leb, le-leb, lt-ltb, le-ltb}
 use Rattle.store.specs.Below.{each-below}
-use Rattle.store.specs.Rows.{row, row-second, two-ascends, twos-ascend}
+use Rattle.store.specs.Rows.{row, row-second, pair-above, two-ascends, twos-ascend}
 use Rattle.store.specs.Orders.{batch-right, messages-ascend}
 use Rattle.store.proofs.Below.{each-turn, each-stop, each-end}
-use Rattle.store.proofs.Spelt.{fails, passes, answered-no, answered-yes}
-use Rattle.store.proofs.RowOrder.{ascend-turn, ascend-next, row-none, second-none}
+use Rattle.store.proofs.Spelt.{fails, passes}
+use Rattle.store.proofs.RowOrder.{above-first, above-second, ascend-turn, ascend-next, row-none, second-none}
 use Rattle.store.proofs.valid_topics.messages_ascend.Statement.{statement}
 use Rattle.store.proofs.valid_topics.messages_ascend.Tie as tie
 
@@ -26,8 +27,8 @@ abbrev μ-loop : tie.MeasureT-loop
 μ-loop store first n ledger₀ entry₀ m₀ ledger entry m = n - m
 
 -- the first size
-first-size : (c : tie.After-shared-slice-known2 Inv-loop μ-loop) → batch-right (c .before .before .args .store .now) (c .before .before .args .first) 0 ≡ leb (getD (c .before .before .args .store .now) (c .before .before .args .first + 3) 0) 256
-first-size c = let e : c .before .before .args .first + 0 * 4 + 3 ≡ c .before .before .args .first + 3 = omega arith in ap (λ (k : ℕ). leb (getD (c .before .before .args .store .now) k 0) 256) e
+first-size : (c : tie.After-shared-slice-known Inv-loop μ-loop) → batch-right (c .before .args .store .now) (c .before .args .first) 0 ≡ leb (getD (c .before .args .store .now) (c .before .args .first + 3) 0) 256
+first-size c = let e : c .before .args .first + 0 * 4 + 3 ≡ c .before .args .first + 3 = omega arith in ap (λ (k : ℕ). leb (getD (c .before .args .store .now) k 0) 256) e
 
 add-if1 : tie.Need-add-if1 Inv-loop μ-loop
 add-if1 c = search needs
@@ -41,8 +42,8 @@ shared-slice-read-if1 c = search needs
 returns : tie.Need-returns Inv-loop μ-loop
 unfolding messages-ascend
 returns c =
-    let a = c .before .before .before .args in
-    fails _ (sym (each-stop (batch-right (a .store .now) (a .first)) (a .n) 0 (c .before .before .before .pre .0) (first-size (c .before) ∙ lt-leb _ 256 (c .if1 .taken))))
+    let a = c .before .before .args in
+    fails _ (sym (each-stop (batch-right (a .store .now) (a .first)) (a .n) 0 (c .before .before .pre .0) (first-size (c .before) ∙ lt-leb _ 256 (c .if1 .taken))))
 
 mul-ledger : tie.Need-mul-ledger Inv-loop μ-loop
 mul-ledger c = search needs
@@ -62,9 +63,9 @@ shared-slice-read-entry c = search needs
 loop-holds : tie.Need-loop-holds Inv-loop μ-loop
 unfolding each-below
 loop-holds c =
-    let x = c .before .before .before .before .before .args in (
+    let x = c .before .before .before .before .args in (
       omega arith,
-      c .before .before .before .before .before .pre .0,
+      c .before .before .before .before .pre .0,
       row-none (x .store .now) (x .first) 4,
       second-none (x .store .now) (x .first) 4,
       first-size (c .before .before .before) ∙ le-leb _ 256 (c .before .before .if1 .left),
@@ -89,7 +90,7 @@ shared-slice-read-if2 c = search needs
 returns-2 : tie.Need-returns-2 Inv-loop μ-loop
 unfolding messages-ascend
 returns-2 c =
-    let a = c .before .before .before .before .before .before .before .before .before .args in
+    let a = c .before .before .before .before .before .before .before .before .args in
     fails _ (sym (each-stop (batch-right (a .store .now) (a .first)) (a .n) (c .before .before .before .loop .m) (c .before .before .loop-test .taken) (lt-leb _ 256 (c .if2 .taken))))
 
 mul-x : tie.Need-mul-x Inv-loop μ-loop
@@ -107,20 +108,41 @@ mul-y c = search needs
 shared-slice-read-y : tie.Need-shared-slice-read-y Inv-loop μ-loop
 shared-slice-read-y c = search needs
 
-is-above-requires : tie.Need-is-above-requires Inv-loop μ-loop
-is-above-requires c κs = search needs
-
-returns-3 : tie.Need-returns-3 Inv-loop μ-loop
+-- an id that is not above the one before it
+refused : (c : tie.In-loop Inv-loop μ-loop)
+    → pair-above (row (c .before .before .before .before .before .before .args .store .now) (c .before .before .before .before .before .before .args .first) 4 (c .before .loop .m)) (row-second (c .before .before .before .before .before .before .args .store .now) (c .before .before .before .before .before .before .args .first) 4 (c .before .loop .m)) (c .before .loop .ledger) (c .before .loop .entry) ≡ false
+    → false ≡ messages-ascend (c .before .before .before .before .before .before .args .store .now) (c .before .before .before .before .before .before .args .first) (c .before .before .before .before .before .before .args .n)
 unfolding messages-ascend twos-ascend
-returns-3 c =
-    let x = c .before .before .before .before .before .before .before .before .before .before .before .before .before .args in
-    let l = c .before .before .before .before .before .before .before .loop in
+refused c f =
+    let x = c .before .before .before .before .before .before .args in
+    let l = c .before .loop in
     let h : 1 ≤ l .m = l .inv .0 in
-    let k = c .before .before .before .before .before .before .loop-test .taken in
+    let k = c .loop-test .taken in
     let no : each-below (two-ascends (x .store .now) (x .first) 4) (x .n - 1) ≡ false =
     sym (each-stop (two-ascends (x .store .now) (x .first) 4) (x .n - 1) (l .m - 1) (omega arith)
-    (ascend-turn (x .store .now) (x .first) 4 (l .m) (l .ledger) (l .entry) h (l .inv .2) (l .inv .3) (answered-no (c .before .is-above .ensures) (c .if3 .taken)))) in
+    (ascend-turn (x .store .now) (x .first) 4 (l .m) (l .ledger) (l .entry) h (l .inv .2) (l .inv .3) f)) in
     sym (ap (λ (t : Bool). each-below (batch-right (x .store .now) (x .first)) (x .n) && t) no ∙ and-false (each-below (batch-right (x .store .now) (x .first)) (x .n)))
+
+returns-3 : tie.Need-returns-3 Inv-loop μ-loop
+returns-3 c = refused (c .before .before .before .before .before .before) (sym (above-second _ _ _ _ (c .before .if3 .taken)) ∙ le-ltb _ _ (c .if4 .taken))
+
+returns-4 : tie.Need-returns-4 Inv-loop μ-loop
+returns-4 c =
+    let a = c .before .before .before .before .before .before .before .before .before .before .before .before .args in
+    let h = c .if5 .taken in
+    refused (c .before .before .before .before .before .before) (sym (above-first _ _ _ _ (c .before .if3 .left)) ∙ le-ltb (c .before .before .before .before .before .before .before .loop .ledger) (row (a .store .now) (a .first) 4 (c .before .before .before .before .before .before .before .loop .m)) (omega arith))
+
+-- past the tests the id is above the one before it, and is kept
+above : (c : tie.Joined3 Inv-loop μ-loop)
+    → (pair-above (row (c .before .before .before .before .before .before .before .before .before .before .before .args .store .now) (c .before .before .before .before .before .before .before .before .before .before .before .args .first) 4 (c .before .before .before .before .before .before .loop .m)) (row-second (c .before .before .before .before .before .before .before .before .before .before .before .args .store .now) (c .before .before .before .before .before .before .before .before .before .before .before .args .first) 4 (c .before .before .before .before .before .before .loop .m)) (c .before .before .before .before .before .before .loop .ledger) (c .before .before .before .before .before .before .loop .entry) ≡ true)
+    × (c .if3 .ledger ≡ row (c .before .before .before .before .before .before .before .before .before .before .before .args .store .now) (c .before .before .before .before .before .before .before .before .before .before .before .args .first) 4 (c .before .before .before .before .before .before .loop .m))
+above c =
+    let a = c .before .before .before .before .before .before .before .before .before .before .before .args in
+    let x : ℕ = row (a .store .now) (a .first) 4 (c .before .before .before .before .before .before .loop .m) in
+    ⊎-elim
+    (λ w. (sym (above-second _ _ _ _ (w .0 .taken)) ∙ lt-ltb _ _ (w .1 .left), w .2 ∙ sym (w .0 .taken)))
+    (λ w. (sym (above-first _ _ _ _ (w .0 .left)) ∙ lt-ltb (c .before .before .before .before .before .before .loop .ledger) x (omega (arith, w .0 .left, w .1 .left)), w .2))
+    (c .if3 .came)
 
 add-m : tie.Need-add-m Inv-loop μ-loop
 add-m c = search needs
@@ -130,23 +152,23 @@ loop-less c = search needs
 
 loop-again : tie.Need-loop-again Inv-loop μ-loop
 loop-again c =
-    let x = c .before .before .before .before .before .before .before .before .before .before .before .before .before .args in
-    let l = c .before .before .before .before .before .before .before .loop in
+    let x = c .before .before .before .before .before .before .before .before .before .before .before .args in
+    let l = c .before .before .before .before .before .before .loop in
     let e : l .m + 1 - 1 ≡ l .m = omega arith in (
       omega arith,
       omega arith,
+      rw e (above c .1),
       rw e,
-      rw e,
-      each-turn (batch-right (x .store .now) (x .first)) (l .m) (l .inv .4) (le-leb _ 256 (c .before .before .before .before .if2 .left)),
+      each-turn (batch-right (x .store .now) (x .first)) (l .m) (l .inv .4) (le-leb _ 256 (c .before .before .before .if2 .left)),
       rw e
           (ascend-next (x .store .now) (x .first) 4 (l .m) (l .inv .0) (l .inv .5)
-          (ascend-turn (x .store .now) (x .first) 4 (l .m) (l .ledger) (l .entry) (l .inv .0) (l .inv .2) (l .inv .3) (answered-yes (c .before .is-above .ensures) (c .if3 .left)))),
+          (ascend-turn (x .store .now) (x .first) 4 (l .m) (l .ledger) (l .entry) (l .inv .0) (l .inv .2) (l .inv .3) (above c .0))),
     )
 
-returns-4 : tie.Need-returns-4 Inv-loop μ-loop
+returns-5 : tie.Need-returns-5 Inv-loop μ-loop
 unfolding messages-ascend twos-ascend
-returns-4 c =
-    let x = c .before .before .before .before .before .before .before .args in
+returns-5 c =
+    let x = c .before .before .before .before .before .before .args in
     let l = c .before .loop in
     let k = c .loop-test .left in
     passes (sym (each-end (batch-right (x .store .now) (x .first)) (x .n) (l .m) (l .inv .1) k (l .inv .4)))
@@ -179,9 +201,9 @@ messages-ascend-spec =
     add-y
     mul-y
     shared-slice-read-y
-    is-above-requires
     returns-3
+    returns-4
     add-m
     loop-less
     loop-again
-    returns-4)
+    returns-5)
