@@ -5,7 +5,8 @@ use mathlib.Core.List.{List, [], _∷_, _++_}
 use lib.IntN.{ℤ}
 use lib.ListN.{replicate}
 use Rattle.rules.specs.Calls.{Call}
-use Rattle.rules.specs.Calls.Call.{Flow, Ack, Redeliver, Push}
+use Rattle.rules.specs.Commands.Target.{start}
+use Rattle.rules.specs.Calls.Call.{Flow, Ack, Seek, Redeliver, Close, Push}
 use Rattle.rules.specs.Readings.{pair-1, append-1, shared-1, then, entry-1, after, Row}
 use Rattle.rules.specs.Histories.Views.{pair-2, shared-2, plain-1, unknown-ids, again, three-entries, gives, seen, head, queue, flight, marks, stored, outsiders, own}
 
@@ -114,6 +115,8 @@ ack-rows =
     ∷ gives (then (three-of-7 ++ Ack 7 (1 ∷ 1 ∷ 0 ∷ []) ∷ []) (Ack 7 (1 ∷ 0 ∷ 0 ∷ []))) (0 ∷ 2 ∷ 1 ∷ [])
     ∷ gives (then (three-of-7 ++ Ack 7 (1 ∷ 0 ∷ 0 ∷ []) ∷ []) (Ack 7 [])) (0 ∷ 1 ∷ 0 ∷ [])
     ∷ gives (then acked-by-8 (Ack 7 (1 ∷ 2 ∷ 0 ∷ []))) (0 ∷ 3 ∷ 1 ∷ [])
+    -- and only in an ack: no other call moves it past an entry that was complete when it was appended
+    ∷ gives (seen (head pair-1) (shared-1 7 ∷ Ack 7 (3 ∷ 4 ∷ 0 ∷ []) ∷ append-1 3 4 0 ∷ append-1 3 5 0 ∷ Flow 7 5 ∷ Push 2 ∷ Redeliver 7 (3 ∷ 5 ∷ 0 ∷ []) ∷ Seek 7 start ∷ shared-1 8 ∷ Close 8 ∷ [])) (0 ∷ 2 ∷ 0 ∷ 3 ∷ [])
     -- another subscription has its own
     ∷ gives (seen (head pair-2) (three-of-7 ++ shared-2 8 ∷ Ack 7 (again 1) ∷ [])) (0 ∷ 0 ∷ 0 ∷ 0 ∷ [])
     ∷ gives (seen (marks pair-2) (append-1 1 0 3 ∷ shared-1 7 ∷ shared-2 8 ∷ Ack 7 (1 ∷ 0 ∷ 1 ∷ 5 ∷ []) ∷ [])) (0 ∷ 0 ∷ 0 ∷ [])

@@ -32,11 +32,15 @@ shared-rows =
     ∷ gives (handed (shared-1 7 ∷ shared-1 8 ∷ Flow 8 2 ∷ three-entries)) (8 ∷ 0 ∷ 8 ∷ 1 ∷ [])
     -- next is set even if no entry follows, from the last slot to 0
     ∷ gives (seen (head pair-1) (shared-1 7 ∷ shared-1 8 ∷ Flow 7 1 ∷ Flow 8 1 ∷ Push 0 ∷ Push 0 ∷ [])) (0 ∷ 0 ∷ 0 ∷ 2 ∷ [])
+    -- and where the ids from next on are passed over, to just after the one found by going round
+    ∷ gives (seen (head pair-1) (shared-1 7 ∷ shared-1 8 ∷ shared-1 9 ∷ Flow 7 2 ∷ Push 0 ∷ Push 0 ∷ [])) (1 ∷ 0 ∷ 0 ∷ 2 ∷ [])
     -- and where the last entry is handed out, once more
     ∷ gives (seen (head pair-1) (three-consumers ++ append-1 1 0 0 ∷ Push 1 ∷ [])) (2 ∷ 1 ∷ 0 ∷ 5 ∷ [])
     -- while the balance allows (above 0): none is sent and next stays, though consumers have permits
     ∷ gives (outcome-numbers (rule (after true false leaked) (Push 1))) (0 ∷ 0 ∷ [])
     ∷ row (head pair-1 (after true false (leaked ++ Push 1 ∷ []))) (pos 0 ∷ pos 0 ∷ pos 0 ∷ negℤ (pos 2) ∷ [])
+    -- at 0 too
+    ∷ gives (outcome-numbers (rule (after true false (shared-1 7 ∷ shared-1 8 ∷ Flow 7 1 ∷ Flow 8 1 ∷ Close 7 ∷ append-1 1 0 0 ∷ [])) (Push 1))) (0 ∷ 0 ∷ [])
     -- while the ring allows: here it is empty, the total 99 and an entry in the queue
     ∷ gives (outcome-numbers (rule (after true false (append-1 1 0 100 ∷ shared-1 7 ∷ Flow 7 1 ∷ Push 1 ∷ Close 7 ∷ [])) (Push 1))) (0 ∷ 0 ∷ [])
     -- a ring id that is not live is passed over

@@ -1,4 +1,5 @@
--- Which states a store may spell, sentence by sentence: a state at the limit that may be, and one past it that may not.
+-- Which states a store may spell, sentence by sentence: a state at the limit that may be, and one past it that may not. The
+-- widths of calls' arguments.
 use Prim.Native.Nat.{ℕ, suc, _+_, _-_, _^_}
 use mathlib.Core.Bool.{Bool, true, false}
 use mathlib.Core.List.{List, [], _∷_, map}
@@ -10,9 +11,11 @@ use Rattle.rules.specs.State.{Id, StoredMessage, Topic, Pair, Kind, Cons
 use Rattle.rules.specs.State.Kind.{plain, shared}
 use Rattle.rules.specs.Dispatcher.{of-parts, with-attached}
 use Rattle.rules.specs.Valid.{valid}
-use Rattle.rules.specs.Calls.{opened, bit-of}
+use Rattle.rules.specs.Commands.Target.{start, to-id}
+use Rattle.rules.specs.Calls.{Call, opened, fits, bit-of}
+use Rattle.rules.specs.Calls.Call.{Append, Subscribe, Flow, Ack, Seek, Redeliver, Close}
 use Rattle.rules.specs.Readings.{pair-1, Row}
-use Rattle.rules.specs.Histories.Views.{pair-2, message-id, message, down-from, gives, spelt-with, spelt-consumer}
+use Rattle.rules.specs.Histories.Views.{pair-2, message-id, message, append-to, down-from, gives, spelt-with, spelt-consumer}
 
 -- ---- rows
 
@@ -125,6 +128,7 @@ spelt-rows =
     -- at most 8 topics made by append, numbers distinct
     ∷ may (with-ledgers 1 (topics-to 8))
     ∷ may-not (with-ledgers 1 (topics-to 9))
+    ∷ may (with-ledgers 1 (topic-1 (message 1 0 0 0 ∷ []) ∷ record { number = 2; messages = message 1 0 0 0 ∷ [] } ∷ []))
     ∷ may-not (with-ledgers 1 (topic-1 [] ∷ []))
     ∷ may-not (with-ledgers 1 (topic-1 (message 1 0 0 0 ∷ []) ∷ topic-1 (message 1 1 0 0 ∷ []) ∷ []))
     -- at most E entries each, (ledger, entry) pairs distinct, batch size 0 to 256
@@ -143,7 +147,7 @@ spelt-rows =
     ∷ may-not (with-live-ones (live-ones plain (up-to 33)))
     ∷ may-not (with-live-ones (live-ones plain (7 ∷ 7 ∷ [])))
     ∷ may (with-live-ones (live-ones plain ((2 ^ 64 - 1) ∷ [])))
-    ∷ may-not (with-live-ones (live-ones plain (2 ^ 64 ∷ [])))
+    ∷ may-not (with-live-ones (live-ones plain ((2 ^ 64) ∷ [])))
     -- each state has just one spelling: by ascending id
     ∷ may-not (with-live-ones (live-ones plain (8 ∷ 7 ∷ [])))
     -- a balance from -255 to 2^40
@@ -178,7 +182,7 @@ spelt-dispatcher-rows =
     ∷ may-not (with-one 0 (ringed (down-from 33) 0))
     ∷ may-not (with-one 0 (ringed (7 ∷ 8 ∷ 7 ∷ []) 0))
     ∷ may-not (with-one 0 (ringed (down-from 32) 32))
-    ∷ may-not (with-one 0 (ringed (2 ^ 64 ∷ []) 0))
+    ∷ may-not (with-one 0 (ringed ((2 ^ 64) ∷ []) 0))
     ∷ may (with-one 0 (ringed [] 0))
     ∷ may-not (with-one 0 (ringed [] 1))
     -- balance within ±2^60
@@ -195,6 +199,7 @@ spelt-dispatcher-rows =
     ∷ may-not (placed 2 [] (held 8 1 ∷ []))
     -- a position below the cursor is in flight or queued at most once
     ∷ may (placed 2 (0 ∷ []) (held 7 1 ∷ []))
+    ∷ may (placed 2 (1 ∷ []) (held 7 0 ∷ []))
     ∷ may (placed 2 (1 ∷ 0 ∷ []) [])
     ∷ may-not (placed 2 (1 ∷ []) (held 7 1 ∷ []))
     ∷ may-not (placed 2 [] (held 7 1 ∷ held 7 1 ∷ []))
@@ -223,4 +228,24 @@ spelt-dispatcher-rows =
     ∷ may-not (with-outside (message-id 1 1 ∷ []))
     ∷ may-not (with-outside (message-id (2 ^ 64) 0 ∷ []))
     ∷ may-not (with-outside (message-id 9 (2 ^ 64) ∷ []))
+    ∷ []
+
+-- ---- widths
+
+-- whether a call's arguments have their widths
+abbrev pub fitting : List Call → List ℤ
+fitting calls = map (λ (x : Call). pos (bit-of (fits x))) calls
+
+-- the widths of a call's arguments
+unfoldable pub width-rows : List Row
+width-rows =
+    -- topic and subscription are bytes
+    gives (fitting (append-to 255 1 0 0 ∷ append-to 256 1 0 0 ∷ [])) (1 ∷ 0 ∷ [])
+    ∷ gives (fitting (Subscribe 7 plain (record { topic = 255; subscription = 255 }) ∷ Subscribe 7 plain (record { topic = 256; subscription = 0 }) ∷ Subscribe 7 plain (record { topic = 0; subscription = 256 }) ∷ [])) (1 ∷ 0 ∷ 0 ∷ [])
+    -- a grant has 32 bits
+    ∷ gives (fitting (Flow 7 (2 ^ 32 - 1) ∷ Flow 7 (2 ^ 32) ∷ [])) (1 ∷ 0 ∷ [])
+    -- ids, handles and words have 64; a batch size may be any such number, and gets 8
+    ∷ gives (fitting (Append 1 (message (2 ^ 64 - 1) (2 ^ 64 - 1) (2 ^ 64 - 1) (2 ^ 64 - 1)) ∷ Append 1 (message 0 0 (2 ^ 64) 0) ∷ append-to 1 0 0 (2 ^ 64) ∷ [])) (1 ∷ 0 ∷ 0 ∷ [])
+    ∷ gives (fitting (Close (2 ^ 64 - 1) ∷ Close (2 ^ 64) ∷ Ack 7 ((2 ^ 64 - 1) ∷ []) ∷ Ack 7 ((2 ^ 64) ∷ []) ∷ Redeliver 7 ((2 ^ 64 - 1) ∷ []) ∷ Redeliver 7 ((2 ^ 64) ∷ []) ∷ [])) (1 ∷ 0 ∷ 1 ∷ 0 ∷ 1 ∷ 0 ∷ [])
+    ∷ gives (fitting (Seek 7 start ∷ Seek 7 (to-id (message-id (2 ^ 64 - 1) 0)) ∷ Seek 7 (to-id (message-id 0 (2 ^ 64))) ∷ [])) (1 ∷ 1 ∷ 0 ∷ [])
     ∷ []
