@@ -4,26 +4,23 @@
 -- The five mistakes of a careful programmer are each told apart by a row: permits clamped at 0 (K6), a complete entry
 -- dropped from every holder (K10), next left alone on an idle push (K8), counts raised at close (K10, the record's count),
 -- mark-delete moved at append (K7, after the append).
-use Prim.Native.Nat.{ℕ, suc, _+_, _-_, _^_}
-use mathlib.Core.Path.{_≡_, refl}
+use Prim.Native.Nat.{ℕ, _+_, _-_, _^_}
 use mathlib.Core.Bool.{Bool, true, false}
 use mathlib.Core.List.{List, [], _∷_, _++_, map}
-use mathlib.Core.Option.{Option, none, some}
-use lib.IntN.{ℤ, pos, negℤ, subℕ}
+use lib.IntN.{ℤ, pos, negℤ}
 use lib.ListN.{length, replicate}
-use Rattle.bits.specs.Bits
-use Rattle.bits.specs.Bits.{fresh-unacked-bits, and-into, bits-empty, bits-cardinality, word-count}
+use Rattle.bits.specs.Bits.{fresh-unacked-bits, bits-cardinality, word-count}
 use Rattle.bits.specs.Four.{words}
 use Rattle.rules.specs.Permits.{reading}
-use Rattle.rules.specs.State.{StoredMessage, Pair, Consumer, Dispatcher, State, consumer-of, dispatcher}
+use Rattle.rules.specs.State.{Pair, State, dispatcher}
 use Rattle.rules.specs.State.Kind.{plain, shared}
 use Rattle.rules.specs.Dispatcher.{mark-at}
 use Rattle.rules.specs.Outcome.{Dispatch, Value, Outcome}
 use Rattle.rules.specs.Outcome.Outcome.{refused, short, done}
 use Rattle.rules.specs.Outcome.Value.{nothing, permits-after, mark-delete-after, cursor-after, closed, dispatches}
-use Rattle.rules.specs.Commands.Target.{start, to-id}
+use Rattle.rules.specs.Commands.Target.{to-id}
 use Rattle.rules.specs.Calls.{Call, rule, run, opened, bit-of}
-use Rattle.rules.specs.Calls.Call.{Append, Subscribe, Flow, Ack, Seek, Redeliver, Close, Push}
+use Rattle.rules.specs.Calls.Call.{Append, Subscribe, Flow, Ack, Seek, Close, Push}
 
 -- ---- how a reading is taken
 
