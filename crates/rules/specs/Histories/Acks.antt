@@ -1,13 +1,12 @@
 -- Histories of ack, and the form of a lent list.
 use Prim.Native.Nat.{ℕ, _-_, _^_}
-use mathlib.Core.Bool.{false}
 use mathlib.Core.List.{List, [], _∷_, _++_}
 use lib.IntN.{ℤ}
 use lib.ListN.{replicate}
 use Rattle.rules.specs.Calls.{Call}
 use Rattle.rules.specs.Commands.Target.{start}
 use Rattle.rules.specs.Calls.Call.{Flow, Ack, Seek, Redeliver, Close, Push}
-use Rattle.rules.specs.Readings.{pair-1, append-1, shared-1, then, entry-1, after, Row}
+use Rattle.rules.specs.Readings.{pair-1, append-1, shared-1, then, Row}
 use Rattle.rules.specs.Histories.Views.{pair-2, shared-2, plain-1, unknown-ids, again, three-entries, gives, seen, head, queue, flight, marks, stored, outsiders, own}
 
 -- ---- the form of a list

@@ -4,12 +4,12 @@ use mathlib.Core.Bool.{true, false}
 use mathlib.Core.List.{List, [], _∷_, _++_}
 use lib.IntN.{pos, negℤ}
 use Rattle.rules.specs.Permits.{zero-permits}
-use Rattle.rules.specs.State.{Pair, State, new-dispatcher}
+use Rattle.rules.specs.State.{State, new-dispatcher}
 use Rattle.rules.specs.State.Kind.{plain, shared}
 use Rattle.rules.specs.Dispatcher.{with-attached}
-use Rattle.rules.specs.Calls.{Call, rule}
-use Rattle.rules.specs.Calls.Call.{Subscribe, Flow, Redeliver, Close, Push}
-use Rattle.rules.specs.Readings.{pair-1, append-1, shared-1, after, then, outcome-numbers, Row, row}
+use Rattle.rules.specs.Calls.{Call}
+use Rattle.rules.specs.Calls.Call.{Flow, Redeliver, Close, Push}
+use Rattle.rules.specs.Readings.{pair-1, append-1, shared-1, after, then, Row, row}
 use Rattle.rules.specs.Histories.Views.{pair-2, shared-2, plain-1, three-entries, three-consumers, gives, seen, settings, ring, head, queue, flight, marks, own, on, then-seen, checked, spelt-with, spelt-consumer, spelt}
 
 -- ---- flow

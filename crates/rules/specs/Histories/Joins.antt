@@ -3,11 +3,10 @@ use Prim.Native.Nat.{ℕ, _%_}
 use mathlib.Core.Bool.{Bool, true, false}
 use mathlib.Core.List.{List, [], _∷_, _++_}
 use lib.IntN.{ℤ}
-use Rattle.rules.specs.State.{State}
 use Rattle.rules.specs.State.Kind.{plain, shared}
 use Rattle.rules.specs.Commands.Target.{to-id}
 use Rattle.rules.specs.Calls.{Call, rule, run, state-after, opened, opening}
-use Rattle.rules.specs.Calls.Call.{Append, Subscribe, Flow, Ack, Seek, Redeliver, Close, Push}
+use Rattle.rules.specs.Calls.Call.{Subscribe, Flow, Ack, Seek, Redeliver, Close, Push}
 use Rattle.rules.specs.Readings.{pair-1, append-1, shared-1, after, then, outcome-numbers, Row}
 use Rattle.rules.specs.Histories.Views.{pair-2, other-topic, message-id, append-to, shared-2, plain-1, each, unknown-ids, three-entries, full-ring, gives, seen, settings, ring, head, queue, flight, marks, outsiders, own, handed, on, spelt-ring}
 

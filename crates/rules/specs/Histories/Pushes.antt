@@ -3,13 +3,12 @@ use Prim.Native.Nat.{ℕ, _+_, _-_, _*_, _^_}
 use mathlib.Core.Bool.{true, false}
 use mathlib.Core.List.{List, [], _∷_, _++_}
 use lib.IntN.{ℤ, pos, negℤ}
-use Rattle.rules.specs.State.{State}
 use Rattle.rules.specs.State.Kind.{plain, shared}
 use Rattle.rules.specs.Commands.Target.{to-id}
 use Rattle.rules.specs.Calls.{Call, rule, answer-word}
 use Rattle.rules.specs.Calls.Call.{Append, Subscribe, Flow, Ack, Seek, Redeliver, Close, Push}
 use Rattle.rules.specs.Readings.{pair-1, append-1, shared-1, after, then, outcome-numbers, word-numbers, Row, row}
-use Rattle.rules.specs.Histories.Views.{pair-2, other-topic, message-id, message, append-to, shared-2, plain-1, again, three-entries, three-consumers, gives, seen, head, queue, flight, own, handed, set-words, flat-words}
+use Rattle.rules.specs.Histories.Views.{other-topic, message-id, message, append-to, shared-2, plain-1, again, three-entries, three-consumers, gives, seen, head, queue, flight, own, handed, set-words, flat-words}
 
 -- ---- the shared part
 

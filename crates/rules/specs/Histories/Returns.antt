@@ -9,7 +9,7 @@ use Rattle.rules.specs.State.Kind.{plain, shared}
 use Rattle.rules.specs.Commands.Target.{start, to-id}
 use Rattle.rules.specs.Calls.{Call, run}
 use Rattle.rules.specs.Calls.Call.{Subscribe, Flow, Ack, Seek, Redeliver, Push}
-use Rattle.rules.specs.Readings.{pair-1, append-1, shared-1, then, outcome-numbers, Row}
+use Rattle.rules.specs.Readings.{pair-1, append-1, shared-1, then, Row}
 use Rattle.rules.specs.Histories.Views.{pair-2, other-topic, message-id, shared-2, plain-1, again, three-entries, gives, seen, head, queue, flight, marks, stored, own, handed, then-seen, on, spelt}
 
 -- ---- redeliver

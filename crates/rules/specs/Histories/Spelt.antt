@@ -1,15 +1,15 @@
 -- Which states a store may spell, sentence by sentence: a state at the limit that may be, and one past it that may not. The
 -- widths of calls' arguments.
 use Prim.Native.Nat.{ℕ, suc, _+_, _-_, _^_}
-use mathlib.Core.Bool.{Bool, true, false}
+use mathlib.Core.Bool.{true, false}
 use mathlib.Core.List.{List, [], _∷_, map}
 use lib.IntN.{ℤ, pos}
 use lib.ListN.{replicate}
 use Rattle.bits.specs.declared.UnackedBits.{UnackedBits}
 use Rattle.rules.specs.Permits.{zero-permits}
-use Rattle.rules.specs.State.{Id, StoredMessage, Topic, Pair, Kind, Consumer, Mark, Held, Dispatcher, State, no-bits, new-mark, new-dispatcher}
+use Rattle.rules.specs.State.{Id, StoredMessage, Topic, Kind, Consumer, Mark, Held, Dispatcher, State, no-bits, new-mark, new-dispatcher}
 use Rattle.rules.specs.State.Kind.{plain, shared}
-use Rattle.rules.specs.Dispatcher.{of-parts, with-attached}
+use Rattle.rules.specs.Dispatcher.{of-parts}
 use Rattle.rules.specs.Valid.{valid}
 use Rattle.rules.specs.Commands.Target.{start, to-id}
 use Rattle.rules.specs.Calls.{Call, opened, fits, bit-of}

@@ -1,7 +1,6 @@
 -- `store::valid_marks::bits_below` meets its contract: each word is at most that of a full batch.
 use borrow.Author.Needs.{needs}
 use mathlib.Core.Path.{_≡_, refl, sym, _∙_}
-use native.Mathlib.Omega.{arith}
 use borrow.Author.Tests.{lt-leb, le-leb}
 use Rattle.bits.specs.Bits.{bits-below}
 use Rattle.bits.specs.Four.{words}
