@@ -14,7 +14,7 @@ use Rattle.rules.specs.Push.{choose-ready, first-ready, choose, slot-aft
 use Rattle.rules.specs.Valid.{is-byte, is-word, valid-id, valid-message, valid-topic, ascending, valid-consumer, valid-mark, valid-marks, valid-ring, valid-places, ascending-ids, valid-outside, valid-dispatcher, valid}
 use Rattle.rules.specs.Calls.{needed, opened, opening, rule, state-after, run, target-fits, fits, bit-of, value-number, answer-word}
 use Rattle.rules.specs.Readings.{record-numbers, all-record-numbers, value-numbers, outcome-numbers, then, entry-1, ring-1, word-numbers, readings}
-use Rattle.rules.specs.Histories.Views.{each, unknown-ids, down-from, again, settings, ring, head, queue, flight-numbers, flight, mark-numbers, marks, stored, outsiders, consumer-numbers, own, receivers, handed, set-words, flat-words, on, then-seen, checked}
+use Rattle.rules.specs.Histories.Views.{each, unknown-ids, down-from, again, settings, ring, head, queue, flight-numbers, flight, mark-numbers, marks, stored, id-numbers, outsiders, consumer-numbers, own, receivers, handed, set-words, flat-words, on, then-seen, checked}
 use Rattle.rules.specs.Histories.Joins.{open-rows, append-rows, subscribe-rows}
 use Rattle.rules.specs.Histories.Grants.{flow-rows, close-rows, balance-rows}
 use Rattle.rules.specs.Histories.Acks.{list-rows, ack-rows}
@@ -38,7 +38,7 @@ unfolding onesIn count-ones and-low fresh-unacked-bits and-into bits-empty bits-
     is-byte is-word valid-id valid-message valid-topic ascending valid-consumer valid-mark valid-marks valid-ring valid-places ascending-ids valid-outside valid-dispatcher valid
     needed opened opening rule state-after run target-fits fits bit-of value-number answer-word
     record-numbers all-record-numbers value-numbers outcome-numbers then entry-1 ring-1 word-numbers readings
-    each unknown-ids down-from again settings ring head queue flight-numbers flight mark-numbers marks stored outsiders consumer-numbers own receivers handed set-words flat-words on then-seen checked
+    each unknown-ids down-from again settings ring head queue flight-numbers flight mark-numbers marks stored id-numbers outsiders consumer-numbers own receivers handed set-words flat-words on then-seen checked
     open-rows append-rows subscribe-rows flow-rows close-rows balance-rows list-rows ack-rows
     redeliver-rows seek-rows shared-rows plain-rows word-rows up-to spelt-rows spelt-dispatcher-rows width-rows histories
 computes = 0

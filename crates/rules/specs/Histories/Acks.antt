@@ -92,8 +92,10 @@ ack-rows =
     ∷ gives (left-of 1 (Ack 7 (1 ∷ 0 ∷ 1 ∷ 1 ∷ []) ∷ [])) (0 ∷ 0 ∷ 0 ∷ 0 ∷ 1 ∷ [])
     ∷ gives (left-of 2 (Ack 7 (1 ∷ 0 ∷ 0 ∷ []) ∷ [])) (0 ∷ 0 ∷ 0 ∷ 0 ∷ 1 ∷ [])
     -- for an id not in the ledger complete, whatever its words, and once
-    ∷ gives (seen (outsiders pair-1) (append-1 1 0 3 ∷ shared-1 7 ∷ Ack 7 (1 ∷ 1 ∷ 1 ∷ 5 ∷ []) ∷ [])) (1 ∷ [])
-    ∷ gives (seen (outsiders pair-1) (shared-1 7 ∷ Ack 7 (3 ∷ 4 ∷ 0 ∷ 3 ∷ 4 ∷ 1 ∷ 5 ∷ 4 ∷ 3 ∷ 0 ∷ []) ∷ [])) (2 ∷ [])
+    ∷ gives (seen (outsiders pair-1) (append-1 1 0 3 ∷ shared-1 7 ∷ Ack 7 (1 ∷ 1 ∷ 1 ∷ 5 ∷ []) ∷ [])) (1 ∷ 1 ∷ [])
+    ∷ gives (seen (outsiders pair-1) (shared-1 7 ∷ Ack 7 (3 ∷ 4 ∷ 0 ∷ 3 ∷ 4 ∷ 1 ∷ 5 ∷ 4 ∷ 3 ∷ 0 ∷ []) ∷ [])) (3 ∷ 4 ∷ 4 ∷ 3 ∷ [])
+    -- it joins in its place among those that ascend, by ledger and then by entry
+    ∷ gives (seen (outsiders pair-1) (shared-1 7 ∷ Ack 7 (5 ∷ 4 ∷ 0 ∷ 3 ∷ 9 ∷ 0 ∷ 5 ∷ 2 ∷ 0 ∷ 4 ∷ 6 ∷ 0 ∷ 5 ∷ 8 ∷ 0 ∷ []) ∷ [])) (3 ∷ 9 ∷ 4 ∷ 6 ∷ 5 ∷ 2 ∷ 5 ∷ 4 ∷ 5 ∷ 8 ∷ [])
     -- completion drops the bits and lasts; a later partial ack makes fresh bits
     ∷ gives (left-of 3 (Ack 7 (1 ∷ 0 ∷ 1 ∷ 5 ∷ []) ∷ Ack 7 (1 ∷ 0 ∷ 0 ∷ []) ∷ [])) (0 ∷ 0 ∷ 0 ∷ 0 ∷ 1 ∷ [])
     ∷ gives (left-of 3 (Ack 7 (1 ∷ 0 ∷ 1 ∷ 1 ∷ []) ∷ Ack 7 (1 ∷ 0 ∷ 0 ∷ []) ∷ Ack 7 (1 ∷ 0 ∷ 1 ∷ 6 ∷ []) ∷ [])) (6 ∷ 0 ∷ 0 ∷ 0 ∷ 1 ∷ [])
@@ -125,7 +127,7 @@ ack-rows =
     -- a plain ack changes nothing: 0, no
     ∷ gives (then beside-plain (Ack 8 (1 ∷ 1 ∷ 0 ∷ []))) (0 ∷ 0 ∷ 0 ∷ [])
     ∷ gives (seen (marks pair-1) (beside-plain ++ Ack 8 (1 ∷ 1 ∷ 0 ∷ 3 ∷ 4 ∷ 0 ∷ []) ∷ [])) (0 ∷ 1 ∷ 0 ∷ 0 ∷ 0 ∷ 0 ∷ [])
-    ∷ gives (seen (outsiders pair-1) (beside-plain ++ Ack 8 (1 ∷ 1 ∷ 0 ∷ 3 ∷ 4 ∷ 0 ∷ []) ∷ [])) (0 ∷ [])
+    ∷ gives (seen (outsiders pair-1) (beside-plain ++ Ack 8 (1 ∷ 1 ∷ 0 ∷ 3 ∷ 4 ∷ 0 ∷ []) ∷ [])) []
     ∷ gives (seen (own 8) (beside-plain ++ Ack 8 (1 ∷ 1 ∷ 0 ∷ []) ∷ [])) (1 ∷ 1 ∷ 0 ∷ 3 ∷ 0 ∷ [])
     -- 11 if outside complete ids would pass 64: new ones count, once each, and those of the ledger don't
     ∷ gives (then (shared-1 7 ∷ []) (Ack 7 (unknown-ids 64))) (0 ∷ 0 ∷ 0 ∷ [])

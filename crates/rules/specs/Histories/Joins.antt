@@ -84,11 +84,11 @@ append-rows =
     ∷ gives (seen (marks other-topic) (Subscribe 7 shared other-topic ∷ append-1 1 0 5 ∷ [])) []
     -- a complete outside id now in the ledger stays complete and frees its place
     ∷ gives (seen (marks pair-1) (shared-1 7 ∷ Ack 7 (3 ∷ 4 ∷ 0 ∷ []) ∷ append-1 3 4 0 ∷ [])) (0 ∷ 1 ∷ 0 ∷ [])
-    ∷ gives (seen (outsiders pair-1) (shared-1 7 ∷ Ack 7 (3 ∷ 4 ∷ 0 ∷ 3 ∷ 5 ∷ 0 ∷ []) ∷ append-1 3 4 0 ∷ [])) (1 ∷ [])
+    ∷ gives (seen (outsiders pair-1) (shared-1 7 ∷ Ack 7 (3 ∷ 4 ∷ 0 ∷ 3 ∷ 5 ∷ 0 ∷ []) ∷ append-1 3 4 0 ∷ [])) (3 ∷ 5 ∷ [])
     ∷ gives (then (shared-1 7 ∷ Ack 7 (unknown-ids 64) ∷ append-1 9 5 0 ∷ []) (Ack 7 (8 ∷ 0 ∷ 0 ∷ []))) (0 ∷ 1 ∷ 1 ∷ [])
     ∷ gives (then (shared-1 7 ∷ Ack 7 (unknown-ids 64) ∷ append-1 9 5 0 ∷ Ack 7 (8 ∷ 0 ∷ 0 ∷ []) ∷ []) (Ack 7 (8 ∷ 1 ∷ 0 ∷ []))) (11 ∷ [])
     -- under that dispatcher alone: another topic's keeps the id outside, another subscription's has the entry unacknowledged
-    ∷ gives (seen (outsiders other-topic) (Subscribe 7 shared other-topic ∷ Ack 7 (3 ∷ 4 ∷ 0 ∷ []) ∷ append-1 3 4 0 ∷ [])) (1 ∷ [])
+    ∷ gives (seen (outsiders other-topic) (Subscribe 7 shared other-topic ∷ Ack 7 (3 ∷ 4 ∷ 0 ∷ []) ∷ append-1 3 4 0 ∷ [])) (3 ∷ 4 ∷ [])
     ∷ gives (seen (marks pair-2) (shared-1 7 ∷ shared-2 8 ∷ Ack 7 (3 ∷ 4 ∷ 0 ∷ []) ∷ append-1 3 4 0 ∷ [])) (0 ∷ 0 ∷ 0 ∷ [])
     ∷ []
 

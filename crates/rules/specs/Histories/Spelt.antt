@@ -225,6 +225,11 @@ spelt-dispatcher-rows =
     ∷ may (with-outside (map (λ (n : ℕ). message-id 9 n) (up-to 64)))
     ∷ may-not (with-outside (map (λ (n : ℕ). message-id 9 n) (up-to 65)))
     ∷ may-not (with-outside (message-id 9 1 ∷ message-id 9 1 ∷ []))
+    -- one spelling of each set of ids: ascending by ledger, then by entry
+    ∷ may (with-outside (message-id 8 5 ∷ message-id 9 1 ∷ message-id 9 2 ∷ []))
+    ∷ may-not (with-outside (message-id 9 2 ∷ message-id 9 1 ∷ []))
+    ∷ may-not (with-outside (message-id 9 1 ∷ message-id 8 5 ∷ []))
+    ∷ may-not (with-outside (message-id 8 5 ∷ message-id 9 2 ∷ message-id 9 1 ∷ []))
     ∷ may-not (with-outside (message-id 1 1 ∷ []))
     ∷ may-not (with-outside (message-id (2 ^ 64) 0 ∷ []))
     ∷ may-not (with-outside (message-id 9 (2 ^ 64) ∷ []))

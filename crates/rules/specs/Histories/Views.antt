@@ -137,9 +137,14 @@ stored s =
     let m = mark-at (dispatcher s pair-1) 0 in
     word-numbers (words (m .acked .unacked)) ++ pos (bit-of (m .acked .complete)) ∷ []
 
--- how many complete ids outside the ledger a dispatcher has
+-- ids: ledger and entry of each
+unfoldable pub id-numbers : List Id → List ℤ
+id-numbers [] = []
+id-numbers (i ∷ l) = pos (i .ledger) ∷ pos (i .entry) ∷ id-numbers l
+
+-- the complete ids outside the ledger that a dispatcher has
 unfoldable pub outsiders : Pair → State → List ℤ
-outsiders p s = pos (length (dispatcher s p .outside)) ∷ []
+outsiders p s = id-numbers (dispatcher s p .outside)
 
 -- a live consumer: topic, subscription, kind, permits, cursor, nacked
 unfoldable pub consumer-numbers : Option Consumer → List ℤ
