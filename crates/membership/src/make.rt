@@ -6,7 +6,6 @@ ghost use mathlib.Core.Path.{_≡_};
 ghost use mathlib.Core.List.{_++_, _∷_, []};
 ghost use Prim.Native.Nat.{_≤_, _<_};
 ghost use lib.ListN.{length};
-ghost use Rattle.words.specs.Codec.{bit};
 ghost use Rattle.rules.specs.State.{new-dispatcher, with-dispatchers};
 ghost use Rattle.rules.specs.Commands.{new-consumer};
 ghost use Rattle.layout.specs.Layout.{decode, put};

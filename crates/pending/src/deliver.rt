@@ -18,7 +18,7 @@ ghost use Rattle.bits.specs.Four.{words};
 ghost use Rattle.rules.specs.Dispatcher.{with-places};
 ghost use Rattle.rules.specs.Push.{flat};
 ghost use Rattle.layout.specs.Layout.{decode, put};
-ghost use Rattle.layout.specs.Fields.{consumer-nth, dispatcher-nth, set-dispatcher};
+ghost use Rattle.layout.specs.Fields.{dispatcher-nth, set-dispatcher};
 ghost use Rattle.push.specs.Local.{fixed-of};
 ghost use Rattle.push.specs.Applied.{record-to, record-of, held-of};
 ghost use Rattle.records.specs.Flat.{filled, record-words};

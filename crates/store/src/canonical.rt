@@ -164,7 +164,7 @@ fn dispatchers_canonical(store: &[u64], e: usize) -> bool
 }
 
 // The body of a store of `e` entries: its tables are in order, the reserved words are 0.
-pub fn body_canonical(store: &[u64], e: usize) -> bool
+pub(crate) fn body_canonical(store: &[u64], e: usize) -> bool
     requires { ⌜ (e ≤ 4096) × (4096 + 128 * e ≤ length (now store)) ⌝ }
     ensures { λ r. ⌜ r ≡ canonical (body-codec e) (drop 16 (now (store .entry))) ⌝ }
 {

@@ -5,7 +5,7 @@ ghost use mathlib.Core.Path.{_≡_};
 ghost use Rattle.layout.specs.Check.{header-right};
 
 // Whether the header is there: the tag, E in its range, two switches, the rest 0.
-pub fn header_right(store: &[u64]) -> bool
+pub(crate) fn header_right(store: &[u64]) -> bool
     ensures { λ r. ⌜ r ≡ header-right (now (store .entry)) ⌝ }
 {
     if store.len() < 16 {

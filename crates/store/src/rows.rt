@@ -10,7 +10,7 @@ ghost use Rattle.store.specs.Below.{each-below};
 ghost use Rattle.store.specs.Rows.{row, among, first-row, rows-distinct, two-among, twos-distinct, pair-above, above-last, twos-ascend};
 
 // A row that starts with a word: the first such row, or the number of rows where there is none.
-pub fn row_of(store: &[u64], first: usize, width: usize, n: usize, a: u64) -> usize
+pub(crate) fn row_of(store: &[u64], first: usize, width: usize, n: usize, a: u64) -> usize
     requires { ⌜ (1 ≤ width) × (first + n * width ≤ length (now store)) ⌝ }
     ensures { λ r. ⌜ r ≡ first-row (now (store .entry)) first width n a ⌝ }
 {
@@ -45,7 +45,7 @@ fn greater(a: u64, b: u64) -> u64
 
 // Whether no two rows start with the same word. A word above all before it is not compared, so that
 // ascending rows are passed over once.
-pub fn rows_distinct(store: &[u64], first: usize, width: usize, n: usize) -> bool
+pub(crate) fn rows_distinct(store: &[u64], first: usize, width: usize, n: usize) -> bool
     requires { ⌜ (1 ≤ width) × (first + n * width ≤ length (now store)) ⌝ }
     ensures { λ r. ⌜ r ≡ rows-distinct (now (store .entry)) first width n ⌝ }
 {
@@ -63,7 +63,7 @@ pub fn rows_distinct(store: &[u64], first: usize, width: usize, n: usize) -> boo
 }
 
 // Whether one of the rows starts with two words.
-pub fn two_among(store: &[u64], first: usize, width: usize, n: usize, a: u64, b: u64) -> bool
+pub(crate) fn two_among(store: &[u64], first: usize, width: usize, n: usize, a: u64, b: u64) -> bool
     requires { ⌜ (2 ≤ width) × (first + n * width ≤ length (now store)) ⌝ }
     ensures { λ r. ⌜ r ≡ two-among (now (store .entry)) first width n a b ⌝ }
 {
@@ -82,7 +82,7 @@ pub fn two_among(store: &[u64], first: usize, width: usize, n: usize, a: u64, b:
 
 // Whether two words are above another two: by the first words, or by the second where the first are
 // the same.
-pub fn is_above(a: u64, b: u64, c: u64, d: u64) -> bool
+pub(crate) fn is_above(a: u64, b: u64, c: u64, d: u64) -> bool
     ensures { λ r. ⌜ r ≡ pair-above a b c d ⌝ }
 {
     if a == c {
@@ -93,7 +93,7 @@ pub fn is_above(a: u64, b: u64, c: u64, d: u64) -> bool
 
 // Whether no two rows start with the same two words. Two words above all before them are not compared,
 // so that ascending rows are passed over once.
-pub fn twos_distinct(store: &[u64], first: usize, width: usize, n: usize) -> bool
+pub(crate) fn twos_distinct(store: &[u64], first: usize, width: usize, n: usize) -> bool
     requires { ⌜ (2 ≤ width) × (first + n * width ≤ length (now store)) ⌝ }
     ensures { λ r. ⌜ r ≡ twos-distinct (now (store .entry)) first width n ⌝ }
 {
@@ -116,7 +116,7 @@ pub fn twos_distinct(store: &[u64], first: usize, width: usize, n: usize) -> boo
 }
 
 // Whether the rows ascend by their two words.
-pub fn twos_ascend(store: &[u64], first: usize, width: usize, n: usize) -> bool
+pub(crate) fn twos_ascend(store: &[u64], first: usize, width: usize, n: usize) -> bool
     requires { ⌜ (2 ≤ width) × (first + n * width ≤ length (now store)) ⌝ }
     ensures { λ r. ⌜ r ≡ twos-ascend (now (store .entry)) first width n ⌝ }
 {
@@ -164,7 +164,14 @@ fn two_searched(store: &[u64], first: usize, width: usize, n: usize, a: u64, b: 
 }
 
 // Whether two words are above those of the last row.
-pub fn above_last(store: &[u64], first: usize, width: usize, n: usize, a: u64, b: u64) -> bool
+pub(crate) fn above_last(
+    store: &[u64],
+    first: usize,
+    width: usize,
+    n: usize,
+    a: u64,
+    b: u64,
+) -> bool
     requires { ⌜ (2 ≤ width) × (first + n * width ≤ length (now store)) ⌝ }
     ensures { λ r. ⌜ r ≡ above-last (now (store .entry)) first width n a b ⌝ }
 {
@@ -177,7 +184,7 @@ pub fn above_last(store: &[u64], first: usize, width: usize, n: usize, a: u64, b
 
 // Whether one of the rows starts with two words, where it may be known that they ascend. Words above
 // the last of ascending rows are not searched for.
-pub fn two_found(
+pub(crate) fn two_found(
     store: &[u64],
     first: usize,
     width: usize,

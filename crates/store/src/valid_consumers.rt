@@ -109,7 +109,7 @@ fn id_ascends(store: &[u64], e: usize, i: usize) -> bool
 }
 
 // Whether the consumers are valid and their ids ascend.
-pub fn consumers_valid(store: &[u64], e: usize) -> bool
+pub(crate) fn consumers_valid(store: &[u64], e: usize) -> bool
     requires { ⌜ Canon-store e (now store) ⌝ }
     ensures { λ r. ⌜ r ≡ (ascending (decode (now (store .entry)) .consumers) && all (valid-consumer (decode (now (store .entry)))) (decode (now (store .entry)) .consumers)) ⌝ }
 {

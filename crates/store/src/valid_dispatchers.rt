@@ -161,7 +161,7 @@ fn each_valid(store: &[u64], e: usize, n: usize, orders: &[u8], stamps: &mut [u8
 }
 
 // The dispatchers of a store.
-pub fn dispatchers_valid(store: &[u64], e: usize, orders: &[u8]) -> bool
+pub(crate) fn dispatchers_valid(store: &[u64], e: usize, orders: &[u8]) -> bool
     requires canon { ⌜ Canon-store e (now store) ⌝ }
     requires orders { ⌜ (length (now orders) ≡ 9) × Known e (now store) (now orders) ⌝ }
     ensures { λ r. ⌜ r ≡ dispatchers-right (decode (now (store .entry))) ⌝ }

@@ -64,7 +64,13 @@ fn joined(bits: UnackedBits, store: &[u64], at: usize) -> UnackedBits
 // Whether n marks are one for each entry, and each suits its entry. The marks of entries that follow
 // each other and have one batch size are or-ed together and tested once: no count or-ed is too great,
 // and no bit too high, unless one mark's is.
-pub fn marks_valid(store: &[u64], ledger: usize, entries: usize, first: usize, n: usize) -> bool
+pub(crate) fn marks_valid(
+    store: &[u64],
+    ledger: usize,
+    entries: usize,
+    first: usize,
+    n: usize,
+) -> bool
     requires { ⌜ (ledger + entries * 4 ≤ length (now store)) × (first + entries * 6 ≤ length (now store)) ⌝ }
     ensures { λ r. ⌜ r ≡ marks-right (now (store .entry)) ledger entries first n ⌝ }
 {
@@ -129,7 +135,13 @@ fn ids_absent(
 }
 
 // Whether the outside ids of the dispatcher at `at` ascend and none stands in the ledger.
-pub fn outside_valid(store: &[u64], at: usize, ledger: usize, entries: usize, ascend: bool) -> bool
+pub(crate) fn outside_valid(
+    store: &[u64],
+    at: usize,
+    ledger: usize,
+    entries: usize,
+    ascend: bool,
+) -> bool
     requires room { ⌜ (getD (now store) (at + 44) 0 ≤ 64) × (at + 176 ≤ length (now store)) × (ledger + entries * 4 ≤ length (now store)) ⌝ }
     requires ascend { ⌜ (ascend ≡ true → twos-ascend (now store) ledger 4 entries ≡ true) ⌝ }
     ensures { λ r. ⌜ r ≡ outside-right (now (store .entry)) at ledger entries ⌝ }

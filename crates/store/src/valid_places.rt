@@ -91,7 +91,7 @@ fn places_fresh(
 }
 
 // Whether the places of the dispatcher at `at` are right.
-pub fn places_valid(store: &[u64], e: usize, at: usize, stamps: &mut [u8], stamp: u8) -> bool
+pub(crate) fn places_valid(store: &[u64], e: usize, at: usize, stamps: &mut [u8], stamp: u8) -> bool
     requires room { ⌜ Dispatcher-room e (now store) at ⌝ }
     requires cursor { ⌜ getD (now store) (at + 3) 0 ≤ length (now stamps) ⌝ }
     requires under { ⌜ Under (now stamps) stamp ⌝ }

@@ -130,7 +130,7 @@ fn topic_order(store: &[u64], e: usize, t: usize) -> u8
 
 // Whether the topics are valid and their numbers distinct: each is found at its own slot. What each is
 // known as stands in `orders` then.
-pub fn topics_valid(store: &[u64], e: usize, orders: &mut [u8]) -> bool
+pub(crate) fn topics_valid(store: &[u64], e: usize, orders: &mut [u8]) -> bool
     requires canon { ⌜ Canon-store e (now store) ⌝ }
     requires orders { ⌜ (length (now orders) ≡ 9) × Known e (now store) (now orders) ⌝ }
     ensures { λ r. ⌜ Ordered e (now (store .entry)) (now (orders .exit)) r (distinct eqb (map (λ (t : Topic). t .number) (decode (now (store .entry)) .topics)) && all (valid-topic e) (decode (now (store .entry)) .topics)) ⌝ }
