@@ -180,10 +180,17 @@ fn waiting(entries: u64, queued: bool) -> World {
     world
 }
 
-/// The bare pass: every word read once.
+/// The bare pass: every word read once, eight in a turn, so that it does not matter where in memory
+/// the compiler puts the loop.
 #[inline(never)]
 fn pass(words: &[u64]) -> u64 {
-    words.iter().fold(0, |all, word| all | word)
+    let eights = words.chunks_exact(8);
+    let rest = eights.remainder().iter().fold(0, |all, word| all | word);
+    let mut all = [0; 8];
+    for eight in eights {
+        all.iter_mut().zip(eight).for_each(|(all, word)| *all |= word);
+    }
+    all.iter().fold(rest, |all, word| all | word)
 }
 
 /// Makes a call; ack and redeliver read `lent`, push writes it.

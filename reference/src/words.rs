@@ -62,7 +62,10 @@ fn dispatcher(words: &mut [u64], entries: usize, d: &Dispatcher) {
         permits(d.total_available_permits),
     ]);
     put(words, 11, d.attached.iter().map(|id| [*id]));
-    put(words, 44, d.outside.iter().map(|(ledger, entry)| [*ledger, *entry]));
+    // A set, which has one spelling: ascending.
+    let mut outside = d.outside.clone();
+    outside.sort_unstable();
+    put(words, 44, outside.iter().map(|(ledger, entry)| [*ledger, *entry]));
     put(words, 173, d.redelivery.iter().map(place));
     put(words, 174 + entries, d.in_flight.iter().map(|(holder, p)| [*holder, *p as u64]));
     put(words, 175 + 3 * entries, d.marks.iter().map(mark));

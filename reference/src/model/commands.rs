@@ -36,13 +36,6 @@ impl Dispatcher {
         }
     }
 
-    /// An id outside the ledger becomes complete, in its place among the others.
-    fn complete_outside(&mut self, id: (u64, u64)) {
-        if let Err(place) = self.outside.binary_search(&id) {
-            self.outside.insert(place, id);
-        }
-    }
-
     fn complete(&mut self, position: usize) {
         self.marks[position].bits = None;
         self.marks[position].fully_acked = true;
@@ -137,8 +130,9 @@ impl Model {
         let id = (group.ledger, group.entry);
         let topic = self.dispatchers[d].topic;
         let Some(position) = self.position(topic, id) else {
-            if !self.wrong(Mutation::UnknownNotComplete) {
-                self.dispatchers[d].complete_outside(id);
+            let outside = &self.dispatchers[d].outside;
+            if !outside.contains(&id) && !self.wrong(Mutation::UnknownNotComplete) {
+                self.dispatchers[d].outside.push(id);
             }
             return;
         };

@@ -63,7 +63,7 @@ pub struct Dispatcher {
     /// (holder, position), in dispatch order.
     pub in_flight: Vec<(u64, usize)>,
     pub marks: Vec<Mark>,
-    /// Complete ids outside the ledger, ascending.
+    /// Complete ids outside the ledger, a set: in the order in which they came.
     pub outside: Vec<(u64, u64)>,
 }
 
