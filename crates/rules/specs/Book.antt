@@ -59,7 +59,8 @@ updated same f k a j = cond (same j k) a (f j)
 -- ---- a book with one thing changed
 
 -- the book of these pages
-abbrev pub of-pages : (ℕ → List StoredMessage) → List Pair → (ℕ → Who) → (Pair → List ℕ) → (Pair → Id → Bool) → (Pair → Id → Acked) → Book
+abbrev pub of-pages : (ℕ → List StoredMessage) → List Pair → (ℕ → Who) → (Pair → List ℕ) → (Pair → Id → Bool)
+    → (Pair → Id → Acked) → Book
 of-pages topics pairs who attached handed-out acked =
     record { topics = topics; pairs = pairs; who = who; attached = attached; handed-out = handed-out; acked = acked }
 
@@ -81,7 +82,8 @@ with-pair b p = of-pages (b .topics) (cond (any (same-pair p) (b .pairs)) (b .pa
 
 -- an id that was handed out for a pair
 unfoldable pub with-handed-out : Book → Pair → Id → Book
-with-handed-out b p i = of-pages (b .topics) (b .pairs) (b .who) (b .attached) (updated same-pair (b .handed-out) p (updated same-id (b .handed-out p) i true)) (b .acked)
+with-handed-out b p i =
+    of-pages (b .topics) (b .pairs) (b .who) (b .attached) (updated same-pair (b .handed-out) p (updated same-id (b .handed-out p) i true)) (b .acked)
 
 -- how far ids are acknowledged for a pair
 unfoldable pub with-acked : Book → Pair → (Id → Acked) → Book

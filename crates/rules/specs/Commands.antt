@@ -8,9 +8,12 @@ use lib.Dec.{eqb, leb, ltb}
 use lib.ListN.{length, set}
 use Rattle.rules.specs.Permits.{zero-permits, less, most-permits, most-total, total-in-range}
 use Rattle.rules.specs.Table.{put, keep, any, member, is-empty, is-some}
-use Rattle.rules.specs.State.{Id, same-id, StoredMessage, Pair, Kind, by-kind, Consumer, Mark, Held, Dispatcher, State, completed, unacknowledged, by-number, topic-of, consumer-of, dispatcher-of, ledger-of, dispatcher, with-topics, with-consumers, with-dispatchers, put-consumer, put-dispatcher}
+use Rattle.rules.specs.State.{Id, same-id, StoredMessage, Pair, Kind, by-kind, Consumer, Mark, Held, Dispatcher, State, completed, unacknowledged}
+use Rattle.rules.specs.State.{by-number, topic-of, consumer-of, dispatcher-of, ledger-of, dispatcher, with-topics, with-consumers, with-dispatchers}
+use Rattle.rules.specs.State.{put-consumer, put-dispatcher}
 use Rattle.rules.specs.Ledger.{position-of, holds-id, seek-position, appended}
-use Rattle.rules.specs.Dispatcher.{with-attached, with-next, with-total, with-places, with-marks, held-by, without-holder, is-hold, mark-at, is-outside, ack-id, drop-complete, advance-mark-delete}
+use Rattle.rules.specs.Dispatcher.{with-attached, with-next, with-total, with-places, with-marks, held-by, without-holder, is-hold, mark-at, is-outside}
+use Rattle.rules.specs.Dispatcher.{ack-id, drop-complete, advance-mark-delete}
 use Rattle.rules.specs.Groups.{Group, groups}
 use Rattle.rules.specs.Outcome.{Outcome, guard, with-live}
 use Rattle.rules.specs.Outcome.Outcome.{refused, done}

@@ -11,7 +11,8 @@ use Rattle.bits.specs.Bits.{fresh-unacked-bits, and-into, bits-empty, bits-card
 use Rattle.bits.specs.Four.{words, four}
 use Rattle.rules.specs.Permits.{zero-permits, above-zero}
 use Rattle.rules.specs.Table.{keep, any, is-empty}
-use Rattle.rules.specs.State.{Id, same-id, StoredMessage, Pair, same-pair, by-kind, Consumer, Acked, Mark, Held, Dispatcher, State, completed, new-mark, consumer-of}
+use Rattle.rules.specs.State.{Id, same-id, StoredMessage, Pair, same-pair, by-kind, Consumer, Acked, Mark, Held, Dispatcher, State, completed, new-mark}
+use Rattle.rules.specs.State.{consumer-of}
 use Rattle.rules.specs.Ledger.{position-of, batch-size-of, insert-id}
 
 -- ---- a dispatcher with some of its parts changed
@@ -34,19 +35,23 @@ of-parts pair ring next cursor mark-delete total queue held marks ids =
 
 -- another ring
 unfoldable pub with-attached : Dispatcher → List ℕ → Dispatcher
-with-attached d l = of-parts (d .pair) l (d .next) (d .cursor) (d .mark-delete) (d .total-available-permits) (d .redelivery) (d .in-flight) (d .marks) (d .outside)
+with-attached d l =
+    of-parts (d .pair) l (d .next) (d .cursor) (d .mark-delete) (d .total-available-permits) (d .redelivery) (d .in-flight) (d .marks) (d .outside)
 
 -- another next slot
 unfoldable pub with-next : Dispatcher → ℕ → Dispatcher
-with-next d n = of-parts (d .pair) (d .attached) n (d .cursor) (d .mark-delete) (d .total-available-permits) (d .redelivery) (d .in-flight) (d .marks) (d .outside)
+with-next d n =
+    of-parts (d .pair) (d .attached) n (d .cursor) (d .mark-delete) (d .total-available-permits) (d .redelivery) (d .in-flight) (d .marks) (d .outside)
 
 -- another cursor
 unfoldable pub with-cursor : Dispatcher → ℕ → Dispatcher
-with-cursor d n = of-parts (d .pair) (d .attached) (d .next) n (d .mark-delete) (d .total-available-permits) (d .redelivery) (d .in-flight) (d .marks) (d .outside)
+with-cursor d n =
+    of-parts (d .pair) (d .attached) (d .next) n (d .mark-delete) (d .total-available-permits) (d .redelivery) (d .in-flight) (d .marks) (d .outside)
 
 -- another mark-delete
 unfoldable pub with-mark-delete : Dispatcher → ℕ → Dispatcher
-with-mark-delete d n = of-parts (d .pair) (d .attached) (d .next) (d .cursor) n (d .total-available-permits) (d .redelivery) (d .in-flight) (d .marks) (d .outside)
+with-mark-delete d n =
+    of-parts (d .pair) (d .attached) (d .next) (d .cursor) n (d .total-available-permits) (d .redelivery) (d .in-flight) (d .marks) (d .outside)
 
 -- another total of permits
 unfoldable pub with-total : Dispatcher → ℕ → Dispatcher
@@ -54,11 +59,13 @@ with-total d n = of-parts (d .pair) (d .attached) (d .next) (d .cursor) (d .mark
 
 -- another queue and other held entries
 unfoldable pub with-places : Dispatcher → List ℕ → List Held → Dispatcher
-with-places d queue held = of-parts (d .pair) (d .attached) (d .next) (d .cursor) (d .mark-delete) (d .total-available-permits) queue held (d .marks) (d .outside)
+with-places d queue held =
+    of-parts (d .pair) (d .attached) (d .next) (d .cursor) (d .mark-delete) (d .total-available-permits) queue held (d .marks) (d .outside)
 
 -- other marks and other complete ids outside the ledger
 unfoldable pub with-marks : Dispatcher → List Mark → List Id → Dispatcher
-with-marks d marks ids = of-parts (d .pair) (d .attached) (d .next) (d .cursor) (d .mark-delete) (d .total-available-permits) (d .redelivery) (d .in-flight) marks ids
+with-marks d marks ids =
+    of-parts (d .pair) (d .attached) (d .next) (d .cursor) (d .mark-delete) (d .total-available-permits) (d .redelivery) (d .in-flight) marks ids
 
 -- ---- what consumers hold
 

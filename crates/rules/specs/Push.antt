@@ -11,7 +11,8 @@ use Rattle.bits.specs.Bits.{bits-empty, word-count}
 use Rattle.bits.specs.Four.{words}
 use Rattle.rules.specs.Permits.{above-zero}
 use Rattle.rules.specs.Table.{is-empty}
-use Rattle.rules.specs.State.{StoredMessage, Pair, by-kind, Consumer, Mark, Dispatcher, State, no-bits, consumer-of, ledger-of, dispatcher, put-consumer, put-dispatcher}
+use Rattle.rules.specs.State.{StoredMessage, Pair, by-kind, Consumer, Mark, Dispatcher, State, no-bits, consumer-of, ledger-of, dispatcher}
+use Rattle.rules.specs.State.{put-consumer, put-dispatcher}
 use Rattle.rules.specs.Ledger.{message-at}
 use Rattle.rules.specs.Dispatcher.{with-next, with-cursor, with-total, with-places, mark-at, dispatch-gate-open, cost}
 use Rattle.rules.specs.Outcome.{Dispatch, Outcome}

@@ -107,13 +107,17 @@ readings =
     ∷ row (word-numbers (fresh-unacked-bits (word-count 1) 1)) (pos 1 ∷ [])
     -- K3 batch 3, words 5: 2 left; then 2: complete
     ∷ row (entry-1 0 (after false false (append-1 1 0 3 ∷ shared-1 7 ∷ Ack 7 (1 ∷ 0 ∷ 1 ∷ 5 ∷ []) ∷ []))) (pos 2 ∷ pos 0 ∷ pos 0 ∷ [])
-    ∷ row (entry-1 0 (after false false (append-1 1 0 3 ∷ shared-1 7 ∷ Ack 7 (1 ∷ 0 ∷ 1 ∷ 5 ∷ []) ∷ Ack 7 (1 ∷ 0 ∷ 1 ∷ 2 ∷ []) ∷ []))) (pos 0 ∷ pos 1 ∷ pos 1 ∷ [])
+    ∷ row (entry-1 0 (after false false (append-1 1 0 3 ∷ shared-1 7 ∷ Ack 7 (1 ∷ 0 ∷ 1 ∷ 5 ∷ []) ∷ Ack 7 (1 ∷ 0 ∷ 1 ∷ 2 ∷ []) ∷ [])))
+    (pos 0 ∷ pos 1 ∷ pos 1 ∷ [])
     -- K4 batch 65, one word of ones: 64 left
-    ∷ row (entry-1 0 (after false false (append-1 1 0 65 ∷ shared-1 7 ∷ Ack 7 (1 ∷ 0 ∷ 1 ∷ (2 ^ 64 - 1) ∷ []) ∷ []))) (pos 64 ∷ pos 0 ∷ pos 0 ∷ [])
+    ∷ row (entry-1 0 (after false false (append-1 1 0 65 ∷ shared-1 7 ∷ Ack 7 (1 ∷ 0 ∷ 1 ∷ (2 ^ 64 - 1) ∷ []) ∷ [])))
+    (pos 64 ∷ pos 0 ∷ pos 0 ∷ [])
     -- K5 balance 10, bits 5: 8 after
-    ∷ row (then (append-1 1 0 3 ∷ shared-1 7 ∷ Ack 7 (1 ∷ 0 ∷ 1 ∷ 5 ∷ []) ∷ Flow 7 10 ∷ []) (Push 1)) (pos 0 ∷ pos 1 ∷ pos 7 ∷ pos 1 ∷ pos 0 ∷ pos 0 ∷ pos 2 ∷ pos 8 ∷ [])
+    ∷ row (then (append-1 1 0 3 ∷ shared-1 7 ∷ Ack 7 (1 ∷ 0 ∷ 1 ∷ 5 ∷ []) ∷ Flow 7 10 ∷ []) (Push 1))
+    (pos 0 ∷ pos 1 ∷ pos 7 ∷ pos 1 ∷ pos 0 ∷ pos 0 ∷ pos 2 ∷ pos 8 ∷ [])
     -- K6 balance 1, batch 100: -99; flow 99 sends none
-    ∷ row (then (append-1 1 0 100 ∷ shared-1 7 ∷ Flow 7 1 ∷ []) (Push 1)) (pos 0 ∷ pos 1 ∷ pos 7 ∷ pos 1 ∷ pos 0 ∷ pos 0 ∷ pos 100 ∷ negℤ (pos 99) ∷ [])
+    ∷ row (then (append-1 1 0 100 ∷ shared-1 7 ∷ Flow 7 1 ∷ []) (Push 1))
+    (pos 0 ∷ pos 1 ∷ pos 7 ∷ pos 1 ∷ pos 0 ∷ pos 0 ∷ pos 100 ∷ negℤ (pos 99) ∷ [])
     ∷ row (then (append-1 1 0 100 ∷ append-1 1 1 0 ∷ shared-1 7 ∷ Flow 7 1 ∷ Push 1 ∷ Flow 7 99 ∷ []) (Push 1)) (pos 0 ∷ pos 0 ∷ [])
     -- K7 ack unknown (3,4), append it first in its topic: mark-delete stays 0; ack an empty list: 0 to 1
     ∷ row (entry-1 0 (after false false (shared-1 7 ∷ Ack 7 (3 ∷ 4 ∷ 0 ∷ []) ∷ append-1 3 4 0 ∷ []))) (pos 0 ∷ pos 1 ∷ pos 0 ∷ [])
@@ -121,12 +125,17 @@ readings =
     -- K8 ring 7, 8, one permit each, no entry: push sends none, next 1; the next entry goes to 8
     ∷ row (then (shared-1 7 ∷ shared-1 8 ∷ Flow 7 1 ∷ Flow 8 1 ∷ []) (Push 0)) (pos 0 ∷ pos 0 ∷ [])
     ∷ row (ring-1 (after false false (shared-1 7 ∷ shared-1 8 ∷ Flow 7 1 ∷ Flow 8 1 ∷ Push 0 ∷ []))) (pos 1 ∷ pos 2 ∷ [])
-    ∷ row (then (shared-1 7 ∷ shared-1 8 ∷ Flow 7 1 ∷ Flow 8 1 ∷ Push 0 ∷ append-1 1 0 0 ∷ []) (Push 1)) (pos 0 ∷ pos 1 ∷ pos 8 ∷ pos 1 ∷ pos 0 ∷ pos 0 ∷ pos 1 ∷ pos 0 ∷ [])
+    ∷ row (then (shared-1 7 ∷ shared-1 8 ∷ Flow 7 1 ∷ Flow 8 1 ∷ Push 0 ∷ append-1 1 0 0 ∷ []) (Push 1))
+    (pos 0 ∷ pos 1 ∷ pos 8 ∷ pos 1 ∷ pos 0 ∷ pos 0 ∷ pos 1 ∷ pos 0 ∷ [])
     -- K9 ids (1,0), (1,3): seek (1,2) gives 1, (1,5) gives 0
-    ∷ row (then (append-1 1 0 0 ∷ append-1 1 3 0 ∷ Subscribe 7 plain pair-1 ∷ []) (Seek 7 (to-id (record { ledger = 1; entry = 2 })))) (pos 0 ∷ pos 1 ∷ [])
-    ∷ row (then (append-1 1 0 0 ∷ append-1 1 3 0 ∷ Subscribe 7 plain pair-1 ∷ []) (Seek 7 (to-id (record { ledger = 1; entry = 5 })))) (pos 0 ∷ pos 0 ∷ [])
+    ∷ row (then (append-1 1 0 0 ∷ append-1 1 3 0 ∷ Subscribe 7 plain pair-1 ∷ []) (Seek 7 (to-id (record { ledger = 1; entry = 2 }))))
+    (pos 0 ∷ pos 1 ∷ [])
+    ∷ row (then (append-1 1 0 0 ∷ append-1 1 3 0 ∷ Subscribe 7 plain pair-1 ∷ []) (Seek 7 (to-id (record { ledger = 1; entry = 5 }))))
+    (pos 0 ∷ pos 0 ∷ [])
     -- K10 7 holds, 8 acks, 7 closes: the next push sends it to 8, whose balance is above 0
-    ∷ row (then (append-1 1 0 0 ∷ shared-1 7 ∷ shared-1 8 ∷ Flow 7 1 ∷ Push 1 ∷ Flow 8 2 ∷ Ack 8 (1 ∷ 0 ∷ 0 ∷ []) ∷ Close 7 ∷ []) (Push 1)) (pos 0 ∷ pos 1 ∷ pos 8 ∷ pos 1 ∷ pos 0 ∷ pos 0 ∷ pos 1 ∷ pos 1 ∷ [])
+    ∷ row (then (append-1 1 0 0 ∷ shared-1 7 ∷ shared-1 8 ∷ Flow 7 1 ∷ Push 1 ∷ Flow 8 2 ∷ Ack 8 (1 ∷ 0 ∷ 0 ∷ []) ∷ Close 7 ∷ [])
+    (Push 1))
+    (pos 0 ∷ pos 1 ∷ pos 8 ∷ pos 1 ∷ pos 0 ∷ pos 0 ∷ pos 1 ∷ pos 1 ∷ [])
     -- K11 balances 4 and 5: closing the first leaves 5, with leak 1
     ∷ row (ring-1 (after false false (shared-1 7 ∷ shared-1 8 ∷ Flow 7 4 ∷ Flow 8 5 ∷ Close 7 ∷ []))) (pos 0 ∷ pos 5 ∷ [])
     ∷ row (ring-1 (after true false (shared-1 7 ∷ shared-1 8 ∷ Flow 7 4 ∷ Flow 8 5 ∷ Close 7 ∷ []))) (pos 0 ∷ pos 1 ∷ [])

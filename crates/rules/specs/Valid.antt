@@ -11,7 +11,8 @@ use Rattle.bits.specs.Bits.{bits-empty, bits-below}
 use Rattle.bits.specs.Four.{words}
 use Rattle.rules.specs.Permits.{least-permits, most-permits, least-total, most-total, total-in-range}
 use Rattle.rules.specs.Table.{all, Every, distinct, Distinct, member, is-empty}
-use Rattle.rules.specs.State.{Id, same-id, StoredMessage, Topic, same-pair, by-kind, Consumer, Mark, Held, Dispatcher, State, new-mark, ledger-of, dispatcher}
+use Rattle.rules.specs.State.{Id, same-id, StoredMessage, Topic, same-pair, by-kind, Consumer, Mark, Held, Dispatcher, State, new-mark, ledger-of}
+use Rattle.rules.specs.State.{dispatcher}
 use Rattle.rules.specs.State.Kind.{shared}
 use Rattle.rules.specs.Ledger.{holds-id, message-at, after-id}
 

@@ -26,7 +26,16 @@ word = record { width = 1; enc = λ n. n ∷ []; dec = λ ws. getD ws 0 0; Ok = 
 
 -- Reserved space: k words of 0.
 unfoldable pub zeros : ℕ → Codec (Unit {0})
-zeros k = record { width = k; enc = λ u. replicate k 0; dec = λ ws. tt; Ok = λ u. Unit {0}; len = λ u. length-replicate k 0; round = λ u r h. refl; sound = λ ws. tt }
+zeros k =
+    record {
+      width = k;
+      enc = λ u. replicate k 0;
+      dec = λ ws. tt;
+      Ok = λ u. Unit {0};
+      len = λ u. length-replicate k 0;
+      round = λ u r h. refl;
+      sound = λ ws. tt;
+    }
 
 module _ {A B : Type 0} where
   pub pair-round : (c : Codec A) (d : Codec B) (p : A × B) (r : List ℕ) (h : c .Ok (p .0) × d .Ok (p .1))
@@ -161,7 +170,8 @@ module _ {A : Type 0} where
       )
 
   -- What is short enough for n slots is spelt whole, and the slots that are left are 0.
-  pub spell-fit : (c : Codec A) (n : ℕ) (l : List A) → length l ≤ n → fit (n * c .width) (spell c l) ≡ spell c l ++ replicate ((n - length l) * c .width) 0
+  pub spell-fit : (c : Codec A) (n : ℕ) (l : List A) → length l ≤ n
+      → fit (n * c .width) (spell c l) ≡ spell c l ++ replicate ((n - length l) * c .width) 0
   spell-fit c n l h = fit-fill (spell c l) ((n - length l) * c .width) (n * c .width) (rw length-spell (slots-left (length l) n (c .width) h))
 
   pub slots-fit : (c : Codec A) (n k : ℕ) (l : List A) (r : List ℕ) → k ≡ length l → length l ≤ n → All (c .Ok) l

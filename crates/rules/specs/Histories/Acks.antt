@@ -7,7 +7,8 @@ use Rattle.rules.specs.Calls.{Call}
 use Rattle.rules.specs.Commands.Target.{start}
 use Rattle.rules.specs.Calls.Call.{Flow, Ack, Seek, Redeliver, Close, Push}
 use Rattle.rules.specs.Readings.{pair-1, append-1, shared-1, then, Row}
-use Rattle.rules.specs.Histories.Views.{pair-2, shared-2, plain-1, unknown-ids, again, three-entries, gives, seen, head, queue, flight, marks, stored, outsiders, own}
+use Rattle.rules.specs.Histories.Views.{pair-2, shared-2, plain-1, unknown-ids, again, three-entries, gives, seen, head, queue, flight, marks, stored}
+use Rattle.rules.specs.Histories.Views.{outsiders, own}
 
 -- ---- the form of a list
 
@@ -77,7 +78,8 @@ ack-rows =
     -- batch above 1 and some words: fresh bits AND the words
     gives (left-of 2 (Ack 7 (1 ∷ 0 ∷ 1 ∷ 1 ∷ []) ∷ [])) (1 ∷ 0 ∷ 0 ∷ 0 ∷ 0 ∷ [])
     -- stored bits AND the words
-    ∷ gives (left-of 256 (Ack 7 (1 ∷ 0 ∷ 4 ∷ 1 ∷ 2 ∷ 3 ∷ 4 ∷ []) ∷ Ack 7 (1 ∷ 0 ∷ 4 ∷ 2 ∷ 2 ∷ 2 ∷ 4 ∷ []) ∷ [])) (0 ∷ 2 ∷ 2 ∷ 4 ∷ 0 ∷ [])
+    ∷ gives (left-of 256 (Ack 7 (1 ∷ 0 ∷ 4 ∷ 1 ∷ 2 ∷ 3 ∷ 4 ∷ []) ∷ Ack 7 (1 ∷ 0 ∷ 4 ∷ 2 ∷ 2 ∷ 2 ∷ 4 ∷ []) ∷ []))
+    (0 ∷ 2 ∷ 2 ∷ 4 ∷ 0 ∷ [])
     -- absent words are taken as 0, surplus ones ignored
     ∷ gives (left-of 256 (Ack 7 (1 ∷ 0 ∷ 1 ∷ (2 ^ 64 - 1) ∷ []) ∷ [])) ((2 ^ 64 - 1) ∷ 0 ∷ 0 ∷ 0 ∷ 0 ∷ [])
     ∷ gives (left-of 256 (Ack 7 (1 ∷ 0 ∷ 4 ∷ 1 ∷ 2 ∷ 3 ∷ 4 ∷ []) ∷ [])) (1 ∷ 2 ∷ 3 ∷ 4 ∷ 0 ∷ [])
@@ -93,15 +95,21 @@ ack-rows =
     ∷ gives (left-of 2 (Ack 7 (1 ∷ 0 ∷ 0 ∷ []) ∷ [])) (0 ∷ 0 ∷ 0 ∷ 0 ∷ 1 ∷ [])
     -- for an id not in the ledger complete, whatever its words, and once
     ∷ gives (seen (outsiders pair-1) (append-1 1 0 3 ∷ shared-1 7 ∷ Ack 7 (1 ∷ 1 ∷ 1 ∷ 5 ∷ []) ∷ [])) (1 ∷ 1 ∷ [])
-    ∷ gives (seen (outsiders pair-1) (shared-1 7 ∷ Ack 7 (3 ∷ 4 ∷ 0 ∷ 3 ∷ 4 ∷ 1 ∷ 5 ∷ 4 ∷ 3 ∷ 0 ∷ []) ∷ [])) (3 ∷ 4 ∷ 4 ∷ 3 ∷ [])
+    ∷ gives (seen (outsiders pair-1) (shared-1 7 ∷ Ack 7 (3 ∷ 4 ∷ 0 ∷ 3 ∷ 4 ∷ 1 ∷ 5 ∷ 4 ∷ 3 ∷ 0 ∷ []) ∷ []))
+    (3 ∷ 4 ∷ 4 ∷ 3 ∷ [])
     -- it joins in its place among those that ascend, by ledger and then by entry
-    ∷ gives (seen (outsiders pair-1) (shared-1 7 ∷ Ack 7 (5 ∷ 4 ∷ 0 ∷ 3 ∷ 9 ∷ 0 ∷ 5 ∷ 2 ∷ 0 ∷ 4 ∷ 6 ∷ 0 ∷ 5 ∷ 8 ∷ 0 ∷ []) ∷ [])) (3 ∷ 9 ∷ 4 ∷ 6 ∷ 5 ∷ 2 ∷ 5 ∷ 4 ∷ 5 ∷ 8 ∷ [])
+    ∷ gives
+    (seen (outsiders pair-1) (shared-1 7 ∷ Ack 7 (5 ∷ 4 ∷ 0 ∷ 3 ∷ 9 ∷ 0 ∷ 5 ∷ 2 ∷ 0 ∷ 4 ∷ 6 ∷ 0 ∷ 5 ∷ 8 ∷ 0 ∷ []) ∷ []))
+    (3 ∷ 9 ∷ 4 ∷ 6 ∷ 5 ∷ 2 ∷ 5 ∷ 4 ∷ 5 ∷ 8 ∷ [])
     -- completion drops the bits and lasts; a later partial ack makes fresh bits
     ∷ gives (left-of 3 (Ack 7 (1 ∷ 0 ∷ 1 ∷ 5 ∷ []) ∷ Ack 7 (1 ∷ 0 ∷ 0 ∷ []) ∷ [])) (0 ∷ 0 ∷ 0 ∷ 0 ∷ 1 ∷ [])
-    ∷ gives (left-of 3 (Ack 7 (1 ∷ 0 ∷ 1 ∷ 1 ∷ []) ∷ Ack 7 (1 ∷ 0 ∷ 0 ∷ []) ∷ Ack 7 (1 ∷ 0 ∷ 1 ∷ 6 ∷ []) ∷ [])) (6 ∷ 0 ∷ 0 ∷ 0 ∷ 1 ∷ [])
-    ∷ gives (left-of 3 (Ack 7 (1 ∷ 0 ∷ 0 ∷ []) ∷ Ack 7 (1 ∷ 0 ∷ 1 ∷ 6 ∷ []) ∷ Ack 7 (1 ∷ 0 ∷ 1 ∷ 1 ∷ []) ∷ [])) (0 ∷ 0 ∷ 0 ∷ 0 ∷ 1 ∷ [])
+    ∷ gives (left-of 3 (Ack 7 (1 ∷ 0 ∷ 1 ∷ 1 ∷ []) ∷ Ack 7 (1 ∷ 0 ∷ 0 ∷ []) ∷ Ack 7 (1 ∷ 0 ∷ 1 ∷ 6 ∷ []) ∷ []))
+    (6 ∷ 0 ∷ 0 ∷ 0 ∷ 1 ∷ [])
+    ∷ gives (left-of 3 (Ack 7 (1 ∷ 0 ∷ 0 ∷ []) ∷ Ack 7 (1 ∷ 0 ∷ 1 ∷ 6 ∷ []) ∷ Ack 7 (1 ∷ 0 ∷ 1 ∷ 1 ∷ []) ∷ []))
+    (0 ∷ 0 ∷ 0 ∷ 0 ∷ 1 ∷ [])
     -- it is sent at the cost of its fresh bits though mark-delete is past it
-    ∷ gives (then (append-1 1 0 3 ∷ shared-1 7 ∷ Ack 7 (1 ∷ 0 ∷ 0 ∷ []) ∷ Ack 7 (1 ∷ 0 ∷ 1 ∷ 5 ∷ []) ∷ Flow 7 10 ∷ []) (Push 1)) (0 ∷ 1 ∷ 7 ∷ 1 ∷ 0 ∷ 0 ∷ 2 ∷ 8 ∷ [])
+    ∷ gives (then (append-1 1 0 3 ∷ shared-1 7 ∷ Ack 7 (1 ∷ 0 ∷ 0 ∷ []) ∷ Ack 7 (1 ∷ 0 ∷ 1 ∷ 5 ∷ []) ∷ Flow 7 10 ∷ []) (Push 1))
+    (0 ∷ 1 ∷ 7 ∷ 1 ∷ 0 ∷ 0 ∷ 2 ∷ 8 ∷ [])
     -- each id in order
     ∷ gives (left-of 3 (Ack 7 (1 ∷ 0 ∷ 1 ∷ 5 ∷ 1 ∷ 0 ∷ 1 ∷ 2 ∷ []) ∷ [])) (0 ∷ 0 ∷ 0 ∷ 0 ∷ 1 ∷ [])
     ∷ gives (left-of 3 (Ack 7 (1 ∷ 0 ∷ 0 ∷ 1 ∷ 0 ∷ 1 ∷ 5 ∷ []) ∷ [])) (5 ∷ 0 ∷ 0 ∷ 0 ∷ 1 ∷ [])
@@ -117,7 +125,9 @@ ack-rows =
     ∷ gives (then (three-of-7 ++ Ack 7 (1 ∷ 0 ∷ 0 ∷ []) ∷ []) (Ack 7 [])) (0 ∷ 1 ∷ 0 ∷ [])
     ∷ gives (then acked-by-8 (Ack 7 (1 ∷ 2 ∷ 0 ∷ []))) (0 ∷ 3 ∷ 1 ∷ [])
     -- and only in an ack: no other call moves it past an entry that was complete when it was appended
-    ∷ gives (seen (head pair-1) (shared-1 7 ∷ Ack 7 (3 ∷ 4 ∷ 0 ∷ []) ∷ append-1 3 4 0 ∷ append-1 3 5 0 ∷ Flow 7 5 ∷ Push 2 ∷ Redeliver 7 (3 ∷ 5 ∷ 0 ∷ []) ∷ Seek 7 start ∷ shared-1 8 ∷ Close 8 ∷ [])) (0 ∷ 2 ∷ 0 ∷ 3 ∷ [])
+    ∷ gives (seen (head pair-1) (shared-1 7 ∷ Ack 7 (3 ∷ 4 ∷ 0 ∷ []) ∷ append-1 3 4 0 ∷ append-1 3 5 0 ∷ Flow 7 5 ∷ Push 2 ∷
+    Redeliver 7 (3 ∷ 5 ∷ 0 ∷ []) ∷ Seek 7 start ∷ shared-1 8 ∷ Close 8 ∷ []))
+    (0 ∷ 2 ∷ 0 ∷ 3 ∷ [])
     -- another subscription has its own
     ∷ gives (seen (head pair-2) (three-of-7 ++ shared-2 8 ∷ Ack 7 (again 1) ∷ [])) (0 ∷ 0 ∷ 0 ∷ 0 ∷ [])
     ∷ gives (seen (marks pair-2) (append-1 1 0 3 ∷ shared-1 7 ∷ shared-2 8 ∷ Ack 7 (1 ∷ 0 ∷ 1 ∷ 5 ∷ []) ∷ [])) (0 ∷ 0 ∷ 0 ∷ [])

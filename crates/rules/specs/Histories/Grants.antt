@@ -10,7 +10,8 @@ use Rattle.rules.specs.Dispatcher.{with-attached}
 use Rattle.rules.specs.Calls.{Call}
 use Rattle.rules.specs.Calls.Call.{Flow, Redeliver, Close, Push}
 use Rattle.rules.specs.Readings.{pair-1, append-1, shared-1, after, then, Row, row}
-use Rattle.rules.specs.Histories.Views.{pair-2, shared-2, plain-1, three-entries, three-consumers, gives, seen, settings, ring, head, queue, flight, marks, own, on, then-seen, checked, spelt-with, spelt-consumer, spelt}
+use Rattle.rules.specs.Histories.Views.{pair-2, shared-2, plain-1, three-entries, three-consumers, gives, seen, settings, ring, head, queue, flight}
+use Rattle.rules.specs.Histories.Views.{marks, own, on, then-seen, checked, spelt-with, spelt-consumer, spelt}
 
 -- ---- flow
 
@@ -103,7 +104,8 @@ close-rows =
     ∷ gives (seen (ring pair-2) (shared-1 7 ∷ shared-2 7 ∷ Close 7 ∷ [])) []
     -- 9 if the dispatcher would leave -2^60
     ∷ gives (on (spelt false shared (zero-permits + 5) (from-least 5) 0) (Close 7)) (1 ∷ 0 ∷ 1 ∷ [])
-    ∷ row (then-seen (head pair-1) (spelt false shared (zero-permits + 5) (from-least 5) 0) (Close 7)) (pos 1 ∷ pos 0 ∷ pos 1 ∷ pos 0 ∷ negℤ (pos (2 ^ 60)) ∷ [])
+    ∷ row (then-seen (head pair-1) (spelt false shared (zero-permits + 5) (from-least 5) 0) (Close 7))
+    (pos 1 ∷ pos 0 ∷ pos 1 ∷ pos 0 ∷ negℤ (pos (2 ^ 60)) ∷ [])
     ∷ gives (on (spelt false shared (zero-permits + 5) (from-least 4) 0) (Close 7)) (1 ∷ 9 ∷ [])
     -- with the leak switch by both subtractions
     ∷ gives (on (spelt true shared (zero-permits + 5) (from-least 10) 0) (Close 7)) (1 ∷ 0 ∷ 1 ∷ [])

@@ -8,7 +8,8 @@ use Rattle.rules.specs.Commands.Target.{to-id}
 use Rattle.rules.specs.Calls.{Call, rule, answer-word}
 use Rattle.rules.specs.Calls.Call.{Append, Subscribe, Flow, Ack, Seek, Redeliver, Close, Push}
 use Rattle.rules.specs.Readings.{pair-1, append-1, shared-1, after, then, outcome-numbers, word-numbers, Row, row}
-use Rattle.rules.specs.Histories.Views.{other-topic, message-id, message, append-to, shared-2, plain-1, again, three-entries, three-consumers, gives, seen, head, queue, flight, own, handed, set-words, flat-words}
+use Rattle.rules.specs.Histories.Views.{other-topic, message-id, message, append-to, shared-2, plain-1, again, three-entries, three-consumers, gives}
+use Rattle.rules.specs.Histories.Views.{seen, head, queue, flight, own, handed, set-words, flat-words}
 
 -- ---- the shared part
 
@@ -39,17 +40,22 @@ shared-rows =
     ∷ gives (outcome-numbers (rule (after true false leaked) (Push 1))) (0 ∷ 0 ∷ [])
     ∷ row (head pair-1 (after true false (leaked ++ Push 1 ∷ []))) (pos 0 ∷ pos 0 ∷ pos 0 ∷ negℤ (pos 2) ∷ [])
     -- at 0 too
-    ∷ gives (outcome-numbers (rule (after true false (shared-1 7 ∷ shared-1 8 ∷ Flow 7 1 ∷ Flow 8 1 ∷ Close 7 ∷ append-1 1 0 0 ∷ [])) (Push 1))) (0 ∷ 0 ∷ [])
+    ∷ gives (outcome-numbers (rule (after true false (shared-1 7 ∷ shared-1 8 ∷ Flow 7 1 ∷ Flow 8 1 ∷ Close 7 ∷ append-1 1 0 0 ∷ [])) (Push 1)))
+    (0 ∷ 0 ∷ [])
     -- while the ring allows: here it is empty, the total 99 and an entry in the queue
     ∷ gives (outcome-numbers (rule (after true false (append-1 1 0 100 ∷ shared-1 7 ∷ Flow 7 1 ∷ Push 1 ∷ Close 7 ∷ [])) (Push 1))) (0 ∷ 0 ∷ [])
     -- a ring id that is not live is passed over
     ∷ gives (handed (shared-1 7 ∷ plain-1 7 ∷ Close 7 ∷ shared-1 8 ∷ Flow 8 1 ∷ append-1 1 0 0 ∷ [])) (8 ∷ 0 ∷ [])
     -- live under any subscription: the serving dispatcher's ledger is taken and its balance pays
-    ∷ gives (then (append-1 1 0 0 ∷ shared-1 7 ∷ shared-1 8 ∷ Flow 8 1 ∷ shared-2 7 ∷ Flow 7 2 ∷ []) (Push 2)) (0 ∷ 2 ∷ 7 ∷ 1 ∷ 0 ∷ 0 ∷ 1 ∷ 1 ∷ 7 ∷ 1 ∷ 0 ∷ 0 ∷ 1 ∷ 0 ∷ [])
-    ∷ gives (then (append-1 1 0 0 ∷ shared-1 7 ∷ shared-1 8 ∷ Flow 8 1 ∷ Subscribe 7 shared other-topic ∷ Flow 7 2 ∷ []) (Push 1)) (0 ∷ 1 ∷ 7 ∷ 1 ∷ 0 ∷ 0 ∷ 1 ∷ 1 ∷ [])
-    ∷ gives (seen (head pair-1) (append-1 1 0 0 ∷ shared-1 7 ∷ shared-1 8 ∷ Flow 8 1 ∷ Subscribe 7 shared other-topic ∷ Flow 7 2 ∷ Push 1 ∷ [])) (1 ∷ 1 ∷ 0 ∷ 0 ∷ [])
+    ∷ gives (then (append-1 1 0 0 ∷ shared-1 7 ∷ shared-1 8 ∷ Flow 8 1 ∷ shared-2 7 ∷ Flow 7 2 ∷ []) (Push 2))
+    (0 ∷ 2 ∷ 7 ∷ 1 ∷ 0 ∷ 0 ∷ 1 ∷ 1 ∷ 7 ∷ 1 ∷ 0 ∷ 0 ∷ 1 ∷ 0 ∷ [])
+    ∷ gives (then (append-1 1 0 0 ∷ shared-1 7 ∷ shared-1 8 ∷ Flow 8 1 ∷ Subscribe 7 shared other-topic ∷ Flow 7 2 ∷ []) (Push 1))
+    (0 ∷ 1 ∷ 7 ∷ 1 ∷ 0 ∷ 0 ∷ 1 ∷ 1 ∷ [])
+    ∷ gives (seen (head pair-1) (append-1 1 0 0 ∷ shared-1 7 ∷ shared-1 8 ∷ Flow 8 1 ∷ Subscribe 7 shared other-topic ∷ Flow 7 2 ∷ Push 1 ∷ []))
+    (1 ∷ 1 ∷ 0 ∷ 0 ∷ [])
     -- plain now: served by the ring it is still in, then by its own cursor
-    ∷ gives (then (append-1 1 0 0 ∷ append-1 1 1 0 ∷ shared-1 7 ∷ shared-1 8 ∷ plain-1 7 ∷ Flow 7 2 ∷ Flow 8 2 ∷ []) (Push 3)) (0 ∷ 3 ∷ 7 ∷ 1 ∷ 0 ∷ 0 ∷ 1 ∷ 1 ∷ 8 ∷ 1 ∷ 1 ∷ 0 ∷ 1 ∷ 1 ∷ 7 ∷ 1 ∷ 0 ∷ 0 ∷ 1 ∷ 0 ∷ [])
+    ∷ gives (then (append-1 1 0 0 ∷ append-1 1 1 0 ∷ shared-1 7 ∷ shared-1 8 ∷ plain-1 7 ∷ Flow 7 2 ∷ Flow 8 2 ∷ []) (Push 3))
+    (0 ∷ 3 ∷ 7 ∷ 1 ∷ 0 ∷ 0 ∷ 1 ∷ 1 ∷ 8 ∷ 1 ∷ 1 ∷ 0 ∷ 1 ∷ 1 ∷ 7 ∷ 1 ∷ 0 ∷ 0 ∷ 1 ∷ 0 ∷ [])
     -- queue first, taking the entry off its front, then ledger, moving the cursor on by 1
     ∷ gives (handed queued) (7 ∷ 1 ∷ 7 ∷ 0 ∷ 7 ∷ 2 ∷ [])
     ∷ gives (seen (queue pair-1) queued) (1 ∷ 0 ∷ [])
@@ -63,10 +69,13 @@ shared-rows =
     ∷ gives (seen (own 8) (append-1 1 0 5 ∷ shared-1 7 ∷ shared-1 8 ∷ Flow 7 10 ∷ Flow 8 1 ∷ Push 1 ∷ [])) (1 ∷ 1 ∷ 1 ∷ 1 ∷ 0 ∷ [])
     ∷ gives (seen (head pair-1) (append-1 1 0 5 ∷ shared-1 7 ∷ shared-1 8 ∷ Flow 7 10 ∷ Flow 8 1 ∷ Push 1 ∷ [])) (0 ∷ 1 ∷ 0 ∷ 6 ∷ [])
     -- cost: max(batch size, 1)
-    ∷ gives (then (append-1 1 0 0 ∷ append-1 1 1 1 ∷ append-1 1 2 2 ∷ shared-1 7 ∷ Flow 7 9 ∷ []) (Push 3)) (0 ∷ 3 ∷ 7 ∷ 1 ∷ 0 ∷ 0 ∷ 1 ∷ 8 ∷ 7 ∷ 1 ∷ 1 ∷ 0 ∷ 1 ∷ 7 ∷ 7 ∷ 1 ∷ 2 ∷ 0 ∷ 2 ∷ 5 ∷ [])
-    ∷ row (then (append-1 1 0 256 ∷ shared-1 7 ∷ Flow 7 1 ∷ []) (Push 1)) (pos 0 ∷ pos 1 ∷ pos 7 ∷ pos 1 ∷ pos 0 ∷ pos 0 ∷ pos 256 ∷ negℤ (pos 255) ∷ [])
+    ∷ gives (then (append-1 1 0 0 ∷ append-1 1 1 1 ∷ append-1 1 2 2 ∷ shared-1 7 ∷ Flow 7 9 ∷ []) (Push 3))
+    (0 ∷ 3 ∷ 7 ∷ 1 ∷ 0 ∷ 0 ∷ 1 ∷ 8 ∷ 7 ∷ 1 ∷ 1 ∷ 0 ∷ 1 ∷ 7 ∷ 7 ∷ 1 ∷ 2 ∷ 0 ∷ 2 ∷ 5 ∷ [])
+    ∷ row (then (append-1 1 0 256 ∷ shared-1 7 ∷ Flow 7 1 ∷ []) (Push 1))
+    (pos 0 ∷ pos 1 ∷ pos 7 ∷ pos 1 ∷ pos 0 ∷ pos 0 ∷ pos 256 ∷ negℤ (pos 255) ∷ [])
     -- cost: ones in the stored bits, of all four words
-    ∷ gives (then (append-1 1 0 256 ∷ shared-1 7 ∷ Ack 7 (1 ∷ 0 ∷ 4 ∷ 1 ∷ 2 ∷ 3 ∷ 4 ∷ []) ∷ Flow 7 9 ∷ []) (Push 1)) (0 ∷ 1 ∷ 7 ∷ 1 ∷ 0 ∷ 0 ∷ 5 ∷ 4 ∷ [])
+    ∷ gives (then (append-1 1 0 256 ∷ shared-1 7 ∷ Ack 7 (1 ∷ 0 ∷ 4 ∷ 1 ∷ 2 ∷ 3 ∷ 4 ∷ []) ∷ Flow 7 9 ∷ []) (Push 1))
+    (0 ∷ 1 ∷ 7 ∷ 1 ∷ 0 ∷ 0 ∷ 5 ∷ 4 ∷ [])
     -- what a closed one held comes before the ledger
     ∷ gives (handed (three-consumers ++ append-1 1 0 0 ∷ append-1 1 1 0 ∷ Push 2 ∷ Close 7 ∷ append-1 1 2 0 ∷ [])) (8 ∷ 0 ∷ 9 ∷ 2 ∷ [])
     ∷ []
@@ -95,7 +104,8 @@ plain-rows =
     -- cost 1, whatever the batch size
     ∷ gives (then (append-1 1 0 100 ∷ plain-1 7 ∷ Flow 7 5 ∷ []) (Push 1)) (0 ∷ 1 ∷ 7 ∷ 1 ∷ 0 ∷ 0 ∷ 1 ∷ 4 ∷ [])
     -- from its own cursor, in its topic's ledger
-    ∷ gives (handed (three-entries ++ plain-1 7 ∷ plain-1 8 ∷ Flow 7 3 ∷ Flow 8 3 ∷ Seek 8 (to-id (message-id 1 2)) ∷ [])) (7 ∷ 0 ∷ 7 ∷ 1 ∷ 7 ∷ 2 ∷ 8 ∷ 2 ∷ [])
+    ∷ gives (handed (three-entries ++ plain-1 7 ∷ plain-1 8 ∷ Flow 7 3 ∷ Flow 8 3 ∷ Seek 8 (to-id (message-id 1 2)) ∷ []))
+    (7 ∷ 0 ∷ 7 ∷ 1 ∷ 7 ∷ 2 ∷ 8 ∷ 2 ∷ [])
     ∷ gives (handed (append-1 1 0 0 ∷ append-to 2 1 5 0 ∷ Subscribe 7 plain other-topic ∷ Flow 7 3 ∷ [])) (7 ∷ 5 ∷ [])
     -- dispatchers by creation, then plain consumers by ascending id
     ∷ gives (handed all-kinds) (8 ∷ 0 ∷ 7 ∷ 0 ∷ 3 ∷ 0 ∷ 5 ∷ 0 ∷ [])
@@ -124,7 +134,9 @@ bits-left-over =
 abbrev pub six-batches : List Call
 six-batches =
     append-1 1 0 2 ∷ append-1 1 1 64 ∷ append-1 1 2 65 ∷ append-1 1 3 128 ∷ append-1 1 4 129 ∷ append-1 1 5 256 ∷ shared-1 7
-    ∷ Ack 7 (1 ∷ 0 ∷ 1 ∷ 1 ∷ 1 ∷ 1 ∷ 1 ∷ 1 ∷ 1 ∷ 2 ∷ 1 ∷ 1 ∷ 1 ∷ 3 ∷ 1 ∷ 1 ∷ 1 ∷ 4 ∷ 1 ∷ 1 ∷ 1 ∷ 5 ∷ 1 ∷ 1 ∷ []) ∷ Flow 7 6 ∷ []
+    ∷ Ack 7 (1 ∷ 0 ∷ 1 ∷ 1 ∷ 1 ∷ 1 ∷ 1 ∷ 1 ∷ 1 ∷ 2 ∷ 1 ∷ 1 ∷
+    1 ∷ 3 ∷ 1 ∷ 1 ∷ 1 ∷ 4 ∷ 1 ∷ 1 ∷ 1 ∷ 5 ∷ 1 ∷ 1 ∷ [])
+    ∷ Flow 7 6 ∷ []
 
 -- the answer of a call in one word
 abbrev pub word-of : List Call → Call → List ℤ
@@ -135,9 +147,12 @@ unfoldable pub word-rows : List Row
 word-rows =
     -- a record is 13 words: consumer, ledger, entry, handle, batch size, ack-set word count and four words, redelivery
     -- count, cost, the consumer's balance after, a negative one in two's complement; a plain dispatch has count 0 for both
-    gives (flat-words bits-left-over) (7 ∷ 1 ∷ 3 ∷ 77 ∷ 65 ∷ 2 ∷ 6 ∷ 1 ∷ 0 ∷ 0 ∷ 1 ∷ 3 ∷ (2 ^ 64 - 2) ∷ 9 ∷ 1 ∷ 3 ∷ 77 ∷ 65 ∷ 0 ∷ 0 ∷ 0 ∷ 0 ∷ 0 ∷ 0 ∷ 1 ∷ 0 ∷ [])
+    gives (flat-words bits-left-over)
+    (7 ∷ 1 ∷ 3 ∷ 77 ∷ 65 ∷ 2 ∷ 6 ∷ 1 ∷ 0 ∷ 0 ∷ 1 ∷ 3 ∷ (2 ^ 64 - 2) ∷
+    9 ∷ 1 ∷ 3 ∷ 77 ∷ 65 ∷ 0 ∷ 0 ∷ 0 ∷ 0 ∷ 0 ∷ 0 ∷ 1 ∷ 0 ∷ [])
     -- without stored bits the word count is 0, and the words past it
-    ∷ gives (flat-words (Append 1 (message 5 6 77 65) ∷ shared-1 7 ∷ Flow 7 70 ∷ [])) (7 ∷ 5 ∷ 6 ∷ 77 ∷ 65 ∷ 0 ∷ 0 ∷ 0 ∷ 0 ∷ 0 ∷ 0 ∷ 65 ∷ 5 ∷ [])
+    ∷ gives (flat-words (Append 1 (message 5 6 77 65) ∷ shared-1 7 ∷ Flow 7 70 ∷ []))
+    (7 ∷ 5 ∷ 6 ∷ 77 ∷ 65 ∷ 0 ∷ 0 ∷ 0 ∷ 0 ∷ 0 ∷ 0 ∷ 65 ∷ 5 ∷ [])
     -- with stored bits it is batch size / 64 rounded up
     ∷ gives (set-words six-batches) (1 ∷ 1 ∷ 2 ∷ 2 ∷ 3 ∷ 4 ∷ [])
     -- an answer in one word: the value times 256 and the refusal's number; only that it is done; a refusal's number alone

@@ -10,7 +10,8 @@ use Rattle.rules.specs.Commands.Target.{start, to-id}
 use Rattle.rules.specs.Calls.{Call, run}
 use Rattle.rules.specs.Calls.Call.{Subscribe, Flow, Ack, Seek, Redeliver, Push}
 use Rattle.rules.specs.Readings.{pair-1, append-1, shared-1, then, Row}
-use Rattle.rules.specs.Histories.Views.{pair-2, other-topic, message-id, shared-2, plain-1, again, three-entries, gives, seen, head, queue, flight, marks, stored, own, handed, then-seen, on, spelt}
+use Rattle.rules.specs.Histories.Views.{pair-2, other-topic, message-id, shared-2, plain-1, again, three-entries, gives, seen, head, queue, flight}
+use Rattle.rules.specs.Histories.Views.{marks, stored, own, handed, then-seen, on, spelt}
 
 -- ---- redeliver
 
@@ -31,7 +32,8 @@ unfoldable pub redeliver-rows : List Row
 redeliver-rows =
     -- shared: each id the sender holds goes to the queue's end and its count rises by 1; only that it is done
     gives (then three-held (Redeliver 7 (1 ∷ 2 ∷ 0 ∷ []))) (0 ∷ [])
-    ∷ gives (seen (queue pair-1) (three-held ++ Redeliver 7 (1 ∷ 2 ∷ 0 ∷ []) ∷ Redeliver 7 (1 ∷ 1 ∷ 0 ∷ 1 ∷ 0 ∷ 0 ∷ []) ∷ [])) (2 ∷ 1 ∷ 0 ∷ [])
+    ∷ gives (seen (queue pair-1) (three-held ++ Redeliver 7 (1 ∷ 2 ∷ 0 ∷ []) ∷ Redeliver 7 (1 ∷ 1 ∷ 0 ∷ 1 ∷ 0 ∷ 0 ∷ []) ∷ []))
+    (2 ∷ 1 ∷ 0 ∷ [])
     ∷ gives (seen (flight pair-1) (three-held ++ Redeliver 7 (1 ∷ 1 ∷ 0 ∷ []) ∷ [])) (7 ∷ 0 ∷ 7 ∷ 2 ∷ [])
     ∷ gives (seen (marks pair-1) (three-held ++ Redeliver 7 (1 ∷ 1 ∷ 0 ∷ []) ∷ [])) (0 ∷ 0 ∷ 0 ∷ 0 ∷ 0 ∷ 1 ∷ 0 ∷ 0 ∷ 0 ∷ [])
     -- next, cursor, mark-delete and balances stay
@@ -41,26 +43,38 @@ redeliver-rows =
     ∷ gives (seen (queue pair-1) (three-held ++ Redeliver 8 (again 1) ∷ [])) []
     ∷ gives (seen (marks pair-1) (three-held ++ Redeliver 8 (again 1) ∷ [])) (0 ∷ 0 ∷ 0 ∷ 0 ∷ 0 ∷ 0 ∷ 0 ∷ 0 ∷ 0 ∷ [])
     ∷ gives (seen (queue pair-1) (three-held ++ Redeliver 7 (again 2) ∷ Redeliver 7 (again 1) ∷ [])) (0 ∷ [])
-    ∷ gives (seen (marks pair-1) (three-held ++ Redeliver 7 (again 2) ∷ Redeliver 7 (again 1) ∷ [])) (0 ∷ 0 ∷ 1 ∷ 0 ∷ 0 ∷ 0 ∷ 0 ∷ 0 ∷ 0 ∷ [])
+    ∷ gives (seen (marks pair-1) (three-held ++ Redeliver 7 (again 2) ∷ Redeliver 7 (again 1) ∷ []))
+    (0 ∷ 0 ∷ 1 ∷ 0 ∷ 0 ∷ 0 ∷ 0 ∷ 0 ∷ 0 ∷ [])
     ∷ gives (seen (queue pair-1) (append-1 1 0 0 ∷ shared-1 7 ∷ Redeliver 7 (1 ∷ 0 ∷ 0 ∷ 9 ∷ 9 ∷ 0 ∷ []) ∷ [])) []
     ∷ gives (seen (marks pair-1) (append-1 1 0 0 ∷ shared-1 7 ∷ Redeliver 7 (1 ∷ 0 ∷ 0 ∷ 9 ∷ 9 ∷ 0 ∷ []) ∷ [])) (0 ∷ 0 ∷ 0 ∷ [])
     -- ack words are ignored: nothing is acknowledged, stored bits stay
-    ∷ gives (seen (marks pair-1) (append-1 1 0 3 ∷ shared-1 7 ∷ Flow 7 3 ∷ Push 1 ∷ Redeliver 7 (1 ∷ 0 ∷ 1 ∷ 0 ∷ []) ∷ [])) (0 ∷ 0 ∷ 1 ∷ [])
-    ∷ gives (seen stored (append-1 1 0 3 ∷ shared-1 7 ∷ Flow 7 3 ∷ Push 1 ∷ Ack 7 (1 ∷ 0 ∷ 1 ∷ 5 ∷ []) ∷ Redeliver 7 (1 ∷ 0 ∷ 1 ∷ 1 ∷ []) ∷ [])) (5 ∷ 0 ∷ 0 ∷ 0 ∷ 0 ∷ [])
+    ∷ gives (seen (marks pair-1) (append-1 1 0 3 ∷ shared-1 7 ∷ Flow 7 3 ∷ Push 1 ∷ Redeliver 7 (1 ∷ 0 ∷ 1 ∷ 0 ∷ []) ∷ []))
+    (0 ∷ 0 ∷ 1 ∷ [])
+    ∷ gives (seen stored
+    (append-1 1 0 3 ∷ shared-1 7 ∷ Flow 7 3 ∷ Push 1 ∷ Ack 7 (1 ∷ 0 ∷ 1 ∷ 5 ∷ []) ∷ Redeliver 7 (1 ∷ 0 ∷ 1 ∷ 1 ∷ []) ∷ []))
+    (5 ∷ 0 ∷ 0 ∷ 0 ∷ 0 ∷ [])
     -- sent again with its count, at the cost of its bits
-    ∷ gives (then (append-1 1 0 10 ∷ shared-1 7 ∷ Flow 7 10 ∷ Push 1 ∷ Ack 7 (1 ∷ 0 ∷ 1 ∷ 3 ∷ []) ∷ Redeliver 7 (again 1) ∷ Flow 7 5 ∷ []) (Push 1)) (0 ∷ 1 ∷ 7 ∷ 1 ∷ 0 ∷ 1 ∷ 2 ∷ 3 ∷ [])
+    ∷ gives
+    (then (append-1 1 0 10 ∷ shared-1 7 ∷ Flow 7 10 ∷ Push 1 ∷ Ack 7 (1 ∷ 0 ∷ 1 ∷ 3 ∷ []) ∷ Redeliver 7 (again 1) ∷ Flow 7 5 ∷ [])
+    (Push 1))
+    (0 ∷ 1 ∷ 7 ∷ 1 ∷ 0 ∷ 1 ∷ 2 ∷ 3 ∷ [])
     -- another subscription's count stays
-    ∷ gives (seen (marks pair-2) (append-1 1 0 0 ∷ shared-1 7 ∷ shared-2 8 ∷ Flow 7 1 ∷ Push 1 ∷ Redeliver 7 (again 1) ∷ [])) (0 ∷ 0 ∷ 0 ∷ [])
+    ∷ gives (seen (marks pair-2) (append-1 1 0 0 ∷ shared-1 7 ∷ shared-2 8 ∷ Flow 7 1 ∷ Push 1 ∷ Redeliver 7 (again 1) ∷ []))
+    (0 ∷ 0 ∷ 0 ∷ [])
     -- the count stops at 2^32 - 1
     ∷ gives (then-seen (marks pair-1) (counted (2 ^ 32 - 3)) (Redeliver 7 (again 1))) (1 ∷ 0 ∷ 0 ∷ (2 ^ 32 - 2) ∷ [])
     ∷ gives (then-seen (marks pair-1) (counted (2 ^ 32 - 2)) (Redeliver 7 (again 1))) (1 ∷ 0 ∷ 0 ∷ (2 ^ 32 - 1) ∷ [])
     ∷ gives (then-seen (marks pair-1) (counted (2 ^ 32 - 1)) (Redeliver 7 (again 1))) (1 ∷ 0 ∷ 0 ∷ (2 ^ 32 - 1) ∷ [])
     -- and is sent with the entry
-    ∷ gives (on (run (counted (2 ^ 32 - 2)) (Redeliver 7 (again 1) ∷ Flow 7 1 ∷ [])) (Push 1)) (1 ∷ 0 ∷ 1 ∷ 7 ∷ 1 ∷ 0 ∷ (2 ^ 32 - 1) ∷ 1 ∷ 0 ∷ [])
-    ∷ gives (on (run (counted (2 ^ 32 - 1)) (Redeliver 7 (again 1) ∷ Flow 7 1 ∷ [])) (Push 1)) (1 ∷ 0 ∷ 1 ∷ 7 ∷ 1 ∷ 0 ∷ (2 ^ 32 - 1) ∷ 1 ∷ 0 ∷ [])
+    ∷ gives (on (run (counted (2 ^ 32 - 2)) (Redeliver 7 (again 1) ∷ Flow 7 1 ∷ [])) (Push 1))
+    (1 ∷ 0 ∷ 1 ∷ 7 ∷ 1 ∷ 0 ∷ (2 ^ 32 - 1) ∷ 1 ∷ 0 ∷ [])
+    ∷ gives (on (run (counted (2 ^ 32 - 1)) (Redeliver 7 (again 1) ∷ Flow 7 1 ∷ [])) (Push 1))
+    (1 ∷ 0 ∷ 1 ∷ 7 ∷ 1 ∷ 0 ∷ (2 ^ 32 - 1) ∷ 1 ∷ 0 ∷ [])
     -- plain: found entries join nacked, at its end, repeats included, words ignored
     ∷ gives (then plain-7 (Redeliver 7 (1 ∷ 2 ∷ 0 ∷ []))) (0 ∷ [])
-    ∷ gives (seen (own 7) (plain-7 ++ Redeliver 7 (1 ∷ 2 ∷ 0 ∷ 9 ∷ 9 ∷ 0 ∷ 1 ∷ 2 ∷ 1 ∷ 5 ∷ []) ∷ Redeliver 7 (1 ∷ 0 ∷ 0 ∷ []) ∷ [])) (1 ∷ 1 ∷ 0 ∷ 0 ∷ 0 ∷ 2 ∷ 2 ∷ 0 ∷ [])
+    ∷ gives
+    (seen (own 7) (plain-7 ++ Redeliver 7 (1 ∷ 2 ∷ 0 ∷ 9 ∷ 9 ∷ 0 ∷ 1 ∷ 2 ∷ 1 ∷ 5 ∷ []) ∷ Redeliver 7 (1 ∷ 0 ∷ 0 ∷ []) ∷ []))
+    (1 ∷ 1 ∷ 0 ∷ 0 ∷ 0 ∷ 2 ∷ 2 ∷ 0 ∷ [])
     -- and no dispatcher changes
     ∷ gives (seen (marks pair-1) (append-1 1 0 0 ∷ shared-1 8 ∷ plain-1 7 ∷ Redeliver 7 (again 1) ∷ [])) (0 ∷ 0 ∷ 0 ∷ [])
     ∷ gives (seen (queue pair-1) (append-1 1 0 0 ∷ shared-1 8 ∷ plain-1 7 ∷ Redeliver 7 (again 1) ∷ [])) []
@@ -70,7 +84,8 @@ redeliver-rows =
     ∷ gives (then (plain-7 ++ Redeliver 7 (again 1) ∷ []) (Redeliver 7 (again 64))) (11 ∷ [])
     ∷ gives (then (plain-7 ++ Redeliver 7 (again 63) ∷ []) (Redeliver 7 (again 1))) (0 ∷ [])
     ∷ gives (then (plain-7 ++ Redeliver 7 (again 64) ∷ []) (Redeliver 7 (9 ∷ 9 ∷ 0 ∷ []))) (0 ∷ [])
-    ∷ gives (seen (own 7) (append-1 1 0 0 ∷ plain-1 7 ∷ Redeliver 7 (again 2) ∷ Redeliver 7 (again 63) ∷ [])) (1 ∷ 1 ∷ 0 ∷ 0 ∷ 0 ∷ 0 ∷ 0 ∷ [])
+    ∷ gives (seen (own 7) (append-1 1 0 0 ∷ plain-1 7 ∷ Redeliver 7 (again 2) ∷ Redeliver 7 (again 63) ∷ []))
+    (1 ∷ 1 ∷ 0 ∷ 0 ∷ 0 ∷ 0 ∷ 0 ∷ [])
     ∷ []
 
 -- ---- seek

@@ -246,11 +246,18 @@ unfoldable pub width-rows : List Row
 width-rows =
     -- topic and subscription are bytes
     gives (fitting (append-to 255 1 0 0 ∷ append-to 256 1 0 0 ∷ [])) (1 ∷ 0 ∷ [])
-    ∷ gives (fitting (Subscribe 7 plain (record { topic = 255; subscription = 255 }) ∷ Subscribe 7 plain (record { topic = 256; subscription = 0 }) ∷ Subscribe 7 plain (record { topic = 0; subscription = 256 }) ∷ [])) (1 ∷ 0 ∷ 0 ∷ [])
+    ∷ gives (fitting (Subscribe 7 plain (record { topic = 255; subscription = 255 }) ∷
+    Subscribe 7 plain (record { topic = 256; subscription = 0 }) ∷
+    Subscribe 7 plain (record { topic = 0; subscription = 256 }) ∷ []))
+    (1 ∷ 0 ∷ 0 ∷ [])
     -- a grant has 32 bits
     ∷ gives (fitting (Flow 7 (2 ^ 32 - 1) ∷ Flow 7 (2 ^ 32) ∷ [])) (1 ∷ 0 ∷ [])
     -- ids, handles and words have 64; a batch size may be any such number, and gets 8
-    ∷ gives (fitting (Append 1 (message (2 ^ 64 - 1) (2 ^ 64 - 1) (2 ^ 64 - 1) (2 ^ 64 - 1)) ∷ Append 1 (message 0 0 (2 ^ 64) 0) ∷ append-to 1 0 0 (2 ^ 64) ∷ [])) (1 ∷ 0 ∷ 0 ∷ [])
-    ∷ gives (fitting (Close (2 ^ 64 - 1) ∷ Close (2 ^ 64) ∷ Ack 7 ((2 ^ 64 - 1) ∷ []) ∷ Ack 7 ((2 ^ 64) ∷ []) ∷ Redeliver 7 ((2 ^ 64 - 1) ∷ []) ∷ Redeliver 7 ((2 ^ 64) ∷ []) ∷ [])) (1 ∷ 0 ∷ 1 ∷ 0 ∷ 1 ∷ 0 ∷ [])
+    ∷ gives (fitting
+    (Append 1 (message (2 ^ 64 - 1) (2 ^ 64 - 1) (2 ^ 64 - 1) (2 ^ 64 - 1)) ∷ Append 1 (message 0 0 (2 ^ 64) 0) ∷ append-to 1 0 0 (2 ^ 64) ∷ []))
+    (1 ∷ 0 ∷ 0 ∷ [])
+    ∷ gives (fitting (Close (2 ^ 64 - 1) ∷ Close (2 ^ 64) ∷ Ack 7 ((2 ^ 64 - 1) ∷ []) ∷ Ack 7 ((2 ^ 64) ∷ []) ∷
+    Redeliver 7 ((2 ^ 64 - 1) ∷ []) ∷ Redeliver 7 ((2 ^ 64) ∷ []) ∷ []))
+    (1 ∷ 0 ∷ 1 ∷ 0 ∷ 1 ∷ 0 ∷ [])
     ∷ gives (fitting (Seek 7 start ∷ Seek 7 (to-id (message-id (2 ^ 64 - 1) 0)) ∷ Seek 7 (to-id (message-id 0 (2 ^ 64))) ∷ [])) (1 ∷ 1 ∷ 0 ∷ [])
     ∷ []

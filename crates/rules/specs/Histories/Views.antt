@@ -8,7 +8,8 @@ use lib.ListN.{length}
 use Rattle.bits.specs.Bits.{bits-cardinality}
 use Rattle.bits.specs.Four.{words}
 use Rattle.rules.specs.Permits.{zero-permits, reading}
-use Rattle.rules.specs.State.{Id, StoredMessage, Topic, Pair, Kind, by-kind, Consumer, Mark, Held, Dispatcher, State, unacknowledged, consumer-of, dispatcher, new-dispatcher}
+use Rattle.rules.specs.State.{Id, StoredMessage, Topic, Pair, Kind, by-kind, Consumer, Mark, Held, Dispatcher, State, unacknowledged, consumer-of}
+use Rattle.rules.specs.State.{dispatcher, new-dispatcher}
 use Rattle.rules.specs.State.Kind.{plain, shared}
 use Rattle.rules.specs.Dispatcher.{of-parts, with-attached, mark-at, balance-check}
 use Rattle.rules.specs.Valid.{valid}
