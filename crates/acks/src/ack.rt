@@ -17,20 +17,19 @@ ghost use mathlib.Core.Path.{_≡_};
 ghost use mathlib.Core.Bool.{true, not};
 ghost use Prim.Native.Nat.{_+_, _*_, _%_, _^_, _≤_};
 ghost use lib.Dec.{eqb};
-ghost use lib.ListN.{length};
 ghost use Rattle.rules.specs.State.{ledger-of};
 ghost use Rattle.rules.specs.State.Kind.{shared};
 ghost use Rattle.rules.specs.Dispatcher.{drop-complete, advance-mark-delete};
 ghost use Rattle.rules.specs.Commands.{ack-groups};
 ghost use Rattle.rules.specs.Calls.{bit-of};
 ghost use Rattle.rules.specs.Calls.Call.{Ack};
-ghost use Rattle.layout.specs.Layout.{decode, put, spells};
+ghost use Rattle.layout.specs.Layout.{decode, spells};
 ghost use Rattle.layout.specs.Calls.{answer, after};
-ghost use Rattle.layout.specs.Fields.{consumer-nth, dispatcher-nth, set-dispatcher};
+ghost use Rattle.layout.specs.Fields.{consumer-now, dispatcher-now, dispatcher-changed};
 ghost use Rattle.groups.specs.Walk.{Stands, groups-from};
 ghost use Rattle.dispatcher.specs.Completion.{Marked};
 ghost use Rattle.commands.specs.Live.{Live};
-ghost use Rattle.acks.specs.Ackable.{Ackable};
+ghost use Rattle.acks.specs.Ackable.{Ackable, Outside-fits};
 
 // 4 if not live. 10 unless the list is of the form. 11 if outside ids would pass 64. The value is
 // mark-delete and whether it moved.
@@ -51,7 +50,7 @@ pub fn ack(store: &mut [u64], consumer: u64, list: &[u64]) -> u64
 
 // An ack of the live consumer `i`.
 fn ack_live(store: &mut [u64], e: usize, i: usize, consumer: u64, list: &[u64]) -> u64
-    requires { ⌜ Live e (now store) i × (consumer-nth (decode (now store)) i .id ≡ consumer) × Stands (now list) 0 ⌝ }
+    requires { ⌜ Live e (now store) i × (consumer-now (now store) i .id ≡ consumer) × Stands (now list) 0 ⌝ }
     ensures answer { λ r. ⌜ r ≡ answer (now (store .entry)) (Ack consumer (now (list .entry))) ⌝ }
     ensures words { λ _. ⌜ now (store .exit) ≡ after (now (store .entry)) (Ack consumer (now (list .entry))) ⌝ }
 {
@@ -63,7 +62,8 @@ fn ack_live(store: &mut [u64], e: usize, i: usize, consumer: u64, list: &[u64]) 
 
 // An ack of the live shared consumer `i`.
 fn ack_shared(store: &mut [u64], e: usize, i: usize, consumer: u64, list: &[u64]) -> u64
-    requires { ⌜ Live e (now store) i × (consumer-nth (decode (now store)) i .id ≡ consumer) × Stands (now list) 0 × (consumer-nth (decode (now store)) i .kind ≡ shared) ⌝ }
+    requires { ⌜ Live e (now store) i × (consumer-now (now store) i .id ≡ consumer) × Stands (now list) 0
+        × (consumer-now (now store) i .kind ≡ shared) ⌝ }
     ensures answer { λ r. ⌜ r ≡ answer (now (store .entry)) (Ack consumer (now (list .entry))) ⌝ }
     ensures words { λ _. ⌜ now (store .exit) ≡ after (now (store .entry)) (Ack consumer (now (list .entry))) ⌝ }
 {
@@ -80,8 +80,10 @@ fn ack_shared(store: &mut [u64], e: usize, i: usize, consumer: u64, list: &[u64]
 // Dispatcher `d` acknowledges the ids of a list, `consumer` drops its complete entries, and
 // mark-delete advances.
 fn complete(store: &mut [u64], e: usize, d: usize, consumer: u64, topic: u64, list: &[u64])
-    requires { ⌜ Ackable e (now store) d topic × Stands (now list) 0 × (length (ack-groups (ledger-of (decode (now store)) topic) (dispatcher-nth (decode (now store)) d) (groups-from (now list) 0) .outside) ≤ 64) × Marked (dispatcher-nth (decode (now store)) d) ⌝ }
-    ensures { λ _. ⌜ now (store .exit) ≡ put (now (store .entry)) (set-dispatcher (decode (now (store .entry))) d (advance-mark-delete (drop-complete consumer (ack-groups (ledger-of (decode (now (store .entry))) topic) (dispatcher-nth (decode (now (store .entry))) d) (groups-from (now (list .entry)) 0))))) ⌝ }
+    requires { ⌜ Ackable e (now store) d topic × Stands (now list) 0 × Outside-fits (now store) d topic (now list)
+        × Marked (dispatcher-now (now store) d) ⌝ }
+    ensures { λ _. ⌜ now (store .exit) ≡ dispatcher-changed (now (store .entry)) d (λ x. advance-mark-delete (drop-complete consumer
+        (ack-groups (ledger-of (decode (now (store .entry))) topic) x (groups-from (now (list .entry)) 0)))) ⌝ }
 {
     ack_all(store, e, d, topic, list);
     drop_complete(store, e, d, consumer);

@@ -20,17 +20,17 @@ ghost use lib.ListN.{length, set};
 ghost use Rattle.bits.specs.Bits.{fresh-unacked-bits, bits-empty};
 ghost use Rattle.bits.specs.Four.{four, words};
 ghost use Rattle.rules.specs.State.{completed, ledger-of};
-ghost use Rattle.rules.specs.Ledger.{message-at, insert-id};
-ghost use Rattle.rules.specs.Dispatcher.{with-marks, mark-at, is-outside, bits-left, ack-mark, ack-id};
+ghost use Rattle.rules.specs.Ledger.{message-at};
+ghost use Rattle.rules.specs.Dispatcher.{with-marks, mark-at, bits-left, ack-mark, ack-id};
 ghost use Rattle.rules.specs.Commands.{ack-groups};
-ghost use Rattle.layout.specs.Layout.{decode, put};
+ghost use Rattle.layout.specs.Layout.{decode};
 ghost use Rattle.layout.specs.Canon.{Canon-store};
-ghost use Rattle.layout.specs.Fields.{dispatcher-nth, set-dispatcher};
+ghost use Rattle.layout.specs.Fields.{dispatcher-now, dispatcher-changed};
 ghost use Rattle.layout.specs.Placed.{Dispatcher-in};
 ghost use Rattle.groups.specs.Walk.{Fits, Stands, group-at, groups-from};
 ghost use Rattle.ledger.specs.Ids.{id-of};
 ghost use Rattle.dispatcher.specs.Values.{mark-of};
-ghost use Rattle.acks.specs.Ackable.{Ackable};
+ghost use Rattle.acks.specs.Ackable.{Ackable, outside-with, Outside-fits};
 
 // The stored bits of an entry, fresh if none.
 fn bits_or_fresh(bits: UnackedBits, batch: u64) -> UnackedBits
@@ -62,7 +62,13 @@ fn acked_whole(mark: Mark) -> Mark
 // A mark with its bits and-ed with the words of the group at `at`; none left means complete.
 fn acked_in_part(mark: Mark, batch: u64, list: &[u64], at: usize) -> Mark
     requires { ⌜ Fits (now list) at ⌝ }
-    ensures { λ r. ⌜ mark-of r ≡ record { acked = record { complete = mark .complete || bits-empty (bits-left batch (group-at (now (list .entry)) at .words) (mark .unacked)); unacked = four (bits-left batch (group-at (now (list .entry)) at .words) (mark .unacked)) }; redelivery-count = mark .«redelivery_count» } ⌝ }
+    ensures { λ r. ⌜ mark-of r ≡ record {
+      acked = record {
+        complete = mark .complete || bits-empty (bits-left batch (group-at (now (list .entry)) at .words) (mark .unacked));
+        unacked = four (bits-left batch (group-at (now (list .entry)) at .words) (mark .unacked));
+      };
+      redelivery-count = mark .«redelivery_count»;
+    } ⌝ }
 {
     let bits = bits_or_fresh(mark.unacked, batch);
     let left = and_group(bits, list, at);
@@ -99,7 +105,9 @@ fn batch_size_of(store: &[u64], e: usize, topic: u64, k: usize) -> u64
 // Dispatcher `d` acknowledges entry `k` of a topic by the group at `at`.
 fn ack_entry(store: &mut [u64], e: usize, d: usize, topic: u64, k: usize, list: &[u64], at: usize)
     requires { ⌜ Ackable e (now store) d topic × (k < length (ledger-of (decode (now store)) topic)) × Fits (now list) at ⌝ }
-    ensures { λ _. ⌜ now (store .exit) ≡ put (now (store .entry)) (set-dispatcher (decode (now (store .entry))) d (with-marks (dispatcher-nth (decode (now (store .entry))) d) (set (dispatcher-nth (decode (now (store .entry))) d .marks) k (ack-mark (message-at (ledger-of (decode (now (store .entry))) topic) k .batch-size) (group-at (now (list .entry)) at .words) (mark-at (dispatcher-nth (decode (now (store .entry))) d) k))) (dispatcher-nth (decode (now (store .entry))) d .outside))) ⌝ }
+    ensures { λ _. ⌜ now (store .exit) ≡ dispatcher-changed (now (store .entry)) d (λ x. with-marks x (set (x .marks) k
+        (ack-mark (message-at (ledger-of (decode (now (store .entry))) topic) k .batch-size) (group-at (now (list .entry)) at .words) (mark-at x k)))
+        (x .outside)) ⌝ }
 {
     let batch = batch_size_of(store, e, topic, k);
     let mark = load_mark(store, e, d, k);
@@ -110,8 +118,9 @@ fn ack_entry(store: &mut [u64], e: usize, d: usize, topic: u64, k: usize, list: 
 // Dispatcher `d` acknowledges an id that is not in the ledger: it joins the outside ids once, in its
 // place.
 fn ack_outside(store: &mut [u64], e: usize, d: usize, ledger: u64, entry: u64)
-    requires { ⌜ Dispatcher-in e (now store) d × (length (cond (is-outside (id-of ledger entry) (dispatcher-nth (decode (now store)) d)) (dispatcher-nth (decode (now store)) d .outside) (insert-id (id-of ledger entry) (dispatcher-nth (decode (now store)) d .outside))) ≤ 64) ⌝ }
-    ensures { λ _. ⌜ now (store .exit) ≡ put (now (store .entry)) (set-dispatcher (decode (now (store .entry))) d (with-marks (dispatcher-nth (decode (now (store .entry))) d) (dispatcher-nth (decode (now (store .entry))) d .marks) (cond (is-outside (id-of ledger entry) (dispatcher-nth (decode (now (store .entry))) d)) (dispatcher-nth (decode (now (store .entry))) d .outside) (insert-id (id-of ledger entry) (dispatcher-nth (decode (now (store .entry))) d .outside))))) ⌝ }
+    requires { ⌜ Dispatcher-in e (now store) d × (length (outside-with (id-of ledger entry) (dispatcher-now (now store) d)) ≤ 64) ⌝ }
+    ensures { λ _. ⌜ now (store .exit) ≡ dispatcher-changed (now (store .entry)) d
+        (λ x. with-marks x (x .marks) (outside-with (id-of ledger entry) x)) ⌝ }
 {
     if !is_outside(store, e, d, ledger, entry) {
         insert_outside(store, e, d, ledger, entry);
@@ -120,8 +129,11 @@ fn ack_outside(store: &mut [u64], e: usize, d: usize, ledger: u64, entry: u64)
 
 // Dispatcher `d` acknowledges the id of the group at `at`.
 fn ack_here(store: &mut [u64], e: usize, d: usize, topic: u64, list: &[u64], at: usize)
-    requires { ⌜ Ackable e (now store) d topic × Fits (now list) at × (length (ack-id (ledger-of (decode (now store)) topic) (dispatcher-nth (decode (now store)) d) (group-at (now list) at .id) (group-at (now list) at .words) .outside) ≤ 64) ⌝ }
-    ensures { λ _. ⌜ now (store .exit) ≡ put (now (store .entry)) (set-dispatcher (decode (now (store .entry))) d (ack-id (ledger-of (decode (now (store .entry))) topic) (dispatcher-nth (decode (now (store .entry))) d) (group-at (now (list .entry)) at .id) (group-at (now (list .entry)) at .words))) ⌝ }
+    requires { ⌜ Ackable e (now store) d topic × Fits (now list) at
+        × (length (ack-id (ledger-of (decode (now store)) topic) (dispatcher-now (now store) d) (group-at (now list) at .id)
+        (group-at (now list) at .words) .outside) ≤ 64) ⌝ }
+    ensures { λ _. ⌜ now (store .exit) ≡ dispatcher-changed (now (store .entry)) d
+        (λ x. ack-id (ledger-of (decode (now (store .entry))) topic) x (group-at (now (list .entry)) at .id) (group-at (now (list .entry)) at .words)) ⌝ }
 {
     let k = position_here(store, e, topic, list, at);
     if k < ledger_length(store, e, topic) {
@@ -133,8 +145,9 @@ fn ack_here(store: &mut [u64], e: usize, d: usize, topic: u64, list: &[u64], at:
 
 // Dispatcher `d` acknowledges the ids of a list, in order.
 pub(crate) fn ack_all(store: &mut [u64], e: usize, d: usize, topic: u64, list: &[u64])
-    requires { ⌜ Ackable e (now store) d topic × Stands (now list) 0 × (length (ack-groups (ledger-of (decode (now store)) topic) (dispatcher-nth (decode (now store)) d) (groups-from (now list) 0) .outside) ≤ 64) ⌝ }
-    ensures { λ _. ⌜ now (store .exit) ≡ put (now (store .entry)) (set-dispatcher (decode (now (store .entry))) d (ack-groups (ledger-of (decode (now (store .entry))) topic) (dispatcher-nth (decode (now (store .entry))) d) (groups-from (now (list .entry)) 0))) ⌝ }
+    requires { ⌜ Ackable e (now store) d topic × Stands (now list) 0 × Outside-fits (now store) d topic (now list) ⌝ }
+    ensures { λ _. ⌜ now (store .exit) ≡ dispatcher-changed (now (store .entry)) d
+        (λ x. ack-groups (ledger-of (decode (now (store .entry))) topic) x (groups-from (now (list .entry)) 0)) ⌝ }
 {
     let mut at = 0;
     while at < list.len() {

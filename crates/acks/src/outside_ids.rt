@@ -15,7 +15,7 @@ ghost use Rattle.rules.specs.Dispatcher.{is-outside};
 ghost use Rattle.rules.specs.Commands.{ack-groups};
 ghost use Rattle.layout.specs.Layout.{decode};
 ghost use Rattle.layout.specs.Canon.{Canon-store};
-ghost use Rattle.layout.specs.Fields.{dispatcher-nth};
+ghost use Rattle.layout.specs.Fields.{dispatcher-now};
 ghost use Rattle.layout.specs.Placed.{Dispatcher-in};
 ghost use Rattle.groups.specs.Walk.{Fits, Stands, group-at, groups-from, end-at};
 ghost use Rattle.ledger.specs.Ids.{id-of};
@@ -33,7 +33,7 @@ fn in_ledger(store: &[u64], e: usize, topic: u64, list: &[u64], at: usize) -> bo
 // Whether an id is among the outside ids of dispatcher `d`.
 pub(crate) fn is_outside(store: &[u64], e: usize, d: usize, ledger: u64, entry: u64) -> bool
     requires { ⌜ Dispatcher-in e (now store) d ⌝ }
-    ensures { λ r. ⌜ r ≡ is-outside (id-of ledger entry) (dispatcher-nth (decode (now (store .entry))) d) ⌝ }
+    ensures { λ r. ⌜ r ≡ is-outside (id-of ledger entry) (dispatcher-now (now (store .entry)) d) ⌝ }
 {
     let j = find_outside(store, e, d, ledger, entry);
     j < outside_count(store, e, d)
@@ -57,7 +57,8 @@ fn named_from(list: &[u64], from: usize, ledger: u64, entry: u64) -> bool
 // 1 if the group at `at` counts, else 0.
 fn new_here(store: &[u64], e: usize, d: usize, topic: u64, list: &[u64], at: usize) -> usize
     requires { ⌜ Dispatcher-in e (now store) d × Fits (now list) at × Stands (now list) (end-at (now list) at) ⌝ }
-    ensures { λ r. ⌜ r ≡ new-bit (ledger-of (decode (now (store .entry))) topic) (dispatcher-nth (decode (now (store .entry))) d .outside) (group-at (now (list .entry)) at) (groups-from (now (list .entry)) (end-at (now (list .entry)) at)) ⌝ }
+    ensures { λ r. ⌜ r ≡ new-bit (ledger-of (decode (now (store .entry))) topic) (dispatcher-now (now (store .entry)) d .outside)
+        (group-at (now (list .entry)) at) (groups-from (now (list .entry)) (end-at (now (list .entry)) at)) ⌝ }
 {
     if in_ledger(store, e, topic, list, at) {
         return 0;
@@ -75,7 +76,8 @@ fn new_here(store: &[u64], e: usize, d: usize, topic: u64, list: &[u64], at: usi
 // How many groups of a list count.
 fn new_ids(store: &[u64], e: usize, d: usize, topic: u64, list: &[u64]) -> usize
     requires { ⌜ Dispatcher-in e (now store) d × Stands (now list) 0 ⌝ }
-    ensures { λ r. ⌜ r ≡ new-count (ledger-of (decode (now (store .entry))) topic) (dispatcher-nth (decode (now (store .entry))) d .outside) (groups-from (now (list .entry)) 0) ⌝ }
+    ensures { λ r. ⌜ r ≡ new-count (ledger-of (decode (now (store .entry))) topic) (dispatcher-now (now (store .entry)) d .outside)
+        (groups-from (now (list .entry)) 0) ⌝ }
 {
     let mut at = 0;
     let mut count = 0;
@@ -89,7 +91,8 @@ fn new_ids(store: &[u64], e: usize, d: usize, topic: u64, list: &[u64]) -> usize
 // Whether more than 64 ids would stand outside the ledger after an ack of a list.
 pub(crate) fn passes_64(store: &[u64], e: usize, d: usize, topic: u64, list: &[u64]) -> bool
     requires { ⌜ Dispatcher-in e (now store) d × Stands (now list) 0 ⌝ }
-    ensures { λ r. ⌜ r ≡ ltb 64 (length (ack-groups (ledger-of (decode (now (store .entry))) topic) (dispatcher-nth (decode (now (store .entry))) d) (groups-from (now (list .entry)) 0) .outside)) ⌝ }
+    ensures { λ r. ⌜ r ≡ ltb 64 (length (ack-groups (ledger-of (decode (now (store .entry))) topic) (dispatcher-now (now (store .entry)) d)
+        (groups-from (now (list .entry)) 0) .outside)) ⌝ }
 {
     let n = outside_count(store, e, d);
     64 < n + new_ids(store, e, d, topic, list)

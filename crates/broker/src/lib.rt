@@ -19,6 +19,7 @@ ghost use mathlib.Core.Path.{_≡_};
 ghost use Prim.Native.Nat.{_/_};
 ghost use lib.ListN.{length};
 ghost use Rattle.rules.specs.Calls.Call.{Append, Flow, Ack, Redeliver, Close, Push, Seek as Seek-call, Subscribe as Subscribe-call};
+ghost use Rattle.layout.specs.Fields.{pair-of};
 ghost use Rattle.layout.specs.Calls.{outcome, answer, after, list-after, open-answer, open-after};
 ghost use Rattle.ledger.specs.Ids.{message-of};
 ghost use Rattle.broker.specs.Exports.{target-from, kind-from};
@@ -60,8 +61,8 @@ pub extern "C" fn broker_subscribe(
     topic: u8,
     subscription: u8,
 ) -> u64
-    ensures answer { λ r. ⌜ r ≡ answer (now (store .entry)) (Subscribe-call consumer (kind-from kind) (record { topic = topic; subscription = subscription })) ⌝ }
-    ensures words { λ _. ⌜ now (store .exit) ≡ after (now (store .entry)) (Subscribe-call consumer (kind-from kind) (record { topic = topic; subscription = subscription })) ⌝ }
+    ensures answer { λ r. ⌜ r ≡ answer (now (store .entry)) (Subscribe-call consumer (kind-from kind) (pair-of topic subscription)) ⌝ }
+    ensures words { λ _. ⌜ now (store .exit) ≡ after (now (store .entry)) (Subscribe-call consumer (kind-from kind) (pair-of topic subscription)) ⌝ }
 {
     if !spells(store) {
         return 1;
@@ -176,7 +177,8 @@ pub extern "C" fn broker_close(store: &mut [u64], consumer: u64) -> u64
 pub extern "C" fn broker_push(store: &mut [u64], list: &mut [u64]) -> u64
     ensures answer { λ r. ⌜ r ≡ answer (now (store .entry)) (Push (length (now (list .entry)) / 13)) ⌝ }
     ensures words { λ _. ⌜ now (store .exit) ≡ after (now (store .entry)) (Push (length (now (list .entry)) / 13)) ⌝ }
-    ensures records { λ _. ⌜ now (list .exit) ≡ list-after (now (list .entry)) (outcome (now (store .entry)) (Push (length (now (list .entry)) / 13))) ⌝ }
+    ensures records { λ _. ⌜ now (list .exit) ≡ list-after (now (list .entry))
+        (outcome (now (store .entry)) (Push (length (now (list .entry)) / 13))) ⌝ }
 {
     if !spells(store) {
         return 1;

@@ -13,9 +13,10 @@ ghost use mathlib.Core.Bool.{true};
 ghost use Prim.Native.Nat.{_<_};
 ghost use Rattle.rules.specs.State.{by-number};
 ghost use Rattle.rules.specs.Calls.Call.{Append};
-ghost use Rattle.layout.specs.Layout.{decode, put, spells};
+ghost use Rattle.layout.specs.Layout.{decode, spells};
 ghost use Rattle.layout.specs.Calls.{answer, after};
 ghost use Rattle.layout.specs.Canon.{Canon-store};
+ghost use Rattle.layout.specs.Fields.{state-changed};
 ghost use Rattle.store.specs.Find.{slot};
 ghost use Rattle.ledger.specs.Ids.{id-of, message-of};
 ghost use Rattle.commands.specs.Appends.{append-refusal, with-topic, append-state, Appends-to};
@@ -68,7 +69,7 @@ fn append_entry(
     batch: u64,
 )
     requires { ⌜ Appends-to e (now store) t topic (id-of ledger entry) ⌝ }
-    ensures { λ _. ⌜ now (store .exit) ≡ put (now (store .entry)) (append-state (decode (now (store .entry))) topic (message-of ledger entry handle batch)) ⌝ }
+    ensures { λ _. ⌜ now (store .exit) ≡ state-changed (now (store .entry)) (λ s. append-state s topic (message-of ledger entry handle batch)) ⌝ }
 {
     make_topic(store, e, t, topic);
     append_message(store, e, t, ledger, entry, handle, batch);
@@ -78,7 +79,7 @@ fn append_entry(
 // The topic `topic`, whose slot is `t`, is made if it does not exist.
 fn make_topic(store: &mut [u64], e: usize, t: usize, topic: u64)
     requires { ⌜ Canon-store e (now store) × (t ≡ slot by-number topic (decode (now store) .topics)) × (t < 8) ⌝ }
-    ensures { λ _. ⌜ now (store .exit) ≡ put (now (store .entry)) (with-topic (decode (now (store .entry))) t topic) ⌝ }
+    ensures { λ _. ⌜ now (store .exit) ≡ state-changed (now (store .entry)) (λ s. with-topic s t topic) ⌝ }
 {
     let n = word(store, 2321);
     if n <= t {

@@ -9,15 +9,15 @@ ghost use lib.ListN.{length};
 ghost use Rattle.rules.specs.State.{by-pair};
 ghost use Rattle.rules.specs.Commands.{with-permits, with-reading};
 ghost use Rattle.layout.specs.Records.{flag-of};
-ghost use Rattle.layout.specs.Layout.{decode, put};
-ghost use Rattle.layout.specs.Fields.{consumer-nth, set-consumer};
+ghost use Rattle.layout.specs.Layout.{decode};
+ghost use Rattle.layout.specs.Fields.{consumer-now, consumer-changed};
 ghost use Rattle.layout.specs.Placed.{Consumer-in};
 ghost use Rattle.store.specs.Find.{slot};
 
 // The id of consumer `i`.
 pub fn consumer_id(store: &[u64], e: usize, i: usize) -> u64
     requires { ⌜ Consumer-in e (now store) i ⌝ }
-    ensures { λ r. ⌜ r ≡ consumer-nth (decode (now (store .entry))) i .id ⌝ }
+    ensures { λ r. ⌜ r ≡ consumer-now (now (store .entry)) i .id ⌝ }
 {
     let at = consumer_at(i);
     store[at]
@@ -26,7 +26,7 @@ pub fn consumer_id(store: &[u64], e: usize, i: usize) -> u64
 // The permits of consumer `i`, in excess form.
 pub fn permits(store: &[u64], e: usize, i: usize) -> u64
     requires { ⌜ Consumer-in e (now store) i ⌝ }
-    ensures { λ r. ⌜ r ≡ consumer-nth (decode (now (store .entry))) i .permits ⌝ }
+    ensures { λ r. ⌜ r ≡ consumer-now (now (store .entry)) i .permits ⌝ }
 {
     let at = consumer_at(i);
     store[at + 4]
@@ -35,7 +35,7 @@ pub fn permits(store: &[u64], e: usize, i: usize) -> u64
 // The topic of consumer `i`.
 pub fn topic(store: &[u64], e: usize, i: usize) -> u64
     requires { ⌜ Consumer-in e (now store) i ⌝ }
-    ensures { λ r. ⌜ r ≡ consumer-nth (decode (now (store .entry))) i .pair .topic ⌝ }
+    ensures { λ r. ⌜ r ≡ consumer-now (now (store .entry)) i .pair .topic ⌝ }
 {
     let at = consumer_at(i);
     store[at + 1]
@@ -44,7 +44,7 @@ pub fn topic(store: &[u64], e: usize, i: usize) -> u64
 // Whether consumer `i` is a shared one.
 pub fn is_shared(store: &[u64], e: usize, i: usize) -> bool
     requires { ⌜ Consumer-in e (now store) i ⌝ }
-    ensures { λ r. ⌜ r ≡ flag-of (consumer-nth (decode (now (store .entry))) i .kind) ⌝ }
+    ensures { λ r. ⌜ r ≡ flag-of (consumer-now (now (store .entry)) i .kind) ⌝ }
 {
     let at = consumer_at(i);
     store[at + 3] == 1
@@ -53,7 +53,7 @@ pub fn is_shared(store: &[u64], e: usize, i: usize) -> bool
 // The cursor of consumer `i`.
 pub fn cursor(store: &[u64], e: usize, i: usize) -> usize
     requires { ⌜ Consumer-in e (now store) i ⌝ }
-    ensures { λ r. ⌜ r ≡ consumer-nth (decode (now (store .entry))) i .cursor ⌝ }
+    ensures { λ r. ⌜ r ≡ consumer-now (now (store .entry)) i .cursor ⌝ }
 {
     let at = consumer_at(i);
     word(store, at + 5)
@@ -62,7 +62,7 @@ pub fn cursor(store: &[u64], e: usize, i: usize) -> usize
 // The number of nacked entries of consumer `i`.
 pub fn nacked_count(store: &[u64], e: usize, i: usize) -> usize
     requires { ⌜ Consumer-in e (now store) i ⌝ }
-    ensures { λ r. ⌜ r ≡ length (consumer-nth (decode (now (store .entry))) i .nacked) ⌝ }
+    ensures { λ r. ⌜ r ≡ length (consumer-now (now (store .entry)) i .nacked) ⌝ }
 {
     let at = consumer_at(i);
     word(store, at + 6)
@@ -71,7 +71,7 @@ pub fn nacked_count(store: &[u64], e: usize, i: usize) -> usize
 // The slot of the dispatcher of consumer `i`.
 pub fn dispatcher_of(store: &[u64], e: usize, i: usize) -> usize
     requires { ⌜ Consumer-in e (now store) i ⌝ }
-    ensures { λ r. ⌜ r ≡ slot by-pair (consumer-nth (decode (now (store .entry))) i .pair) (decode (now (store .entry)) .dispatchers) ⌝ }
+    ensures { λ r. ⌜ r ≡ slot by-pair (consumer-now (now (store .entry)) i .pair) (decode (now (store .entry)) .dispatchers) ⌝ }
 {
     let at = consumer_at(i);
     find_dispatcher(store, e, store[at + 1], store[at + 2])
@@ -80,7 +80,7 @@ pub fn dispatcher_of(store: &[u64], e: usize, i: usize) -> usize
 // Consumer `i` gets other permits.
 pub fn set_permits(store: &mut [u64], e: usize, i: usize, permits: u64)
     requires { ⌜ Consumer-in e (now store) i ⌝ }
-    ensures { λ _. ⌜ now (store .exit) ≡ put (now (store .entry)) (set-consumer (decode (now (store .entry))) i (with-permits (consumer-nth (decode (now (store .entry))) i) permits)) ⌝ }
+    ensures { λ _. ⌜ now (store .exit) ≡ consumer-changed (now (store .entry)) i (λ x. with-permits x permits) ⌝ }
 {
     let at = consumer_at(i);
     store[at + 4] = permits;
@@ -89,7 +89,7 @@ pub fn set_permits(store: &mut [u64], e: usize, i: usize, permits: u64)
 // Consumer `i` gets another cursor.
 pub fn set_cursor(store: &mut [u64], e: usize, i: usize, cursor: usize)
     requires { ⌜ Consumer-in e (now store) i ⌝ }
-    ensures { λ _. ⌜ now (store .exit) ≡ put (now (store .entry)) (set-consumer (decode (now (store .entry))) i (with-reading (consumer-nth (decode (now (store .entry))) i) cursor (consumer-nth (decode (now (store .entry))) i .nacked))) ⌝ }
+    ensures { λ _. ⌜ now (store .exit) ≡ consumer-changed (now (store .entry)) i (λ x. with-reading x cursor (x .nacked)) ⌝ }
 {
     let at = consumer_at(i);
     store[at + 5] = cursor as u64;
@@ -98,7 +98,7 @@ pub fn set_cursor(store: &mut [u64], e: usize, i: usize, cursor: usize)
 // The nacked entries of consumer `i` are cleared.
 pub fn clear_nacked(store: &mut [u64], e: usize, i: usize)
     requires { ⌜ Consumer-in e (now store) i ⌝ }
-    ensures { λ _. ⌜ now (store .exit) ≡ put (now (store .entry)) (set-consumer (decode (now (store .entry))) i (with-reading (consumer-nth (decode (now (store .entry))) i) (consumer-nth (decode (now (store .entry))) i .cursor) [])) ⌝ }
+    ensures { λ _. ⌜ now (store .exit) ≡ consumer-changed (now (store .entry)) i (λ x. with-reading x (x .cursor) []) ⌝ }
 {
     let at = consumer_at(i);
     let n = word(store, at + 6);

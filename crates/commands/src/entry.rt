@@ -13,9 +13,9 @@ ghost use mathlib.Core.List.{map};
 ghost use Rattle.rules.specs.Table.{Every};
 ghost use Rattle.rules.specs.State.{with-dispatchers};
 ghost use Rattle.rules.specs.Commands.{with-new-entry};
-ghost use Rattle.layout.specs.Layout.{decode, put};
+ghost use Rattle.layout.specs.Layout.{decode};
 ghost use Rattle.layout.specs.Canon.{Canon-store};
-ghost use Rattle.layout.specs.Fields.{dispatcher-nth, set-dispatcher};
+ghost use Rattle.layout.specs.Fields.{dispatcher-now, state-changed, dispatcher-changed};
 ghost use Rattle.layout.specs.Placed.{Dispatcher-in};
 ghost use Rattle.ledger.specs.Ids.{id-of};
 ghost use Rattle.commands.specs.Entries.{gained, Takes-entry, Takes};
@@ -23,7 +23,8 @@ ghost use Rattle.commands.specs.Entries.{gained, Takes-entry, Takes};
 // Every dispatcher of the topic gains the mark of the new entry.
 pub(crate) fn new_entries(store: &mut [u64], e: usize, topic: u64, ledger: u64, entry: u64)
     requires { ⌜ Canon-store e (now store) × Every (Takes e topic) (decode (now store) .dispatchers) ⌝ }
-    ensures { λ _. ⌜ now (store .exit) ≡ put (now (store .entry)) (with-dispatchers (decode (now (store .entry))) (map (with-new-entry topic (id-of ledger entry)) (decode (now (store .entry)) .dispatchers))) ⌝ }
+    ensures { λ _. ⌜ now (store .exit) ≡ state-changed (now (store .entry))
+        (λ s. with-dispatchers s (map (with-new-entry topic (id-of ledger entry)) (s .dispatchers))) ⌝ }
 {
     let n = word(store, 2354 + 32 * e);
     let mut d = 0;
@@ -35,8 +36,8 @@ pub(crate) fn new_entries(store: &mut [u64], e: usize, topic: u64, ledger: u64, 
 
 // Dispatcher `d` gains the mark of the new entry, if it is one of the topic.
 fn new_entry(store: &mut [u64], e: usize, d: usize, topic: u64, ledger: u64, entry: u64)
-    requires { ⌜ Dispatcher-in e (now store) d × Takes e topic (dispatcher-nth (decode (now store)) d) ⌝ }
-    ensures { λ _. ⌜ now (store .exit) ≡ put (now (store .entry)) (set-dispatcher (decode (now (store .entry))) d (with-new-entry topic (id-of ledger entry) (dispatcher-nth (decode (now (store .entry))) d))) ⌝ }
+    requires { ⌜ Dispatcher-in e (now store) d × Takes e topic (dispatcher-now (now store) d) ⌝ }
+    ensures { λ _. ⌜ now (store .exit) ≡ dispatcher-changed (now (store .entry)) d (with-new-entry topic (id-of ledger entry)) ⌝ }
 {
     let at = dispatcher_at(e, d);
     if topic == store[at] {
@@ -46,8 +47,8 @@ fn new_entry(store: &mut [u64], e: usize, d: usize, topic: u64, ledger: u64, ent
 
 // Dispatcher `d` gains the mark of the new entry.
 fn gain_entry(store: &mut [u64], e: usize, d: usize, ledger: u64, entry: u64)
-    requires { ⌜ Dispatcher-in e (now store) d × Takes-entry e (dispatcher-nth (decode (now store)) d) ⌝ }
-    ensures { λ _. ⌜ now (store .exit) ≡ put (now (store .entry)) (set-dispatcher (decode (now (store .entry))) d (gained (id-of ledger entry) (dispatcher-nth (decode (now (store .entry))) d))) ⌝ }
+    requires { ⌜ Dispatcher-in e (now store) d × Takes-entry e (dispatcher-now (now store) d) ⌝ }
+    ensures { λ _. ⌜ now (store .exit) ≡ dispatcher-changed (now (store .entry)) d (gained (id-of ledger entry)) ⌝ }
 {
     let k = mark_count(store, e, d);
     let n = outside_count(store, e, d);

@@ -15,9 +15,9 @@ ghost use Prim.Native.Nat.{_+_, _≤_, _<_, _^_};
 ghost use Rattle.rules.specs.Permits.{most-permits};
 ghost use Rattle.rules.specs.State.Kind.{shared};
 ghost use Rattle.rules.specs.Calls.Call.{Flow};
-ghost use Rattle.layout.specs.Layout.{decode, spells};
+ghost use Rattle.layout.specs.Layout.{spells};
 ghost use Rattle.layout.specs.Calls.{answer, after};
-ghost use Rattle.layout.specs.Fields.{consumer-nth};
+ghost use Rattle.layout.specs.Fields.{consumer-now};
 ghost use Rattle.commands.specs.Live.{Live};
 
 // The most permits of a consumer, 2^40 in excess form.
@@ -43,8 +43,8 @@ pub fn flow(store: &mut [u64], consumer: u64, grant: u32) -> u64
 // A flow of the live consumer `i`.
 fn flow_live(store: &mut [u64], e: usize, i: usize, grant: u64) -> u64
     requires { ⌜ Live e (now store) i × (grant < 2 ^ 32) ⌝ }
-    ensures answer { λ r. ⌜ r ≡ answer (now (store .entry)) (Flow (consumer-nth (decode (now (store .entry))) i .id) grant) ⌝ }
-    ensures words { λ _. ⌜ now (store .exit) ≡ after (now (store .entry)) (Flow (consumer-nth (decode (now (store .entry))) i .id) grant) ⌝ }
+    ensures answer { λ r. ⌜ r ≡ answer (now (store .entry)) (Flow (consumer-now (now (store .entry)) i .id) grant) ⌝ }
+    ensures words { λ _. ⌜ now (store .exit) ≡ after (now (store .entry)) (Flow (consumer-now (now (store .entry)) i .id) grant) ⌝ }
 {
     let granted = permits(store, e, i) + grant;
     if MOST_PERMITS < granted {
@@ -59,9 +59,10 @@ fn flow_live(store: &mut [u64], e: usize, i: usize, grant: u64) -> u64
 
 // A flow of the live shared consumer `i`, which would have the permits `granted`.
 fn flow_shared(store: &mut [u64], e: usize, i: usize, grant: u64, granted: u64) -> u64
-    requires { ⌜ Live e (now store) i × (grant < 2 ^ 32) × (consumer-nth (decode (now store)) i .kind ≡ shared) × (granted ≡ consumer-nth (decode (now store)) i .permits + grant) × (granted ≤ most-permits) ⌝ }
-    ensures answer { λ r. ⌜ r ≡ answer (now (store .entry)) (Flow (consumer-nth (decode (now (store .entry))) i .id) grant) ⌝ }
-    ensures words { λ _. ⌜ now (store .exit) ≡ after (now (store .entry)) (Flow (consumer-nth (decode (now (store .entry))) i .id) grant) ⌝ }
+    requires { ⌜ Live e (now store) i × (grant < 2 ^ 32) × (consumer-now (now store) i .kind ≡ shared)
+        × (granted ≡ consumer-now (now store) i .permits + grant) × (granted ≤ most-permits) ⌝ }
+    ensures answer { λ r. ⌜ r ≡ answer (now (store .entry)) (Flow (consumer-now (now (store .entry)) i .id) grant) ⌝ }
+    ensures words { λ _. ⌜ now (store .exit) ≡ after (now (store .entry)) (Flow (consumer-now (now (store .entry)) i .id) grant) ⌝ }
 {
     let d = dispatcher_of(store, e, i);
     let total = total_available_permits(store, e, d) + grant;

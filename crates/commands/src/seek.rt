@@ -20,7 +20,7 @@ ghost use Rattle.rules.specs.Commands.{target-position};
 ghost use Rattle.layout.specs.Layout.{decode, spells};
 ghost use Rattle.layout.specs.Calls.{answer, after};
 ghost use Rattle.layout.specs.Canon.{Canon-store};
-ghost use Rattle.layout.specs.Fields.{consumer-nth};
+ghost use Rattle.layout.specs.Fields.{consumer-now};
 ghost use Rattle.ledger.specs.Ids.{id-of};
 ghost use Rattle.commands.specs.Live.{Live};
 ghost use Rattle.commands.specs.Targets.{target-of, seek-to, seek-call};
@@ -42,8 +42,8 @@ pub fn seek(store: &mut [u64], command: Seek) -> u64
 // A seek of the live consumer `i`.
 fn seek_live(store: &mut [u64], e: usize, i: usize, target: Target) -> u64
     requires { ⌜ Live e (now store) i ⌝ }
-    ensures answer { λ r. ⌜ r ≡ answer (now (store .entry)) (seek-to (consumer-nth (decode (now (store .entry))) i .id) target) ⌝ }
-    ensures words { λ _. ⌜ now (store .exit) ≡ after (now (store .entry)) (seek-to (consumer-nth (decode (now (store .entry))) i .id) target) ⌝ }
+    ensures answer { λ r. ⌜ r ≡ answer (now (store .entry)) (seek-to (consumer-now (now (store .entry)) i .id) target) ⌝ }
+    ensures words { λ _. ⌜ now (store .exit) ≡ after (now (store .entry)) (seek-to (consumer-now (now (store .entry)) i .id) target) ⌝ }
 {
     let number = topic(store, e, i);
     let cursor = target_position(store, e, number, target);

@@ -11,7 +11,7 @@ ghost use Prim.Native.Nat.{_+_, _*_, _^_, _≤_, _<_};
 ghost use Rattle.rules.specs.State.{consumer-of};
 ghost use Rattle.rules.specs.Dispatcher.{live-under, add-permits, balance-check};
 ghost use Rattle.layout.specs.Layout.{decode, spells};
-ghost use Rattle.layout.specs.Fields.{consumer-nth, dispatcher-nth};
+ghost use Rattle.layout.specs.Fields.{consumer-now, dispatcher-now};
 ghost use Rattle.layout.specs.Placed.{Consumer-in, Dispatcher-in};
 
 // No permits, in excess form.
@@ -20,7 +20,7 @@ const NO_PERMITS: u64 = 0x4000_0000_0000_0000;
 // Whether consumer `i` is live under dispatcher `d`: a shared one of its pair.
 fn is_under(store: &[u64], e: usize, d: usize, i: usize) -> bool
     requires { ⌜ Dispatcher-in e (now store) d × Consumer-in e (now store) i ⌝ }
-    ensures { λ r. ⌜ r ≡ live-under (dispatcher-nth (decode (now (store .entry))) d .pair) (consumer-nth (decode (now (store .entry))) i) ⌝ }
+    ensures { λ r. ⌜ r ≡ live-under (dispatcher-now (now (store .entry)) d .pair) (consumer-now (now (store .entry)) i) ⌝ }
 {
     let at = consumer_at(i);
     let to = dispatcher_at(e, d);
@@ -36,7 +36,7 @@ fn is_under(store: &[u64], e: usize, d: usize, i: usize) -> bool
 // A sum with the permits of the consumer `id` added, if it is live under dispatcher `d`.
 fn add_permits(store: &[u64], e: usize, d: usize, id: u64, sum: u64) -> u64
     requires { ⌜ Dispatcher-in e (now store) d × (spells (now store) ≡ true) × (2 ^ 61 ≤ sum) × (sum ≤ 2 ^ 63) ⌝ }
-    ensures { λ r. ⌜ r ≡ add-permits (dispatcher-nth (decode (now (store .entry))) d .pair) sum (consumer-of (decode (now (store .entry))) id) ⌝ }
+    ensures { λ r. ⌜ r ≡ add-permits (dispatcher-now (now (store .entry)) d .pair) sum (consumer-of (decode (now (store .entry))) id) ⌝ }
 {
     let Lookup::Live(i) = find_consumer(store, e, id) else {
         return sum;
@@ -51,7 +51,7 @@ fn add_permits(store: &[u64], e: usize, d: usize, id: u64, sum: u64) -> u64
 // The permits of the consumers of dispatcher `d`, in excess form.
 pub fn balance_check(store: &[u64], e: usize, d: usize) -> u64
     requires { ⌜ Dispatcher-in e (now store) d × (spells (now store) ≡ true) ⌝ }
-    ensures { λ r. ⌜ r ≡ balance-check (decode (now (store .entry))) (dispatcher-nth (decode (now (store .entry))) d) ⌝ }
+    ensures { λ r. ⌜ r ≡ balance-check (decode (now (store .entry))) (dispatcher-now (now (store .entry)) d) ⌝ }
 {
     let n = ring_count(store, e, d);
     let first = dispatcher_at(e, d) + 12;

@@ -13,17 +13,19 @@ ghost use mathlib.Core.Path.{_≡_};
 ghost use mathlib.Core.Bool.{not, _&&_};
 ghost use Prim.Native.Nat.{_+_, _<_};
 ghost use lib.Dec.{eqb};
-ghost use lib.ListN.{length, getD, drop};
+ghost use lib.ListN.{length, drop};
 ghost use Rattle.rules.specs.Dispatcher.{drop-complete, leading-complete, advance-mark-delete, complete-at};
-ghost use Rattle.layout.specs.Layout.{decode, put};
-ghost use Rattle.layout.specs.Fields.{zero-held, dispatcher-nth, set-dispatcher};
+ghost use Rattle.layout.specs.Fields.{dispatcher-now, dispatcher-changed};
 ghost use Rattle.layout.specs.Placed.{Dispatcher-in};
 ghost use Rattle.dispatcher.specs.Completion.{Marked};
+ghost use Rattle.dispatcher.specs.Held.{held-now};
 
 // Whether entry `j` in flight of dispatcher `d` stays when `id` drops its complete entries.
 fn stays(store: &[u64], e: usize, d: usize, id: u64, j: usize) -> bool
-    requires { ⌜ Dispatcher-in e (now store) d × (j < length (dispatcher-nth (decode (now store)) d .in-flight)) × (getD (dispatcher-nth (decode (now store)) d .in-flight) j zero-held .position < length (dispatcher-nth (decode (now store)) d .marks)) ⌝ }
-    ensures { λ r. ⌜ r ≡ not (eqb id (getD (dispatcher-nth (decode (now (store .entry))) d .in-flight) j zero-held .holder) && complete-at (dispatcher-nth (decode (now (store .entry))) d) (getD (dispatcher-nth (decode (now (store .entry))) d .in-flight) j zero-held .position)) ⌝ }
+    requires { ⌜ Dispatcher-in e (now store) d × (j < length (dispatcher-now (now store) d .in-flight))
+        × (held-now (now store) d j .position < length (dispatcher-now (now store) d .marks)) ⌝ }
+    ensures { λ r. ⌜ r ≡ not (eqb id (held-now (now (store .entry)) d j .holder)
+        && complete-at (dispatcher-now (now (store .entry)) d) (held-now (now (store .entry)) d j .position)) ⌝ }
 {
     let h = load_held(store, e, d, j);
     if h.holder == id {
@@ -35,8 +37,8 @@ fn stays(store: &[u64], e: usize, d: usize, id: u64, j: usize) -> bool
 // The consumer `id` drops its complete entries of dispatcher `d`; no other holder does. Those that
 // stay move to the front in their order.
 pub fn drop_complete(store: &mut [u64], e: usize, d: usize, id: u64)
-    requires { ⌜ Dispatcher-in e (now store) d × Marked (dispatcher-nth (decode (now store)) d) ⌝ }
-    ensures { λ _. ⌜ now (store .exit) ≡ put (now (store .entry)) (set-dispatcher (decode (now (store .entry))) d (drop-complete id (dispatcher-nth (decode (now (store .entry))) d))) ⌝ }
+    requires { ⌜ Dispatcher-in e (now store) d × Marked (dispatcher-now (now store) d) ⌝ }
+    ensures { λ _. ⌜ now (store .exit) ≡ dispatcher-changed (now (store .entry)) d (drop-complete id) ⌝ }
 {
     let n = flight_count(store, e, d);
     let mut j = 0;
@@ -55,7 +57,7 @@ pub fn drop_complete(store: &mut [u64], e: usize, d: usize, id: u64)
 // The first position from `from` on whose entry is not complete, in dispatcher `d`.
 fn first_incomplete(store: &[u64], e: usize, d: usize, from: usize) -> usize
     requires { ⌜ Dispatcher-in e (now store) d ⌝ }
-    ensures { λ r. ⌜ r ≡ from + leading-complete (drop from (dispatcher-nth (decode (now (store .entry))) d .marks)) ⌝ }
+    ensures { λ r. ⌜ r ≡ from + leading-complete (drop from (dispatcher-now (now (store .entry)) d .marks)) ⌝ }
 {
     let n = mark_count(store, e, d);
     let mut k = from;
@@ -71,7 +73,7 @@ fn first_incomplete(store: &[u64], e: usize, d: usize, from: usize) -> usize
 // The mark-delete of dispatcher `d` goes forward while the entry there is complete.
 pub fn advance_mark_delete(store: &mut [u64], e: usize, d: usize)
     requires { ⌜ Dispatcher-in e (now store) d ⌝ }
-    ensures { λ _. ⌜ now (store .exit) ≡ put (now (store .entry)) (set-dispatcher (decode (now (store .entry))) d (advance-mark-delete (dispatcher-nth (decode (now (store .entry))) d))) ⌝ }
+    ensures { λ _. ⌜ now (store .exit) ≡ dispatcher-changed (now (store .entry)) d advance-mark-delete ⌝ }
 {
     let head = load_head(store, e, d);
     let k = first_incomplete(store, e, d, head.mark_delete);

@@ -7,18 +7,17 @@ use store::stretch::word;
 ghost use mathlib.Core.Path.{_≡_};
 ghost use mathlib.Core.List.{_++_, _∷_, []};
 ghost use Prim.Native.Nat.{_+_, _≤_, _<_};
-ghost use lib.ListN.{length, getD, set, take, drop};
+ghost use lib.ListN.{length, set, take, drop};
 ghost use Rattle.rules.specs.Dispatcher.{with-places, is-hold};
-ghost use Rattle.layout.specs.Layout.{decode, put};
-ghost use Rattle.layout.specs.Fields.{zero-held, dispatcher-nth, set-dispatcher};
+ghost use Rattle.layout.specs.Fields.{dispatcher-now, dispatcher-changed};
 ghost use Rattle.layout.specs.Placed.{Dispatcher-in};
 ghost use Rattle.store.specs.Find.{slot};
-ghost use Rattle.dispatcher.specs.Held.{held-of, held-at, by-hold};
+ghost use Rattle.dispatcher.specs.Held.{held-of, held-at, held-now, by-hold};
 
 // The number of entries in flight of dispatcher `d`.
 pub fn flight_count(store: &[u64], e: usize, d: usize) -> usize
     requires { ⌜ Dispatcher-in e (now store) d ⌝ }
-    ensures { λ r. ⌜ r ≡ length (dispatcher-nth (decode (now (store .entry))) d .in-flight) ⌝ }
+    ensures { λ r. ⌜ r ≡ length (dispatcher-now (now (store .entry)) d .in-flight) ⌝ }
 {
     let at = dispatcher_at(e, d);
     word(store, at + 174 + e)
@@ -45,7 +44,7 @@ fn same_hold(store: &[u64], at: usize, id: u64, k: usize) -> bool
 // The slot of `id`'s hold on position `k` of dispatcher `d`; the number in flight if there is none.
 pub fn find_hold(store: &[u64], e: usize, d: usize, id: u64, k: usize) -> usize
     requires { ⌜ Dispatcher-in e (now store) d ⌝ }
-    ensures { λ r. ⌜ r ≡ slot by-hold (held-of id k) (dispatcher-nth (decode (now (store .entry))) d .in-flight) ⌝ }
+    ensures { λ r. ⌜ r ≡ slot by-hold (held-of id k) (dispatcher-now (now (store .entry)) d .in-flight) ⌝ }
 {
     let at = dispatcher_at(e, d);
     let n = word(store, at + 174 + e);
@@ -61,8 +60,9 @@ pub fn find_hold(store: &[u64], e: usize, d: usize, id: u64, k: usize) -> usize
 
 // Entry `j` in flight of dispatcher `d` is left out; those after it keep their order.
 pub fn remove_flight(store: &mut [u64], e: usize, d: usize, j: usize)
-    requires { ⌜ Dispatcher-in e (now store) d × (j < length (dispatcher-nth (decode (now store)) d .in-flight)) ⌝ }
-    ensures { λ _. ⌜ now (store .exit) ≡ put (now (store .entry)) (set-dispatcher (decode (now (store .entry))) d (with-places (dispatcher-nth (decode (now (store .entry))) d) (dispatcher-nth (decode (now (store .entry))) d .redelivery) (take j (dispatcher-nth (decode (now (store .entry))) d .in-flight) ++ drop (j + 1) (dispatcher-nth (decode (now (store .entry))) d .in-flight)))) ⌝ }
+    requires { ⌜ Dispatcher-in e (now store) d × (j < length (dispatcher-now (now store) d .in-flight)) ⌝ }
+    ensures { λ _. ⌜ now (store .exit) ≡ dispatcher-changed (now (store .entry)) d
+        (λ x. with-places x (x .redelivery) (take j (x .in-flight) ++ drop (j + 1) (x .in-flight))) ⌝ }
 {
     let at = dispatcher_at(e, d);
     let n = word(store, at + 174 + e);
@@ -72,8 +72,9 @@ pub fn remove_flight(store: &mut [u64], e: usize, d: usize, j: usize)
 
 // `id` holds position `k` of dispatcher `d`, after all that is in flight.
 pub fn append_flight(store: &mut [u64], e: usize, d: usize, id: u64, k: usize)
-    requires { ⌜ Dispatcher-in e (now store) d × (length (dispatcher-nth (decode (now store)) d .in-flight) < e) ⌝ }
-    ensures { λ _. ⌜ now (store .exit) ≡ put (now (store .entry)) (set-dispatcher (decode (now (store .entry))) d (with-places (dispatcher-nth (decode (now (store .entry))) d) (dispatcher-nth (decode (now (store .entry))) d .redelivery) (dispatcher-nth (decode (now (store .entry))) d .in-flight ++ held-of id k ∷ []))) ⌝ }
+    requires { ⌜ Dispatcher-in e (now store) d × (length (dispatcher-now (now store) d .in-flight) < e) ⌝ }
+    ensures { λ _. ⌜ now (store .exit) ≡ dispatcher-changed (now (store .entry)) d
+        (λ x. with-places x (x .redelivery) (x .in-flight ++ held-of id k ∷ [])) ⌝ }
 {
     let at = dispatcher_at(e, d);
     let n = word(store, at + 174 + e);
@@ -85,8 +86,8 @@ pub fn append_flight(store: &mut [u64], e: usize, d: usize, id: u64, k: usize)
 
 // Entry `j` in flight of dispatcher `d`.
 pub fn load_held(store: &[u64], e: usize, d: usize, j: usize) -> Held
-    requires { ⌜ Dispatcher-in e (now store) d × (j < length (dispatcher-nth (decode (now store)) d .in-flight)) ⌝ }
-    ensures { λ r. ⌜ held-of (r .holder) (r .position) ≡ getD (dispatcher-nth (decode (now (store .entry))) d .in-flight) j zero-held ⌝ }
+    requires { ⌜ Dispatcher-in e (now store) d × (j < length (dispatcher-now (now store) d .in-flight)) ⌝ }
+    ensures { λ r. ⌜ held-of (r .holder) (r .position) ≡ held-now (now (store .entry)) d j ⌝ }
 {
     let at = dispatcher_at(e, d) + 175 + e + j * 2;
     Held {
@@ -97,8 +98,9 @@ pub fn load_held(store: &[u64], e: usize, d: usize, j: usize) -> Held
 
 // Dispatcher `d` gets another entry `j` in flight.
 pub fn save_held(store: &mut [u64], e: usize, d: usize, j: usize, held: Held)
-    requires { ⌜ Dispatcher-in e (now store) d × (j < length (dispatcher-nth (decode (now store)) d .in-flight)) ⌝ }
-    ensures { λ _. ⌜ now (store .exit) ≡ put (now (store .entry)) (set-dispatcher (decode (now (store .entry))) d (with-places (dispatcher-nth (decode (now (store .entry))) d) (dispatcher-nth (decode (now (store .entry))) d .redelivery) (set (dispatcher-nth (decode (now (store .entry))) d .in-flight) j (held-of (held .holder) (held .position))))) ⌝ }
+    requires { ⌜ Dispatcher-in e (now store) d × (j < length (dispatcher-now (now store) d .in-flight)) ⌝ }
+    ensures { λ _. ⌜ now (store .exit) ≡ dispatcher-changed (now (store .entry)) d
+        (λ x. with-places x (x .redelivery) (set (x .in-flight) j (held-of (held .holder) (held .position)))) ⌝ }
 {
     let at = dispatcher_at(e, d) + 175 + e + j * 2;
     store[at] = held.holder;
@@ -107,8 +109,8 @@ pub fn save_held(store: &mut [u64], e: usize, d: usize, j: usize, held: Held)
 
 // The first `n` entries in flight of dispatcher `d` stay, the others go.
 pub fn keep_flight(store: &mut [u64], e: usize, d: usize, n: usize)
-    requires { ⌜ Dispatcher-in e (now store) d × (n ≤ length (dispatcher-nth (decode (now store)) d .in-flight)) ⌝ }
-    ensures { λ _. ⌜ now (store .exit) ≡ put (now (store .entry)) (set-dispatcher (decode (now (store .entry))) d (with-places (dispatcher-nth (decode (now (store .entry))) d) (dispatcher-nth (decode (now (store .entry))) d .redelivery) (take n (dispatcher-nth (decode (now (store .entry))) d .in-flight)))) ⌝ }
+    requires { ⌜ Dispatcher-in e (now store) d × (n ≤ length (dispatcher-now (now store) d .in-flight)) ⌝ }
+    ensures { λ _. ⌜ now (store .exit) ≡ dispatcher-changed (now (store .entry)) d (λ x. with-places x (x .redelivery) (take n (x .in-flight))) ⌝ }
 {
     let at = dispatcher_at(e, d);
     let count = word(store, at + 174 + e);

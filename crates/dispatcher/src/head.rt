@@ -5,15 +5,14 @@ use store::offsets::dispatcher_at;
 use store::stretch::word;
 ghost use mathlib.Core.Path.{_≡_};
 ghost use Rattle.rules.specs.Dispatcher.{with-next};
-ghost use Rattle.layout.specs.Layout.{decode, put};
-ghost use Rattle.layout.specs.Fields.{dispatcher-nth, set-dispatcher};
+ghost use Rattle.layout.specs.Fields.{dispatcher-now, dispatcher-changed};
 ghost use Rattle.layout.specs.Placed.{Dispatcher-in};
 ghost use Rattle.dispatcher.specs.Values.{head-of, with-head};
 
 // The next slot of dispatcher `d`.
 pub fn next(store: &[u64], e: usize, d: usize) -> usize
     requires { ⌜ Dispatcher-in e (now store) d ⌝ }
-    ensures { λ r. ⌜ r ≡ dispatcher-nth (decode (now (store .entry))) d .next ⌝ }
+    ensures { λ r. ⌜ r ≡ dispatcher-now (now (store .entry)) d .next ⌝ }
 {
     let at = dispatcher_at(e, d);
     word(store, at + 2)
@@ -22,7 +21,7 @@ pub fn next(store: &[u64], e: usize, d: usize) -> usize
 // Dispatcher `d` gets another next slot.
 pub fn set_next(store: &mut [u64], e: usize, d: usize, to: usize)
     requires { ⌜ Dispatcher-in e (now store) d ⌝ }
-    ensures { λ _. ⌜ now (store .exit) ≡ put (now (store .entry)) (set-dispatcher (decode (now (store .entry))) d (with-next (dispatcher-nth (decode (now (store .entry))) d) to)) ⌝ }
+    ensures { λ _. ⌜ now (store .exit) ≡ dispatcher-changed (now (store .entry)) d (λ x. with-next x to) ⌝ }
 {
     let at = dispatcher_at(e, d);
     store[at + 2] = to as u64;
@@ -31,7 +30,7 @@ pub fn set_next(store: &mut [u64], e: usize, d: usize, to: usize)
 // The mark-delete of dispatcher `d`.
 pub fn mark_delete(store: &[u64], e: usize, d: usize) -> usize
     requires { ⌜ Dispatcher-in e (now store) d ⌝ }
-    ensures { λ r. ⌜ r ≡ dispatcher-nth (decode (now (store .entry))) d .mark-delete ⌝ }
+    ensures { λ r. ⌜ r ≡ dispatcher-now (now (store .entry)) d .mark-delete ⌝ }
 {
     let at = dispatcher_at(e, d);
     word(store, at + 4)
@@ -40,7 +39,7 @@ pub fn mark_delete(store: &[u64], e: usize, d: usize) -> usize
 // The four numbers of dispatcher `d`.
 pub fn load_head(store: &[u64], e: usize, d: usize) -> Head
     requires { ⌜ Dispatcher-in e (now store) d ⌝ }
-    ensures { λ r. ⌜ r ≡ head-of (dispatcher-nth (decode (now (store .entry))) d) ⌝ }
+    ensures { λ r. ⌜ r ≡ head-of (dispatcher-now (now (store .entry)) d) ⌝ }
 {
     let at = dispatcher_at(e, d);
     Head {
@@ -54,7 +53,7 @@ pub fn load_head(store: &[u64], e: usize, d: usize) -> Head
 // Dispatcher `d` gets other four numbers.
 pub fn save_head(store: &mut [u64], e: usize, d: usize, head: Head)
     requires { ⌜ Dispatcher-in e (now store) d ⌝ }
-    ensures { λ _. ⌜ now (store .exit) ≡ put (now (store .entry)) (set-dispatcher (decode (now (store .entry))) d (with-head (dispatcher-nth (decode (now (store .entry))) d) head)) ⌝ }
+    ensures { λ _. ⌜ now (store .exit) ≡ dispatcher-changed (now (store .entry)) d (λ x. with-head x head) ⌝ }
 {
     let at = dispatcher_at(e, d);
     store[at + 2] = head.next as u64;

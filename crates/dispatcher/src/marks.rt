@@ -10,8 +10,7 @@ ghost use lib.ListN.{length, getD, set};
 ghost use Rattle.rules.specs.State.{new-mark};
 ghost use Rattle.rules.specs.Dispatcher.{with-marks, mark-at, complete-at};
 ghost use Rattle.rules.specs.Commands.{raised};
-ghost use Rattle.layout.specs.Layout.{decode, put};
-ghost use Rattle.layout.specs.Fields.{dispatcher-nth, set-dispatcher, with-complete};
+ghost use Rattle.layout.specs.Fields.{dispatcher-now, dispatcher-changed, with-complete};
 ghost use Rattle.layout.specs.Placed.{Dispatcher-in};
 ghost use Rattle.dispatcher.specs.Values.{mark-of};
 
@@ -25,7 +24,7 @@ pub struct Mark {
 // The number of marks of dispatcher `d`.
 pub fn mark_count(store: &[u64], e: usize, d: usize) -> usize
     requires { ⌜ Dispatcher-in e (now store) d ⌝ }
-    ensures { λ r. ⌜ r ≡ length (dispatcher-nth (decode (now (store .entry))) d .marks) ⌝ }
+    ensures { λ r. ⌜ r ≡ length (dispatcher-now (now (store .entry)) d .marks) ⌝ }
 {
     let at = dispatcher_at(e, d);
     word(store, at + 175 + 3 * e)
@@ -34,8 +33,8 @@ pub fn mark_count(store: &[u64], e: usize, d: usize) -> usize
 // Dispatcher `d`, which has `n` marks and room, gains a new one at their end: the words there are 0
 // already.
 pub fn raise_marks(store: &mut [u64], e: usize, d: usize, n: usize)
-    requires { ⌜ Dispatcher-in e (now store) d × (n ≡ length (dispatcher-nth (decode (now store)) d .marks)) × (n < e) ⌝ }
-    ensures { λ _. ⌜ now (store .exit) ≡ put (now (store .entry)) (set-dispatcher (decode (now (store .entry))) d (with-marks (dispatcher-nth (decode (now (store .entry))) d) (dispatcher-nth (decode (now (store .entry))) d .marks ++ new-mark ∷ []) (dispatcher-nth (decode (now (store .entry))) d .outside))) ⌝ }
+    requires { ⌜ Dispatcher-in e (now store) d × (n ≡ length (dispatcher-now (now store) d .marks)) × (n < e) ⌝ }
+    ensures { λ _. ⌜ now (store .exit) ≡ dispatcher-changed (now (store .entry)) d (λ x. with-marks x (x .marks ++ new-mark ∷ []) (x .outside)) ⌝ }
 {
     let at = dispatcher_at(e, d);
     store[at + 175 + 3 * e] = (n + 1) as u64;
@@ -43,8 +42,9 @@ pub fn raise_marks(store: &mut [u64], e: usize, d: usize, n: usize)
 
 // Mark `k` of dispatcher `d` becomes complete.
 pub fn complete_mark(store: &mut [u64], e: usize, d: usize, k: usize)
-    requires { ⌜ Dispatcher-in e (now store) d × (k < length (dispatcher-nth (decode (now store)) d .marks)) ⌝ }
-    ensures { λ _. ⌜ now (store .exit) ≡ put (now (store .entry)) (set-dispatcher (decode (now (store .entry))) d (with-marks (dispatcher-nth (decode (now (store .entry))) d) (set (dispatcher-nth (decode (now (store .entry))) d .marks) k (with-complete (getD (dispatcher-nth (decode (now (store .entry))) d .marks) k new-mark) true)) (dispatcher-nth (decode (now (store .entry))) d .outside))) ⌝ }
+    requires { ⌜ Dispatcher-in e (now store) d × (k < length (dispatcher-now (now store) d .marks)) ⌝ }
+    ensures { λ _. ⌜ now (store .exit) ≡ dispatcher-changed (now (store .entry)) d
+        (λ x. with-marks x (set (x .marks) k (with-complete (getD (x .marks) k new-mark) true)) (x .outside)) ⌝ }
 {
     let at = dispatcher_at(e, d);
     store[at + 176 + 3 * e + k * 6] = 1;
@@ -63,8 +63,9 @@ fn one_more(count: u64) -> u64
 
 // The redelivery count of mark `k` of dispatcher `d` goes up by 1, stopping at 2^32 - 1.
 pub fn raise_count(store: &mut [u64], e: usize, d: usize, k: usize)
-    requires { ⌜ Dispatcher-in e (now store) d × (k < length (dispatcher-nth (decode (now store)) d .marks)) ⌝ }
-    ensures { λ _. ⌜ now (store .exit) ≡ put (now (store .entry)) (set-dispatcher (decode (now (store .entry))) d (with-marks (dispatcher-nth (decode (now (store .entry))) d) (set (dispatcher-nth (decode (now (store .entry))) d .marks) k (raised (mark-at (dispatcher-nth (decode (now (store .entry))) d) k))) (dispatcher-nth (decode (now (store .entry))) d .outside))) ⌝ }
+    requires { ⌜ Dispatcher-in e (now store) d × (k < length (dispatcher-now (now store) d .marks)) ⌝ }
+    ensures { λ _. ⌜ now (store .exit) ≡ dispatcher-changed (now (store .entry)) d
+        (λ x. with-marks x (set (x .marks) k (raised (mark-at x k))) (x .outside)) ⌝ }
 {
     let at = dispatcher_at(e, d);
     let count = at + 177 + 3 * e + k * 6;
@@ -73,8 +74,8 @@ pub fn raise_count(store: &mut [u64], e: usize, d: usize, k: usize)
 
 // Mark `k` of dispatcher `d`.
 pub fn load_mark(store: &[u64], e: usize, d: usize, k: usize) -> Mark
-    requires { ⌜ Dispatcher-in e (now store) d × (k < length (dispatcher-nth (decode (now store)) d .marks)) ⌝ }
-    ensures { λ r. ⌜ mark-of r ≡ mark-at (dispatcher-nth (decode (now (store .entry))) d) k ⌝ }
+    requires { ⌜ Dispatcher-in e (now store) d × (k < length (dispatcher-now (now store) d .marks)) ⌝ }
+    ensures { λ r. ⌜ mark-of r ≡ mark-at (dispatcher-now (now (store .entry)) d) k ⌝ }
 {
     let at = dispatcher_at(e, d) + 176 + 3 * e + k * 6;
     Mark {
@@ -91,8 +92,8 @@ pub fn load_mark(store: &[u64], e: usize, d: usize, k: usize) -> Mark
 
 // Whether mark `k` of dispatcher `d` is complete.
 pub(crate) fn is_complete(store: &[u64], e: usize, d: usize, k: usize) -> bool
-    requires { ⌜ Dispatcher-in e (now store) d × (k < length (dispatcher-nth (decode (now store)) d .marks)) ⌝ }
-    ensures { λ r. ⌜ r ≡ complete-at (dispatcher-nth (decode (now (store .entry))) d) k ⌝ }
+    requires { ⌜ Dispatcher-in e (now store) d × (k < length (dispatcher-now (now store) d .marks)) ⌝ }
+    ensures { λ r. ⌜ r ≡ complete-at (dispatcher-now (now (store .entry)) d) k ⌝ }
 {
     let at = dispatcher_at(e, d);
     store[at + 176 + 3 * e + k * 6] == 1
@@ -100,8 +101,9 @@ pub(crate) fn is_complete(store: &[u64], e: usize, d: usize, k: usize) -> bool
 
 // Dispatcher `d` gets another mark `k`.
 pub fn save_mark(store: &mut [u64], e: usize, d: usize, k: usize, mark: Mark)
-    requires { ⌜ Dispatcher-in e (now store) d × (k < length (dispatcher-nth (decode (now store)) d .marks)) ⌝ }
-    ensures { λ _. ⌜ now (store .exit) ≡ put (now (store .entry)) (set-dispatcher (decode (now (store .entry))) d (with-marks (dispatcher-nth (decode (now (store .entry))) d) (set (dispatcher-nth (decode (now (store .entry))) d .marks) k (mark-of mark)) (dispatcher-nth (decode (now (store .entry))) d .outside))) ⌝ }
+    requires { ⌜ Dispatcher-in e (now store) d × (k < length (dispatcher-now (now store) d .marks)) ⌝ }
+    ensures { λ _. ⌜ now (store .exit) ≡ dispatcher-changed (now (store .entry)) d
+        (λ x. with-marks x (set (x .marks) k (mark-of mark)) (x .outside)) ⌝ }
 {
     let at = dispatcher_at(e, d) + 176 + 3 * e + k * 6;
     store[at] = mark.complete as u64;

@@ -10,8 +10,7 @@ ghost use Prim.Native.Nat.{_+_, _<_};
 ghost use lib.ListN.{length, take, drop};
 ghost use Rattle.rules.specs.Ledger.{after-id, insert-id};
 ghost use Rattle.rules.specs.Dispatcher.{with-marks};
-ghost use Rattle.layout.specs.Layout.{decode, put};
-ghost use Rattle.layout.specs.Fields.{dispatcher-nth, set-dispatcher};
+ghost use Rattle.layout.specs.Fields.{dispatcher-now, dispatcher-changed};
 ghost use Rattle.layout.specs.Placed.{Dispatcher-in};
 ghost use Rattle.store.specs.Find.{slot};
 ghost use Rattle.ledger.specs.Ids.{id-of, id-at};
@@ -20,7 +19,7 @@ ghost use Rattle.dispatcher.specs.Outside.{by-itself, by-order};
 // The number of outside ids of dispatcher `d`.
 pub fn outside_count(store: &[u64], e: usize, d: usize) -> usize
     requires { ⌜ Dispatcher-in e (now store) d ⌝ }
-    ensures { λ r. ⌜ r ≡ length (dispatcher-nth (decode (now (store .entry))) d .outside) ⌝ }
+    ensures { λ r. ⌜ r ≡ length (dispatcher-now (now (store .entry)) d .outside) ⌝ }
 {
     let at = dispatcher_at(e, d);
     word(store, at + 44)
@@ -29,7 +28,7 @@ pub fn outside_count(store: &[u64], e: usize, d: usize) -> usize
 // The place of an id among the outside ids of dispatcher `d`; their number where it is not there.
 pub fn find_outside(store: &[u64], e: usize, d: usize, ledger: u64, entry: u64) -> usize
     requires { ⌜ Dispatcher-in e (now store) d ⌝ }
-    ensures { λ r. ⌜ r ≡ slot by-itself (id-of ledger entry) (dispatcher-nth (decode (now (store .entry))) d .outside) ⌝ }
+    ensures { λ r. ⌜ r ≡ slot by-itself (id-of ledger entry) (dispatcher-now (now (store .entry)) d .outside) ⌝ }
 {
     let at = dispatcher_at(e, d);
     let n = word(store, at + 44);
@@ -45,8 +44,9 @@ pub fn find_outside(store: &[u64], e: usize, d: usize, ledger: u64, entry: u64) 
 
 // Outside id `j` of dispatcher `d` is left out; those after it keep their order.
 pub fn remove_outside(store: &mut [u64], e: usize, d: usize, j: usize)
-    requires { ⌜ Dispatcher-in e (now store) d × (j < length (dispatcher-nth (decode (now store)) d .outside)) ⌝ }
-    ensures { λ _. ⌜ now (store .exit) ≡ put (now (store .entry)) (set-dispatcher (decode (now (store .entry))) d (with-marks (dispatcher-nth (decode (now (store .entry))) d) (dispatcher-nth (decode (now (store .entry))) d .marks) (take j (dispatcher-nth (decode (now (store .entry))) d .outside) ++ drop (j + 1) (dispatcher-nth (decode (now (store .entry))) d .outside)))) ⌝ }
+    requires { ⌜ Dispatcher-in e (now store) d × (j < length (dispatcher-now (now store) d .outside)) ⌝ }
+    ensures { λ _. ⌜ now (store .exit) ≡ dispatcher-changed (now (store .entry)) d
+        (λ x. with-marks x (x .marks) (take j (x .outside) ++ drop (j + 1) (x .outside))) ⌝ }
 {
     let at = dispatcher_at(e, d);
     let n = word(store, at + 44);
@@ -70,7 +70,7 @@ fn is_after(store: &[u64], at: usize, ledger: u64, entry: u64) -> bool
 // their number where there is none.
 fn place_for_outside(store: &[u64], e: usize, d: usize, ledger: u64, entry: u64) -> usize
     requires { ⌜ Dispatcher-in e (now store) d ⌝ }
-    ensures { λ r. ⌜ r ≡ slot by-order (id-of ledger entry) (dispatcher-nth (decode (now (store .entry))) d .outside) ⌝ }
+    ensures { λ r. ⌜ r ≡ slot by-order (id-of ledger entry) (dispatcher-now (now (store .entry)) d .outside) ⌝ }
 {
     let at = dispatcher_at(e, d);
     let n = word(store, at + 44);
@@ -86,8 +86,9 @@ fn place_for_outside(store: &[u64], e: usize, d: usize, ledger: u64, entry: u64)
 
 // An id joins the outside ids of dispatcher `d`, which have room, in its place among them.
 pub fn insert_outside(store: &mut [u64], e: usize, d: usize, ledger: u64, entry: u64)
-    requires { ⌜ Dispatcher-in e (now store) d × (length (dispatcher-nth (decode (now store)) d .outside) < 64) ⌝ }
-    ensures { λ _. ⌜ now (store .exit) ≡ put (now (store .entry)) (set-dispatcher (decode (now (store .entry))) d (with-marks (dispatcher-nth (decode (now (store .entry))) d) (dispatcher-nth (decode (now (store .entry))) d .marks) (insert-id (id-of ledger entry) (dispatcher-nth (decode (now (store .entry))) d .outside)))) ⌝ }
+    requires { ⌜ Dispatcher-in e (now store) d × (length (dispatcher-now (now store) d .outside) < 64) ⌝ }
+    ensures { λ _. ⌜ now (store .exit) ≡ dispatcher-changed (now (store .entry)) d
+        (λ x. with-marks x (x .marks) (insert-id (id-of ledger entry) (x .outside))) ⌝ }
 {
     let at = dispatcher_at(e, d);
     let n = word(store, at + 44);

@@ -7,14 +7,13 @@ ghost use mathlib.Core.List.{_++_, _∷_, []};
 ghost use Prim.Native.Nat.{_<_, _≤_};
 ghost use lib.ListN.{length, getD, drop};
 ghost use Rattle.rules.specs.Dispatcher.{with-places};
-ghost use Rattle.layout.specs.Layout.{decode, put};
-ghost use Rattle.layout.specs.Fields.{dispatcher-nth, set-dispatcher};
+ghost use Rattle.layout.specs.Fields.{dispatcher-now, dispatcher-changed};
 ghost use Rattle.layout.specs.Placed.{Dispatcher-in};
 
 // The number of queued positions of dispatcher `d`.
 pub fn queue_count(store: &[u64], e: usize, d: usize) -> usize
     requires { ⌜ Dispatcher-in e (now store) d ⌝ }
-    ensures { λ r. ⌜ r ≡ length (dispatcher-nth (decode (now (store .entry))) d .redelivery) ⌝ }
+    ensures { λ r. ⌜ r ≡ length (dispatcher-now (now (store .entry)) d .redelivery) ⌝ }
 {
     let at = dispatcher_at(e, d);
     word(store, at + 173)
@@ -22,8 +21,8 @@ pub fn queue_count(store: &[u64], e: usize, d: usize) -> usize
 
 // Queued position `j` of dispatcher `d`.
 pub fn queued(store: &[u64], e: usize, d: usize, j: usize) -> usize
-    requires { ⌜ Dispatcher-in e (now store) d × (j < length (dispatcher-nth (decode (now store)) d .redelivery)) ⌝ }
-    ensures { λ r. ⌜ r ≡ getD (dispatcher-nth (decode (now (store .entry))) d .redelivery) j 0 ⌝ }
+    requires { ⌜ Dispatcher-in e (now store) d × (j < length (dispatcher-now (now store) d .redelivery)) ⌝ }
+    ensures { λ r. ⌜ r ≡ getD (dispatcher-now (now (store .entry)) d .redelivery) j 0 ⌝ }
 {
     let at = dispatcher_at(e, d);
     word(store, at + 174 + j)
@@ -31,8 +30,8 @@ pub fn queued(store: &[u64], e: usize, d: usize, j: usize) -> usize
 
 // Position `k` goes to the end of the queue of dispatcher `d`.
 pub fn append_queue(store: &mut [u64], e: usize, d: usize, k: usize)
-    requires { ⌜ Dispatcher-in e (now store) d × (length (dispatcher-nth (decode (now store)) d .redelivery) < e) ⌝ }
-    ensures { λ _. ⌜ now (store .exit) ≡ put (now (store .entry)) (set-dispatcher (decode (now (store .entry))) d (with-places (dispatcher-nth (decode (now (store .entry))) d) (dispatcher-nth (decode (now (store .entry))) d .redelivery ++ k ∷ []) (dispatcher-nth (decode (now (store .entry))) d .in-flight))) ⌝ }
+    requires { ⌜ Dispatcher-in e (now store) d × (length (dispatcher-now (now store) d .redelivery) < e) ⌝ }
+    ensures { λ _. ⌜ now (store .exit) ≡ dispatcher-changed (now (store .entry)) d (λ x. with-places x (x .redelivery ++ k ∷ []) (x .in-flight)) ⌝ }
 {
     let at = dispatcher_at(e, d);
     let n = word(store, at + 173);
@@ -42,8 +41,8 @@ pub fn append_queue(store: &mut [u64], e: usize, d: usize, k: usize)
 
 // The first `n` positions leave the queue of dispatcher `d`; none, and no word is moved.
 pub fn drop_queue(store: &mut [u64], e: usize, d: usize, n: usize)
-    requires { ⌜ Dispatcher-in e (now store) d × (n ≤ length (dispatcher-nth (decode (now store)) d .redelivery)) ⌝ }
-    ensures { λ _. ⌜ now (store .exit) ≡ put (now (store .entry)) (set-dispatcher (decode (now (store .entry))) d (with-places (dispatcher-nth (decode (now (store .entry))) d) (drop n (dispatcher-nth (decode (now (store .entry))) d .redelivery)) (dispatcher-nth (decode (now (store .entry))) d .in-flight))) ⌝ }
+    requires { ⌜ Dispatcher-in e (now store) d × (n ≤ length (dispatcher-now (now store) d .redelivery)) ⌝ }
+    ensures { λ _. ⌜ now (store .exit) ≡ dispatcher-changed (now (store .entry)) d (λ x. with-places x (drop n (x .redelivery)) (x .in-flight)) ⌝ }
 {
     if n == 0 {
         return;

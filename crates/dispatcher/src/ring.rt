@@ -8,8 +8,7 @@ ghost use mathlib.Core.List.{_++_, _∷_, []};
 ghost use Prim.Native.Nat.{_+_, _<_};
 ghost use lib.ListN.{length, take, drop};
 ghost use Rattle.rules.specs.Dispatcher.{with-attached};
-ghost use Rattle.layout.specs.Layout.{decode, put};
-ghost use Rattle.layout.specs.Fields.{dispatcher-nth, set-dispatcher};
+ghost use Rattle.layout.specs.Fields.{dispatcher-now, dispatcher-changed};
 ghost use Rattle.layout.specs.Placed.{Dispatcher-in};
 ghost use Rattle.store.specs.Find.{slot};
 ghost use Rattle.dispatcher.specs.Held.{by-value};
@@ -17,7 +16,7 @@ ghost use Rattle.dispatcher.specs.Held.{by-value};
 // The number of ring ids of dispatcher `d`.
 pub fn ring_count(store: &[u64], e: usize, d: usize) -> usize
     requires { ⌜ Dispatcher-in e (now store) d ⌝ }
-    ensures { λ r. ⌜ r ≡ length (dispatcher-nth (decode (now (store .entry))) d .attached) ⌝ }
+    ensures { λ r. ⌜ r ≡ length (dispatcher-now (now (store .entry)) d .attached) ⌝ }
 {
     let at = dispatcher_at(e, d);
     word(store, at + 11)
@@ -26,7 +25,7 @@ pub fn ring_count(store: &[u64], e: usize, d: usize) -> usize
 // The slot of `id` in the ring of dispatcher `d`; the number of ring ids where it is not there.
 pub fn find_ring(store: &[u64], e: usize, d: usize, id: u64) -> usize
     requires { ⌜ Dispatcher-in e (now store) d ⌝ }
-    ensures { λ r. ⌜ r ≡ slot by-value id (dispatcher-nth (decode (now (store .entry))) d .attached) ⌝ }
+    ensures { λ r. ⌜ r ≡ slot by-value id (dispatcher-now (now (store .entry)) d .attached) ⌝ }
 {
     let at = dispatcher_at(e, d);
     let n = word(store, at + 11);
@@ -42,8 +41,9 @@ pub fn find_ring(store: &[u64], e: usize, d: usize, id: u64) -> usize
 
 // Ring id `j` of dispatcher `d` is left out; those after it keep their order.
 pub fn remove_ring(store: &mut [u64], e: usize, d: usize, j: usize)
-    requires { ⌜ Dispatcher-in e (now store) d × (j < length (dispatcher-nth (decode (now store)) d .attached)) ⌝ }
-    ensures { λ _. ⌜ now (store .exit) ≡ put (now (store .entry)) (set-dispatcher (decode (now (store .entry))) d (with-attached (dispatcher-nth (decode (now (store .entry))) d) (take j (dispatcher-nth (decode (now (store .entry))) d .attached) ++ drop (j + 1) (dispatcher-nth (decode (now (store .entry))) d .attached)))) ⌝ }
+    requires { ⌜ Dispatcher-in e (now store) d × (j < length (dispatcher-now (now store) d .attached)) ⌝ }
+    ensures { λ _. ⌜ now (store .exit) ≡ dispatcher-changed (now (store .entry)) d
+        (λ x. with-attached x (take j (x .attached) ++ drop (j + 1) (x .attached))) ⌝ }
 {
     let at = dispatcher_at(e, d);
     let n = word(store, at + 11);
@@ -53,8 +53,8 @@ pub fn remove_ring(store: &mut [u64], e: usize, d: usize, j: usize)
 
 // `id` goes to the end of the ring of dispatcher `d`.
 pub fn append_ring(store: &mut [u64], e: usize, d: usize, id: u64)
-    requires { ⌜ Dispatcher-in e (now store) d × (length (dispatcher-nth (decode (now store)) d .attached) < 32) ⌝ }
-    ensures { λ _. ⌜ now (store .exit) ≡ put (now (store .entry)) (set-dispatcher (decode (now (store .entry))) d (with-attached (dispatcher-nth (decode (now (store .entry))) d) (dispatcher-nth (decode (now (store .entry))) d .attached ++ id ∷ []))) ⌝ }
+    requires { ⌜ Dispatcher-in e (now store) d × (length (dispatcher-now (now store) d .attached) < 32) ⌝ }
+    ensures { λ _. ⌜ now (store .exit) ≡ dispatcher-changed (now (store .entry)) d (λ x. with-attached x (x .attached ++ id ∷ [])) ⌝ }
 {
     let at = dispatcher_at(e, d);
     let n = word(store, at + 11);

@@ -27,7 +27,8 @@ fn room(words: usize, records: usize) -> usize
 fn push_flat(store: &mut [u64], flat: &mut [u64], records: usize) -> u64
     ensures answer { λ r. ⌜ r ≡ answer (now (store .entry)) (Push (room (length (now (flat .entry))) records)) ⌝ }
     ensures words { λ _. ⌜ now (store .exit) ≡ after (now (store .entry)) (Push (room (length (now (flat .entry))) records)) ⌝ }
-    ensures records { λ _. ⌜ now (flat .exit) ≡ list-after (now (flat .entry)) (outcome (now (store .entry)) (Push (room (length (now (flat .entry))) records))) ⌝ }
+    ensures records { λ _. ⌜ now (flat .exit) ≡ list-after (now (flat .entry))
+        (outcome (now (store .entry)) (Push (room (length (now (flat .entry))) records))) ⌝ }
 {
     let end = room(flat.len(), records) * 13;
     broker_push(store, &mut flat[..end])
@@ -49,8 +50,10 @@ fn made(answer: u64) -> usize
 pub fn push_records(store: &mut [u64], flat: &mut [u64], list: &mut [Dispatch]) -> u64
     ensures answer { λ r. ⌜ r ≡ answer (now (store .entry)) (Push (room (length (now (flat .entry))) (length (now (list .entry))))) ⌝ }
     ensures words { λ _. ⌜ now (store .exit) ≡ after (now (store .entry)) (Push (room (length (now (flat .entry))) (length (now (list .entry))))) ⌝ }
-    ensures flat { λ _. ⌜ now (flat .exit) ≡ list-after (now (flat .entry)) (outcome (now (store .entry)) (Push (room (length (now (flat .entry))) (length (now (list .entry)))))) ⌝ }
-    ensures records { λ _. ⌜ now (list .exit) ≡ listed (outcome (now (store .entry)) (Push (room (length (now (flat .entry))) (length (now (list .entry)))))) (now (list .entry)) ⌝ }
+    ensures flat { λ _. ⌜ now (flat .exit) ≡ list-after (now (flat .entry))
+        (outcome (now (store .entry)) (Push (room (length (now (flat .entry))) (length (now (list .entry)))))) ⌝ }
+    ensures records { λ _. ⌜ now (list .exit) ≡ listed
+        (outcome (now (store .entry)) (Push (room (length (now (flat .entry))) (length (now (list .entry)))))) (now (list .entry)) ⌝ }
 {
     let answer = push_flat(store, flat, list.len());
     fill(list, flat, made(answer));
@@ -91,7 +94,8 @@ fn no_dispatch() -> Dispatch
 pub fn push_listed(store: &mut [u64], flat: &mut [u64]) -> Listed
     ensures answer { λ r. ⌜ r .answer ≡ answer (now (store .entry)) (Push (room (length (now (flat .entry))) 64)) ⌝ }
     ensures words { λ _. ⌜ now (store .exit) ≡ after (now (store .entry)) (Push (room (length (now (flat .entry))) 64)) ⌝ }
-    ensures flat { λ _. ⌜ now (flat .exit) ≡ list-after (now (flat .entry)) (outcome (now (store .entry)) (Push (room (length (now (flat .entry))) 64))) ⌝ }
+    ensures flat { λ _. ⌜ now (flat .exit) ≡ list-after (now (flat .entry))
+        (outcome (now (store .entry)) (Push (room (length (now (flat .entry))) 64))) ⌝ }
     ensures records { λ r. ⌜ r .list ≡ listed (outcome (now (store .entry)) (Push (room (length (now (flat .entry))) 64))) (replicate 64 no-dispatch) ⌝ }
 {
     let mut list = [no_dispatch(); 64];

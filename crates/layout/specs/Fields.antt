@@ -47,6 +47,12 @@ zero-dispatcher =
       outside = [];
     }
 
+-- ---- from numbers
+
+-- the pair of a topic and a subscription
+abbrev pub pair-of : ℕ → ℕ → Pair
+pair-of topic subscription = record { topic = topic; subscription = subscription }
+
 -- ---- by place
 
 -- consumer i
@@ -98,6 +104,22 @@ put-topic-at ws t x = put ws (set-topic (decode ws) t x)
 -- another dispatcher d
 abbrev pub put-dispatcher-at : List ℕ → ℕ → Dispatcher → List ℕ
 put-dispatcher-at ws d x = put ws (set-dispatcher (decode ws) d x)
+
+-- words with that state changed by f
+abbrev pub state-changed : List ℕ → (State → State) → List ℕ
+state-changed ws f = put ws (f (decode ws))
+
+-- words with consumer i of that state changed by f
+abbrev pub consumer-changed : List ℕ → ℕ → (Consumer → Consumer) → List ℕ
+consumer-changed ws i f = put-consumer-at ws i (f (consumer-now ws i))
+
+-- topic t changed by f
+abbrev pub topic-changed : List ℕ → ℕ → (Topic → Topic) → List ℕ
+topic-changed ws t f = put-topic-at ws t (f (topic-now ws t))
+
+-- dispatcher d changed by f
+abbrev pub dispatcher-changed : List ℕ → ℕ → (Dispatcher → Dispatcher) → List ℕ
+dispatcher-changed ws d f = put-dispatcher-at ws d (f (dispatcher-now ws d))
 
 -- ---- a record with one field changed, where the rules have no name for it
 

@@ -5,8 +5,7 @@ ghost use mathlib.Core.Path.{_≡_};
 ghost use Prim.Native.Nat.{_<_};
 ghost use lib.ListN.{length};
 ghost use Rattle.rules.specs.Ledger.{appended};
-ghost use Rattle.layout.specs.Layout.{decode, put};
-ghost use Rattle.layout.specs.Fields.{topic-nth, set-topic};
+ghost use Rattle.layout.specs.Fields.{topic-now, topic-changed};
 ghost use Rattle.layout.specs.Placed.{Topic-in};
 ghost use Rattle.ledger.specs.Ids.{message-of};
 
@@ -20,8 +19,8 @@ pub fn append_message(
     handle: u64,
     batch: u64,
 )
-    requires { ⌜ Topic-in e (now store) t × (length (topic-nth (decode (now store)) t .messages) < e) ⌝ }
-    ensures { λ _. ⌜ now (store .exit) ≡ put (now (store .entry)) (set-topic (decode (now (store .entry))) t (appended (message-of ledger entry handle batch) (topic-nth (decode (now (store .entry))) t))) ⌝ }
+    requires { ⌜ Topic-in e (now store) t × (length (topic-now (now store) t .messages) < e) ⌝ }
+    ensures { λ _. ⌜ now (store .exit) ≡ topic-changed (now (store .entry)) t (appended (message-of ledger entry handle batch)) ⌝ }
 {
     let at = topic_at(e, t);
     let n = word(store, at + 3);

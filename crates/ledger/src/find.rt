@@ -6,8 +6,7 @@ ghost use Prim.Native.Nat.{_+_, _<_};
 ghost use lib.ListN.{length};
 ghost use Rattle.rules.specs.State.{same-id};
 ghost use Rattle.rules.specs.Ledger.{position-of, at-or-after, seek-position};
-ghost use Rattle.layout.specs.Layout.{decode};
-ghost use Rattle.layout.specs.Fields.{topic-nth};
+ghost use Rattle.layout.specs.Fields.{topic-now};
 ghost use Rattle.layout.specs.Placed.{Topic-in};
 ghost use Rattle.ledger.specs.Ids.{id-of, id-at};
 
@@ -38,7 +37,7 @@ fn at_or_after(store: &[u64], at: usize, ledger: u64, entry: u64) -> bool
 // The position of an id in the ledger of topic `t`; the number of messages where it is not there.
 pub fn position_of(store: &[u64], e: usize, t: usize, ledger: u64, entry: u64) -> usize
     requires { ⌜ Topic-in e (now store) t ⌝ }
-    ensures { λ r. ⌜ r ≡ position-of (id-of ledger entry) (topic-nth (decode (now (store .entry))) t .messages) ⌝ }
+    ensures { λ r. ⌜ r ≡ position-of (id-of ledger entry) (topic-now (now (store .entry)) t .messages) ⌝ }
 {
     let at = topic_at(e, t);
     let n = word(store, at + 3);
@@ -55,7 +54,7 @@ pub fn position_of(store: &[u64], e: usize, t: usize, ledger: u64, entry: u64) -
 // The first position in the ledger of topic `t` whose id is (`ledger`, `entry`) or greater, else 0.
 pub fn first_at_or_after(store: &[u64], e: usize, t: usize, ledger: u64, entry: u64) -> usize
     requires { ⌜ Topic-in e (now store) t ⌝ }
-    ensures { λ r. ⌜ r ≡ seek-position (id-of ledger entry) (topic-nth (decode (now (store .entry))) t .messages) ⌝ }
+    ensures { λ r. ⌜ r ≡ seek-position (id-of ledger entry) (topic-now (now (store .entry)) t .messages) ⌝ }
 {
     let at = topic_at(e, t);
     let n = word(store, at + 3);

@@ -4,8 +4,7 @@ ghost use mathlib.Core.Path.{_≡_};
 ghost use Prim.Native.Nat.{_<_};
 ghost use lib.ListN.{length};
 ghost use Rattle.rules.specs.Ledger.{message-at};
-ghost use Rattle.layout.specs.Layout.{decode};
-ghost use Rattle.layout.specs.Fields.{topic-nth};
+ghost use Rattle.layout.specs.Fields.{topic-now};
 ghost use Rattle.layout.specs.Placed.{Topic-in};
 ghost use Rattle.ledger.specs.Ids.{message-of};
 
@@ -18,8 +17,8 @@ pub struct StoredMessage {
 
 // Message `k` of topic `t`.
 pub fn load_message(store: &[u64], e: usize, t: usize, k: usize) -> StoredMessage
-    requires { ⌜ Topic-in e (now store) t × (k < length (topic-nth (decode (now store)) t .messages)) ⌝ }
-    ensures { λ r. ⌜ message-of (r .ledger) (r .entry) (r .handle) (r .«batch_size») ≡ message-at (topic-nth (decode (now (store .entry))) t .messages) k ⌝ }
+    requires { ⌜ Topic-in e (now store) t × (k < length (topic-now (now store) t .messages)) ⌝ }
+    ensures { λ r. ⌜ message-of (r .ledger) (r .entry) (r .handle) (r .«batch_size») ≡ message-at (topic-now (now (store .entry)) t .messages) k ⌝ }
 {
     let at = topic_at(e, t) + 4 + k * 4;
     StoredMessage {
@@ -32,8 +31,8 @@ pub fn load_message(store: &[u64], e: usize, t: usize, k: usize) -> StoredMessag
 
 // The batch size of message `k` of topic `t`.
 pub fn batch_size(store: &[u64], e: usize, t: usize, k: usize) -> u64
-    requires { ⌜ Topic-in e (now store) t × (k < length (topic-nth (decode (now store)) t .messages)) ⌝ }
-    ensures { λ r. ⌜ r ≡ message-at (topic-nth (decode (now (store .entry))) t .messages) k .batch-size ⌝ }
+    requires { ⌜ Topic-in e (now store) t × (k < length (topic-now (now store) t .messages)) ⌝ }
+    ensures { λ r. ⌜ r ≡ message-at (topic-now (now (store .entry)) t .messages) k .batch-size ⌝ }
 {
     let at = topic_at(e, t);
     store[at + 7 + k * 4]

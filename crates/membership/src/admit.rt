@@ -15,6 +15,7 @@ ghost use Rattle.rules.specs.Table.{is-some, member};
 ghost use Rattle.rules.specs.State.{consumer-of, dispatcher-of, dispatcher};
 ghost use Rattle.layout.specs.Layout.{decode};
 ghost use Rattle.layout.specs.Canon.{Canon-store};
+ghost use Rattle.layout.specs.Fields.{pair-of};
 
 // Whether an id is live.
 pub(crate) fn is_live(store: &[u64], e: usize, id: u64) -> bool
@@ -52,7 +53,8 @@ pub(crate) fn is_full(store: &[u64], e: usize, live: bool) -> bool
 // Whether a pair would be new, and 8 exist.
 pub(crate) fn pairs_full(store: &[u64], e: usize, topic: u64, subscription: u64) -> bool
     requires { ⌜ Canon-store e (now store) ⌝ }
-    ensures { λ r. ⌜ r ≡ not (is-some (dispatcher-of (decode (now (store .entry))) (record { topic = topic; subscription = subscription }))) && leb 8 (length (decode (now (store .entry)) .dispatchers)) ⌝ }
+    ensures { λ r. ⌜ r ≡ not (is-some (dispatcher-of (decode (now (store .entry))) (pair-of topic subscription)))
+        && leb 8 (length (decode (now (store .entry)) .dispatchers)) ⌝ }
 {
     let d = find_dispatcher(store, e, topic, subscription);
     let n = dispatcher_count(store, e);
@@ -65,7 +67,8 @@ pub(crate) fn pairs_full(store: &[u64], e: usize, topic: u64, subscription: u64)
 // Whether an id would be new in the ring of a pair, and that has 32.
 pub(crate) fn ring_full(store: &[u64], e: usize, topic: u64, subscription: u64, id: u64) -> bool
     requires { ⌜ Canon-store e (now store) ⌝ }
-    ensures { λ r. ⌜ r ≡ not (member id (dispatcher (decode (now (store .entry))) (record { topic = topic; subscription = subscription }) .attached)) && leb 32 (length (dispatcher (decode (now (store .entry))) (record { topic = topic; subscription = subscription }) .attached)) ⌝ }
+    ensures { λ r. ⌜ r ≡ not (member id (dispatcher (decode (now (store .entry))) (pair-of topic subscription) .attached))
+        && leb 32 (length (dispatcher (decode (now (store .entry))) (pair-of topic subscription) .attached)) ⌝ }
 {
     if in_ring(store, e, topic, subscription, id) {
         return false;

@@ -21,7 +21,7 @@ ghost use Rattle.rules.specs.Calls.Call.{Close};
 ghost use Rattle.rules.specs.State.{by-pair};
 ghost use Rattle.layout.specs.Layout.{decode, spells};
 ghost use Rattle.layout.specs.Calls.{answer, after};
-ghost use Rattle.layout.specs.Fields.{consumer-nth, dispatcher-nth};
+ghost use Rattle.layout.specs.Fields.{consumer-now, dispatcher-now};
 ghost use Rattle.store.specs.Find.{slot};
 ghost use Rattle.commands.specs.Live.{Live};
 
@@ -58,8 +58,10 @@ fn total_after(leak: u64, total: u64, permits: u64) -> u64
 
 // The total of dispatcher `d` without the consumer `i`.
 fn total_without(store: &[u64], e: usize, i: usize, d: usize) -> u64
-    requires { ⌜ Live e (now store) i × (d ≡ slot by-pair (consumer-nth (decode (now store)) i .pair) (decode (now store) .dispatchers)) × (d < length (decode (now store) .dispatchers)) ⌝ }
-    ensures { λ r. ⌜ r ≡ total-after-close (decode (now (store .entry)) .leak-shared-permits-on-churn) (dispatcher-nth (decode (now (store .entry))) d .total-available-permits) (consumer-nth (decode (now (store .entry))) i .permits) ⌝ }
+    requires { ⌜ Live e (now store) i × (d ≡ slot by-pair (consumer-now (now store) i .pair) (decode (now store) .dispatchers))
+        × (d < length (decode (now store) .dispatchers)) ⌝ }
+    ensures { λ r. ⌜ r ≡ total-after-close (decode (now (store .entry)) .leak-shared-permits-on-churn)
+        (dispatcher-now (now (store .entry)) d .total-available-permits) (consumer-now (now (store .entry)) i .permits) ⌝ }
 {
     let total = total_available_permits(store, e, d);
     let p = permits(store, e, i);
@@ -68,7 +70,7 @@ fn total_without(store: &[u64], e: usize, i: usize, d: usize) -> u64
 
 // The close of the live shared consumer `i`, whose id is `id`.
 fn close_shared(store: &mut [u64], e: usize, i: usize, id: u64) -> u64
-    requires { ⌜ Live e (now store) i × (id ≡ consumer-nth (decode (now store)) i .id) × (consumer-nth (decode (now store)) i .kind ≡ shared) ⌝ }
+    requires { ⌜ Live e (now store) i × (id ≡ consumer-now (now store) i .id) × (consumer-now (now store) i .kind ≡ shared) ⌝ }
     ensures answer { λ r. ⌜ r ≡ answer (now (store .entry)) (Close id) ⌝ }
     ensures words { λ _. ⌜ now (store .exit) ≡ after (now (store .entry)) (Close id) ⌝ }
 {
@@ -84,7 +86,7 @@ fn close_shared(store: &mut [u64], e: usize, i: usize, id: u64) -> u64
 
 // The close of the live consumer `i`, whose id is `id`.
 fn close_live(store: &mut [u64], e: usize, i: usize, id: u64) -> u64
-    requires { ⌜ Live e (now store) i × (id ≡ consumer-nth (decode (now store)) i .id) ⌝ }
+    requires { ⌜ Live e (now store) i × (id ≡ consumer-now (now store) i .id) ⌝ }
     ensures answer { λ r. ⌜ r ≡ answer (now (store .entry)) (Close id) ⌝ }
     ensures words { λ _. ⌜ now (store .exit) ≡ after (now (store .entry)) (Close id) ⌝ }
 {

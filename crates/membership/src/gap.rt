@@ -5,14 +5,15 @@ ghost use mathlib.Core.List.{_++_, _∷_};
 ghost use Prim.Native.Nat.{_≤_, _<_};
 ghost use lib.ListN.{length, take, drop};
 ghost use Rattle.rules.specs.State.{with-consumers};
-ghost use Rattle.layout.specs.Layout.{decode, put};
+ghost use Rattle.layout.specs.Layout.{decode};
 ghost use Rattle.layout.specs.Canon.{Canon-store};
-ghost use Rattle.layout.specs.Fields.{zero-consumer};
+ghost use Rattle.layout.specs.Fields.{zero-consumer, state-changed};
 
 // The table of `n` consumers, which has room, gains a blank one at `i`.
 pub(crate) fn open_consumer(store: &mut [u64], e: usize, i: usize, n: usize)
     requires { ⌜ Canon-store e (now store) × (n ≡ length (decode (now store) .consumers)) × (i ≤ n) × (n < 32) ⌝ }
-    ensures { λ _. ⌜ now (store .exit) ≡ put (now (store .entry)) (with-consumers (decode (now (store .entry))) (take i (decode (now (store .entry)) .consumers) ++ zero-consumer ∷ drop i (decode (now (store .entry)) .consumers))) ⌝ }
+    ensures { λ _. ⌜ now (store .exit) ≡ state-changed (now (store .entry))
+        (λ s. with-consumers s (take i (s .consumers) ++ zero-consumer ∷ drop i (s .consumers))) ⌝ }
 {
     let at = 17 + i * 72;
     open_gap(store, at, 72, (n - i) * 72);

@@ -8,9 +8,9 @@ ghost use Prim.Native.Nat.{_≤_, _<_};
 ghost use lib.ListN.{length};
 ghost use Rattle.rules.specs.State.{new-dispatcher, with-dispatchers};
 ghost use Rattle.rules.specs.Commands.{new-consumer};
-ghost use Rattle.layout.specs.Layout.{decode, put};
+ghost use Rattle.layout.specs.Layout.{decode};
 ghost use Rattle.layout.specs.Canon.{Canon-store};
-ghost use Rattle.layout.specs.Fields.{set-consumer, zero-dispatcher};
+ghost use Rattle.layout.specs.Fields.{zero-dispatcher, pair-of, put-consumer-at, state-changed};
 ghost use Rattle.layout.specs.Placed.{Consumer-in};
 ghost use Rattle.membership.specs.Made.{kind-at};
 
@@ -28,7 +28,7 @@ pub(crate) fn make_consumer(
     subscription: u64,
 )
     requires { ⌜ Consumer-in e (now store) i × (kind ≤ 1) ⌝ }
-    ensures { λ _. ⌜ now (store .exit) ≡ put (now (store .entry)) (set-consumer (decode (now (store .entry))) i (new-consumer id (kind-at kind) (record { topic = topic; subscription = subscription }))) ⌝ }
+    ensures { λ _. ⌜ now (store .exit) ≡ put-consumer-at (now (store .entry)) i (new-consumer id (kind-at kind) (pair-of topic subscription)) ⌝ }
 {
     clear_nacked(store, e, i);
     let at = consumer_at(i);
@@ -44,7 +44,7 @@ pub(crate) fn make_consumer(
 // already.
 fn raise_dispatchers(store: &mut [u64], e: usize, n: usize)
     requires { ⌜ Canon-store e (now store) × (n ≡ length (decode (now store) .dispatchers)) × (n < 8) ⌝ }
-    ensures { λ _. ⌜ now (store .exit) ≡ put (now (store .entry)) (with-dispatchers (decode (now (store .entry))) (decode (now (store .entry)) .dispatchers ++ zero-dispatcher ∷ [])) ⌝ }
+    ensures { λ _. ⌜ now (store .exit) ≡ state-changed (now (store .entry)) (λ s. with-dispatchers s (s .dispatchers ++ zero-dispatcher ∷ [])) ⌝ }
 {
     store[2354 + 32 * e] = (n + 1) as u64;
 }
@@ -59,7 +59,8 @@ pub(crate) fn make_dispatcher(
     entries: usize,
 )
     requires { ⌜ Canon-store e (now store) × (n ≡ length (decode (now store) .dispatchers)) × (n < 8) × (entries ≤ e) ⌝ }
-    ensures { λ _. ⌜ now (store .exit) ≡ put (now (store .entry)) (with-dispatchers (decode (now (store .entry))) (decode (now (store .entry)) .dispatchers ++ new-dispatcher (record { topic = topic; subscription = subscription }) entries ∷ [])) ⌝ }
+    ensures { λ _. ⌜ now (store .exit) ≡ state-changed (now (store .entry))
+        (λ s. with-dispatchers s (s .dispatchers ++ new-dispatcher (pair-of topic subscription) entries ∷ [])) ⌝ }
 {
     raise_dispatchers(store, e, n);
     let at = dispatcher_at(e, n);

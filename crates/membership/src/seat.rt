@@ -11,8 +11,9 @@ ghost use Prim.Native.Nat.{_≤_, _<_};
 ghost use lib.ListN.{length};
 ghost use Rattle.rules.specs.State.{by-id, put-consumer};
 ghost use Rattle.rules.specs.Commands.{new-consumer};
-ghost use Rattle.layout.specs.Layout.{decode, put};
+ghost use Rattle.layout.specs.Layout.{decode};
 ghost use Rattle.layout.specs.Canon.{Canon-store};
+ghost use Rattle.layout.specs.Fields.{pair-of, state-changed};
 ghost use Rattle.store.specs.Find.{slot};
 ghost use Rattle.membership.specs.Made.{kind-at};
 ghost use Rattle.membership.specs.Seats.{Seats};
@@ -27,7 +28,8 @@ pub(crate) fn seat_consumer(
     subscription: u64,
 )
     requires { ⌜ Seats e (now store) id × (kind ≤ 1) ⌝ }
-    ensures { λ _. ⌜ now (store .exit) ≡ put (now (store .entry)) (put-consumer (decode (now (store .entry))) (new-consumer id (kind-at kind) (record { topic = topic; subscription = subscription }))) ⌝ }
+    ensures { λ _. ⌜ now (store .exit) ≡ state-changed (now (store .entry))
+        (λ s. put-consumer s (new-consumer id (kind-at kind) (pair-of topic subscription))) ⌝ }
 {
     let Lookup::Live(i) = find_consumer(store, e, id) else {
         insert_consumer(store, e, id, kind, topic, subscription);
@@ -38,8 +40,10 @@ pub(crate) fn seat_consumer(
 
 // The consumer `id`, which is not live, is made at its place.
 fn insert_consumer(store: &mut [u64], e: usize, id: u64, kind: u64, topic: u64, subscription: u64)
-    requires { ⌜ Canon-store e (now store) × (length (decode (now store) .consumers) ≤ slot by-id id (decode (now store) .consumers)) × (length (decode (now store) .consumers) < 32) × (kind ≤ 1) ⌝ }
-    ensures { λ _. ⌜ now (store .exit) ≡ put (now (store .entry)) (put-consumer (decode (now (store .entry))) (new-consumer id (kind-at kind) (record { topic = topic; subscription = subscription }))) ⌝ }
+    requires { ⌜ Canon-store e (now store) × (length (decode (now store) .consumers) ≤ slot by-id id (decode (now store) .consumers))
+        × (length (decode (now store) .consumers) < 32) × (kind ≤ 1) ⌝ }
+    ensures { λ _. ⌜ now (store .exit) ≡ state-changed (now (store .entry))
+        (λ s. put-consumer s (new-consumer id (kind-at kind) (pair-of topic subscription))) ⌝ }
 {
     let n = consumer_count(store, e);
     let i = place_of(store, e, id);

@@ -14,6 +14,7 @@ ghost use mathlib.Core.Bool.{true};
 ghost use Rattle.rules.specs.State.Kind.{plain, shared};
 ghost use Rattle.rules.specs.Calls.Call.{Subscribe as Subscribed};
 ghost use Rattle.layout.specs.Layout.{spells};
+ghost use Rattle.layout.specs.Fields.{pair-of};
 ghost use Rattle.layout.specs.Calls.{answer, after};
 ghost use Rattle.membership.specs.Admitted.{Admitted};
 ghost use Rattle.membership.specs.Commanded.{subscribe-call};
@@ -45,8 +46,8 @@ pub fn subscribe(store: &mut [u64], command: Subscribe) -> u64
 // A plain consumer is made.
 fn subscribe_plain(store: &mut [u64], e: usize, id: u64, topic: u64, subscription: u64) -> u64
     requires { ⌜ Admitted e (now store) id ⌝ }
-    ensures answer { λ r. ⌜ r ≡ answer (now (store .entry)) (Subscribed id plain (record { topic = topic; subscription = subscription })) ⌝ }
-    ensures words { λ _. ⌜ now (store .exit) ≡ after (now (store .entry)) (Subscribed id plain (record { topic = topic; subscription = subscription })) ⌝ }
+    ensures answer { λ r. ⌜ r ≡ answer (now (store .entry)) (Subscribed id plain (pair-of topic subscription)) ⌝ }
+    ensures words { λ _. ⌜ now (store .exit) ≡ after (now (store .entry)) (Subscribed id plain (pair-of topic subscription)) ⌝ }
 {
     seat_consumer(store, e, id, 0, topic, subscription);
     0
@@ -55,8 +56,8 @@ fn subscribe_plain(store: &mut [u64], e: usize, id: u64, topic: u64, subscriptio
 // A shared consumer is made and joins its ring, if both have room.
 fn subscribe_shared(store: &mut [u64], e: usize, id: u64, topic: u64, subscription: u64) -> u64
     requires { ⌜ Admitted e (now store) id ⌝ }
-    ensures answer { λ r. ⌜ r ≡ answer (now (store .entry)) (Subscribed id shared (record { topic = topic; subscription = subscription })) ⌝ }
-    ensures words { λ _. ⌜ now (store .exit) ≡ after (now (store .entry)) (Subscribed id shared (record { topic = topic; subscription = subscription })) ⌝ }
+    ensures answer { λ r. ⌜ r ≡ answer (now (store .entry)) (Subscribed id shared (pair-of topic subscription)) ⌝ }
+    ensures words { λ _. ⌜ now (store .exit) ≡ after (now (store .entry)) (Subscribed id shared (pair-of topic subscription)) ⌝ }
 {
     if pairs_full(store, e, topic, subscription) {
         return 13;

@@ -11,14 +11,14 @@ use store::stretch::word;
 ghost use mathlib.Core.Path.{_≡_};
 ghost use Rattle.layout.specs.Layout.{decode};
 ghost use Rattle.layout.specs.Canon.{Canon-store};
-ghost use Rattle.layout.specs.Fields.{consumer-nth, dispatcher-nth};
+ghost use Rattle.layout.specs.Fields.{consumer-now, dispatcher-now};
 ghost use Rattle.layout.specs.Placed.{Consumer-in, Dispatcher-in};
 ghost use Rattle.pending.specs.Bound.{waiting-at, waiting-for, waiting-shared, waiting-plain, most-due};
 
 // How many entries wait for dispatcher `d`.
 fn waiting_at(store: &[u64], e: usize, d: usize) -> usize
     requires { ⌜ Dispatcher-in e (now store) d ⌝ }
-    ensures { λ r. ⌜ r ≡ waiting-at (decode (now (store .entry))) (dispatcher-nth (decode (now (store .entry))) d) ⌝ }
+    ensures { λ r. ⌜ r ≡ waiting-at (decode (now (store .entry))) (dispatcher-now (now (store .entry)) d) ⌝ }
 {
     let n = ledger_length(store, e, store[dispatcher_at(e, d)]);
     let head = load_head(store, e, d);
@@ -29,7 +29,7 @@ fn waiting_at(store: &[u64], e: usize, d: usize) -> usize
 // How many entries wait for consumer `i`, if it is a plain one.
 fn waiting_for(store: &[u64], e: usize, i: usize) -> usize
     requires { ⌜ Consumer-in e (now store) i ⌝ }
-    ensures { λ r. ⌜ r ≡ waiting-for (decode (now (store .entry))) (consumer-nth (decode (now (store .entry))) i) ⌝ }
+    ensures { λ r. ⌜ r ≡ waiting-for (decode (now (store .entry))) (consumer-now (now (store .entry)) i) ⌝ }
 {
     if is_shared(store, e, i) {
         return 0;

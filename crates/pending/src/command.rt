@@ -15,8 +15,9 @@ ghost use mathlib.Core.Bool.{true};
 ghost use Prim.Native.Nat.{_*_, _/_, _≤_};
 ghost use lib.ListN.{length};
 ghost use Rattle.rules.specs.Calls.Call.{Push};
-ghost use Rattle.layout.specs.Layout.{decode, put, spells};
+ghost use Rattle.layout.specs.Layout.{decode, spells};
 ghost use Rattle.layout.specs.Canon.{Canon-store};
+ghost use Rattle.layout.specs.Fields.{state-changed};
 ghost use Rattle.layout.specs.Calls.{outcome, answer, after, list-after};
 ghost use Rattle.push.specs.Whole.{permits-now, local-push};
 ghost use Rattle.records.specs.Flat.{filled};
@@ -35,7 +36,8 @@ fn load_permits(store: &[u64], e: usize, list: &mut [u64])
 
 // How many dispatches are due, with a list for the permits.
 fn due_with(store: &[u64], e: usize, permits: &mut [u64]) -> usize
-    requires { ⌜ (spells (now store) ≡ true) × (e ≡ decode (now store) .entries) × (length (now permits) ≡ length (decode (now store) .consumers)) ⌝ }
+    requires { ⌜ (spells (now store) ≡ true) × (e ≡ decode (now store) .entries)
+        × (length (now permits) ≡ length (decode (now store) .consumers)) ⌝ }
     ensures { λ r. ⌜ r ≡ length (local-push (decode (now (store .entry))) .dispatched) ⌝ }
 {
     load_permits(store, e, permits);
@@ -55,9 +57,10 @@ fn due(store: &[u64], e: usize) -> usize
 
 // What is due is dispatched, with a list for the permits; the answer is how many dispatches were made.
 fn push_with(store: &mut [u64], e: usize, permits: &mut [u64], list: &mut [u64]) -> usize
-    requires { ⌜ (spells (now store) ≡ true) × (e ≡ decode (now store) .entries) × (length (now permits) ≡ length (decode (now store) .consumers)) × (length (local-push (decode (now store)) .dispatched) * 13 ≤ length (now list)) ⌝ }
+    requires { ⌜ (spells (now store) ≡ true) × (e ≡ decode (now store) .entries) × (length (now permits) ≡ length (decode (now store) .consumers))
+        × (length (local-push (decode (now store)) .dispatched) * 13 ≤ length (now list)) ⌝ }
     ensures value { λ r. ⌜ r ≡ length (local-push (decode (now (store .entry))) .dispatched) ⌝ }
-    ensures words { λ _. ⌜ now (store .exit) ≡ put (now (store .entry)) (local-push (decode (now (store .entry))) .state) ⌝ }
+    ensures words { λ _. ⌜ now (store .exit) ≡ state-changed (now (store .entry)) (λ s. local-push s .state) ⌝ }
     ensures records { λ _. ⌜ now (list .exit) ≡ filled (now (list .entry)) 0 (local-push (decode (now (store .entry))) .dispatched) ⌝ }
 {
     load_permits(store, e, permits);
@@ -67,9 +70,10 @@ fn push_with(store: &mut [u64], e: usize, permits: &mut [u64], list: &mut [u64])
 
 // What is due is dispatched; the list has room for its records. The answer is how many were made.
 fn push_pending(store: &mut [u64], e: usize, list: &mut [u64]) -> usize
-    requires { ⌜ (spells (now store) ≡ true) × (e ≡ decode (now store) .entries) × (length (local-push (decode (now store)) .dispatched) * 13 ≤ length (now list)) ⌝ }
+    requires { ⌜ (spells (now store) ≡ true) × (e ≡ decode (now store) .entries)
+        × (length (local-push (decode (now store)) .dispatched) * 13 ≤ length (now list)) ⌝ }
     ensures value { λ r. ⌜ r ≡ length (local-push (decode (now (store .entry))) .dispatched) ⌝ }
-    ensures words { λ _. ⌜ now (store .exit) ≡ put (now (store .entry)) (local-push (decode (now (store .entry))) .state) ⌝ }
+    ensures words { λ _. ⌜ now (store .exit) ≡ state-changed (now (store .entry)) (λ s. local-push s .state) ⌝ }
     ensures records { λ _. ⌜ now (list .exit) ≡ filled (now (list .entry)) 0 (local-push (decode (now (store .entry))) .dispatched) ⌝ }
 {
     let n = word(store, 16);
@@ -83,7 +87,8 @@ pub fn push(store: &mut [u64], list: &mut [u64]) -> u64
     requires { ⌜ spells (now store) ≡ true ⌝ }
     ensures answer { λ r. ⌜ r ≡ answer (now (store .entry)) (Push (length (now (list .entry)) / 13)) ⌝ }
     ensures words { λ _. ⌜ now (store .exit) ≡ after (now (store .entry)) (Push (length (now (list .entry)) / 13)) ⌝ }
-    ensures records { λ _. ⌜ now (list .exit) ≡ list-after (now (list .entry)) (outcome (now (store .entry)) (Push (length (now (list .entry)) / 13))) ⌝ }
+    ensures records { λ _. ⌜ now (list .exit) ≡ list-after (now (list .entry))
+        (outcome (now (store .entry)) (Push (length (now (list .entry)) / 13))) ⌝ }
 {
     let e = entries(store);
     let room = list.len() / 13;

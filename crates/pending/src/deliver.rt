@@ -17,12 +17,11 @@ ghost use Rattle.bits.specs.Bits.{bits-empty, word-count};
 ghost use Rattle.bits.specs.Four.{words};
 ghost use Rattle.rules.specs.Dispatcher.{with-places};
 ghost use Rattle.rules.specs.Push.{flat};
-ghost use Rattle.layout.specs.Layout.{decode, put};
-ghost use Rattle.layout.specs.Fields.{dispatcher-nth, set-dispatcher};
-ghost use Rattle.push.specs.Local.{fixed-of};
+ghost use Rattle.layout.specs.Layout.{decode};
+ghost use Rattle.layout.specs.Fields.{dispatcher-now, dispatcher-changed};
 ghost use Rattle.push.specs.Applied.{record-to, record-of, held-of};
 ghost use Rattle.records.specs.Flat.{filled, record-words};
-ghost use Rattle.turns.specs.Turns.{step-of, Serving};
+ghost use Rattle.turns.specs.Turns.{step-of, fixed-now, Serving};
 
 // The number of words of an entry's ack set: as many as its batch takes, none without stored bits.
 fn ack_set_words(bits: UnackedBits, batch: u64) -> u64
@@ -38,7 +37,7 @@ fn ack_set_words(bits: UnackedBits, batch: u64) -> u64
 // The record of a step of dispatcher `d`, to the consumer `id`.
 fn record_to(store: &[u64], e: usize, d: usize, t: usize, n: usize, id: u64, step: Step) -> Dispatch
     requires { ⌜ Serving e (now store) d t n × (step .position < n) ⌝ }
-    ensures { λ r. ⌜ record-words r ≡ flat (record-to id (fixed-of (decode (now (store .entry))) (dispatcher-nth (decode (now (store .entry))) d)) (step-of step)) ⌝ }
+    ensures { λ r. ⌜ record-words r ≡ flat (record-to id (fixed-now (now (store .entry)) d) (step-of step)) ⌝ }
 {
     let message = load_message(store, e, t, step.position);
     let mark = load_mark(store, e, d, step.position);
@@ -69,9 +68,12 @@ pub(crate) fn deliver(
     m: usize,
     step: Step,
 )
-    requires { ⌜ Serving e (now store) d t n × (step .position < n) × (step .consumer < length (decode (now store) .consumers)) × (length (dispatcher-nth (decode (now store)) d .in-flight) < e) × (m * 13 + 13 ≤ length (now list)) ⌝ }
-    ensures words { λ _. ⌜ now (store .exit) ≡ put (now (store .entry)) (set-dispatcher (decode (now (store .entry))) d (with-places (dispatcher-nth (decode (now (store .entry))) d) (dispatcher-nth (decode (now (store .entry))) d .redelivery) (dispatcher-nth (decode (now (store .entry))) d .in-flight ++ held-of (decode (now (store .entry))) (step-of step) ∷ []))) ⌝ }
-    ensures records { λ _. ⌜ now (list .exit) ≡ filled (now (list .entry)) m (record-of (decode (now (store .entry))) (fixed-of (decode (now (store .entry))) (dispatcher-nth (decode (now (store .entry))) d)) (step-of step) ∷ []) ⌝ }
+    requires { ⌜ Serving e (now store) d t n × (step .position < n) × (step .consumer < length (decode (now store) .consumers))
+        × (length (dispatcher-now (now store) d .in-flight) < e) × (m * 13 + 13 ≤ length (now list)) ⌝ }
+    ensures words { λ _. ⌜ now (store .exit) ≡ dispatcher-changed (now (store .entry)) d
+        (λ x. with-places x (x .redelivery) (x .in-flight ++ held-of (decode (now (store .entry))) (step-of step) ∷ [])) ⌝ }
+    ensures records { λ _. ⌜ now (list .exit) ≡ filled (now (list .entry)) m
+        (record-of (decode (now (store .entry))) (fixed-now (now (store .entry)) d) (step-of step) ∷ []) ⌝ }
 {
     let id = consumer_id(store, e, step.consumer);
     let k = step.position;

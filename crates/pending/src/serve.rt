@@ -16,21 +16,20 @@ ghost use mathlib.Core.Path.{_≡_};
 ghost use mathlib.Core.List.{[]};
 ghost use Prim.Native.Nat.{_+_, _-_, _*_, _≤_};
 ghost use lib.ListN.{length};
-ghost use Rattle.layout.specs.Layout.{decode, put};
+ghost use Rattle.layout.specs.Layout.{decode};
 ghost use Rattle.layout.specs.Whole.{Shaped-dispatcher};
-ghost use Rattle.layout.specs.Fields.{dispatcher-nth, set-dispatcher};
+ghost use Rattle.layout.specs.Fields.{dispatcher-now, put-dispatcher-at, dispatcher-changed};
 ghost use Rattle.layout.specs.Placed.{Dispatcher-in};
-ghost use Rattle.push.specs.Local.{fixed-of, served};
 ghost use Rattle.push.specs.Applied.{applied-dispatcher};
-ghost use Rattle.push.specs.Shared.{service-records, served-dispatcher};
 ghost use Rattle.records.specs.Flat.{filled};
-ghost use Rattle.turns.specs.Turns.{local-from, Serving};
-ghost use Rattle.pending.specs.Service.{service-of, Ready};
+ghost use Rattle.turns.specs.Turns.{local-from, fixed-now, served-now, Serving};
+ghost use Rattle.pending.specs.Service.{dispatcher-served, records-served, Ready};
 
 // Dispatcher `d` after its turns: the first `taken` positions leave its queue, and its numbers are those of `head`.
 fn finish(store: &mut [u64], e: usize, d: usize, head: Head, taken: usize)
-    requires { ⌜ Dispatcher-in e (now store) d × (taken ≤ length (dispatcher-nth (decode (now store)) d .redelivery)) × (head .«mark_delete» ≡ dispatcher-nth (decode (now store)) d .mark-delete) ⌝ }
-    ensures { λ _. ⌜ now (store .exit) ≡ put (now (store .entry)) (set-dispatcher (decode (now (store .entry))) d (applied-dispatcher (dispatcher-nth (decode (now (store .entry))) d) (local-from [] head taken) [])) ⌝ }
+    requires { ⌜ Dispatcher-in e (now store) d × (taken ≤ length (dispatcher-now (now store) d .redelivery))
+        × (head .«mark_delete» ≡ dispatcher-now (now store) d .mark-delete) ⌝ }
+    ensures { λ _. ⌜ now (store .exit) ≡ dispatcher-changed (now (store .entry)) d (λ x. applied-dispatcher x (local-from [] head taken) []) ⌝ }
 {
     drop_queue(store, e, d, taken);
     save_head(store, e, d, head);
@@ -49,12 +48,17 @@ fn serve_turns(
     list: &mut [u64],
     from: usize,
 ) -> usize
-    requires { ⌜ Serving e (now store) d t n × (now ring ≡ fixed-of (decode (now store)) (dispatcher-nth (decode (now store)) d) .ring) × (dispatcher-nth (decode (now store)) d .next ≤ length (now ring)) × (length (now permits) ≡ length (decode (now store) .consumers)) × (length (dispatcher-nth (decode (now store)) d .in-flight) + (length (dispatcher-nth (decode (now store)) d .redelivery) + (n - dispatcher-nth (decode (now store)) d .cursor)) ≤ e) × ((from + length (served (decode (now store)) (dispatcher-nth (decode (now store)) d) (now permits) .made)) * 13 ≤ length (now list)) ⌝ }
-    ensures value { λ r. ⌜ r ≡ from + length (served (decode (now (store .entry))) (dispatcher-nth (decode (now (store .entry))) d) (now (permits .entry)) .made) ⌝ }
-    ensures words { λ _. ⌜ now (store .exit) ≡ put (now (store .entry)) (set-dispatcher (decode (now (store .entry))) d (served-dispatcher (decode (now (store .entry))) (service-of (decode (now (store .entry))) d (now (permits .entry))))) ⌝ }
-    ensures permits { λ _. ⌜ now (permits .exit) ≡ served (decode (now (store .entry))) (dispatcher-nth (decode (now (store .entry))) d) (now (permits .entry)) .after .permits ⌝ }
-    ensures records { λ _. ⌜ now (list .exit) ≡ filled (now (list .entry)) from (service-records (decode (now (store .entry))) (service-of (decode (now (store .entry))) d (now (permits .entry)))) ⌝ }
-    ensures fits { λ _. ⌜ Shaped-dispatcher e (served-dispatcher (decode (now (store .entry))) (service-of (decode (now (store .entry))) d (now (permits .entry)))) ⌝ }
+    requires { ⌜ Serving e (now store) d t n × (now ring ≡ fixed-now (now store) d .ring) × (dispatcher-now (now store) d .next ≤ length (now ring))
+        × (length (now permits) ≡ length (decode (now store) .consumers))
+        × (length (dispatcher-now (now store) d .in-flight) + (length (dispatcher-now (now store) d .redelivery)
+        + (n - dispatcher-now (now store) d .cursor)) ≤ e)
+        × ((from + length (served-now (now store) d (now permits) .made)) * 13 ≤ length (now list)) ⌝ }
+    ensures value { λ r. ⌜ r ≡ from + length (served-now (now (store .entry)) d (now (permits .entry)) .made) ⌝ }
+    ensures words { λ _. ⌜ now (store .exit) ≡ put-dispatcher-at (now (store .entry)) d
+        (dispatcher-served (now (store .entry)) d (now (permits .entry))) ⌝ }
+    ensures permits { λ _. ⌜ now (permits .exit) ≡ served-now (now (store .entry)) d (now (permits .entry)) .after .permits ⌝ }
+    ensures records { λ _. ⌜ now (list .exit) ≡ filled (now (list .entry)) from (records-served (now (store .entry)) d (now (permits .entry))) ⌝ }
+    ensures fits { λ _. ⌜ Shaped-dispatcher e (dispatcher-served (now (store .entry)) d (now (permits .entry))) ⌝ }
 {
     let mut head = load_head(store, e, d);
     let mut taken = 0;
@@ -85,12 +89,15 @@ fn serve_with(
     list: &mut [u64],
     from: usize,
 ) -> usize
-    requires { ⌜ Ready e (now store) d × (length (now ring) ≡ length (dispatcher-nth (decode (now store)) d .attached)) × (length (now permits) ≡ length (decode (now store) .consumers)) × ((from + length (served (decode (now store)) (dispatcher-nth (decode (now store)) d) (now permits) .made)) * 13 ≤ length (now list)) ⌝ }
-    ensures value { λ r. ⌜ r ≡ from + length (served (decode (now (store .entry))) (dispatcher-nth (decode (now (store .entry))) d) (now (permits .entry)) .made) ⌝ }
-    ensures words { λ _. ⌜ now (store .exit) ≡ put (now (store .entry)) (set-dispatcher (decode (now (store .entry))) d (served-dispatcher (decode (now (store .entry))) (service-of (decode (now (store .entry))) d (now (permits .entry))))) ⌝ }
-    ensures permits { λ _. ⌜ now (permits .exit) ≡ served (decode (now (store .entry))) (dispatcher-nth (decode (now (store .entry))) d) (now (permits .entry)) .after .permits ⌝ }
-    ensures records { λ _. ⌜ now (list .exit) ≡ filled (now (list .entry)) from (service-records (decode (now (store .entry))) (service-of (decode (now (store .entry))) d (now (permits .entry)))) ⌝ }
-    ensures fits { λ _. ⌜ Shaped-dispatcher e (served-dispatcher (decode (now (store .entry))) (service-of (decode (now (store .entry))) d (now (permits .entry)))) ⌝ }
+    requires { ⌜ Ready e (now store) d × (length (now ring) ≡ length (dispatcher-now (now store) d .attached))
+        × (length (now permits) ≡ length (decode (now store) .consumers))
+        × ((from + length (served-now (now store) d (now permits) .made)) * 13 ≤ length (now list)) ⌝ }
+    ensures value { λ r. ⌜ r ≡ from + length (served-now (now (store .entry)) d (now (permits .entry)) .made) ⌝ }
+    ensures words { λ _. ⌜ now (store .exit) ≡ put-dispatcher-at (now (store .entry)) d
+        (dispatcher-served (now (store .entry)) d (now (permits .entry))) ⌝ }
+    ensures permits { λ _. ⌜ now (permits .exit) ≡ served-now (now (store .entry)) d (now (permits .entry)) .after .permits ⌝ }
+    ensures records { λ _. ⌜ now (list .exit) ≡ filled (now (list .entry)) from (records-served (now (store .entry)) d (now (permits .entry))) ⌝ }
+    ensures fits { λ _. ⌜ Shaped-dispatcher e (dispatcher-served (now (store .entry)) d (now (permits .entry))) ⌝ }
 {
     let number = store[dispatcher_at(e, d)];
     let t = find_topic(store, e, number);
@@ -108,12 +115,14 @@ pub(crate) fn serve_dispatcher(
     list: &mut [u64],
     from: usize,
 ) -> usize
-    requires { ⌜ Ready e (now store) d × (length (now permits) ≡ length (decode (now store) .consumers)) × ((from + length (served (decode (now store)) (dispatcher-nth (decode (now store)) d) (now permits) .made)) * 13 ≤ length (now list)) ⌝ }
-    ensures value { λ r. ⌜ r ≡ from + length (served (decode (now (store .entry))) (dispatcher-nth (decode (now (store .entry))) d) (now (permits .entry)) .made) ⌝ }
-    ensures words { λ _. ⌜ now (store .exit) ≡ put (now (store .entry)) (set-dispatcher (decode (now (store .entry))) d (served-dispatcher (decode (now (store .entry))) (service-of (decode (now (store .entry))) d (now (permits .entry))))) ⌝ }
-    ensures permits { λ _. ⌜ now (permits .exit) ≡ served (decode (now (store .entry))) (dispatcher-nth (decode (now (store .entry))) d) (now (permits .entry)) .after .permits ⌝ }
-    ensures records { λ _. ⌜ now (list .exit) ≡ filled (now (list .entry)) from (service-records (decode (now (store .entry))) (service-of (decode (now (store .entry))) d (now (permits .entry)))) ⌝ }
-    ensures fits { λ _. ⌜ Shaped-dispatcher e (served-dispatcher (decode (now (store .entry))) (service-of (decode (now (store .entry))) d (now (permits .entry)))) ⌝ }
+    requires { ⌜ Ready e (now store) d × (length (now permits) ≡ length (decode (now store) .consumers))
+        × ((from + length (served-now (now store) d (now permits) .made)) * 13 ≤ length (now list)) ⌝ }
+    ensures value { λ r. ⌜ r ≡ from + length (served-now (now (store .entry)) d (now (permits .entry)) .made) ⌝ }
+    ensures words { λ _. ⌜ now (store .exit) ≡ put-dispatcher-at (now (store .entry)) d
+        (dispatcher-served (now (store .entry)) d (now (permits .entry))) ⌝ }
+    ensures permits { λ _. ⌜ now (permits .exit) ≡ served-now (now (store .entry)) d (now (permits .entry)) .after .permits ⌝ }
+    ensures records { λ _. ⌜ now (list .exit) ≡ filled (now (list .entry)) from (records-served (now (store .entry)) d (now (permits .entry))) ⌝ }
+    ensures fits { λ _. ⌜ Shaped-dispatcher e (dispatcher-served (now (store .entry)) d (now (permits .entry))) ⌝ }
 {
     let size = ring_count(store, e, d);
     let mut ring = [0usize; 32];

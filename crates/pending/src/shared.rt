@@ -9,10 +9,12 @@ ghost use Prim.Native.Nat.{_*_, _≤_};
 ghost use lib.ListN.{length};
 ghost use Rattle.rules.specs.State.{with-dispatchers};
 ghost use Rattle.words.specs.Codec.{All};
-ghost use Rattle.layout.specs.Layout.{decode, put, spells};
+ghost use Rattle.layout.specs.Layout.{decode, spells};
 ghost use Rattle.layout.specs.Whole.{Shaped-dispatcher};
-ghost use Rattle.push.specs.Shared.{services, permits-left, all-service-records, served-dispatcher};
+ghost use Rattle.layout.specs.Fields.{state-changed};
+ghost use Rattle.push.specs.Shared.{services, permits-left, served-dispatcher};
 ghost use Rattle.records.specs.Flat.{filled};
+ghost use Rattle.turns.specs.Turns.{services-now, shared-records-now};
 
 // Serves every dispatcher, with records from the first on; the answer is how many were written.
 pub(crate) fn push_pending_shared(
@@ -21,12 +23,15 @@ pub(crate) fn push_pending_shared(
     permits: &mut [u64],
     list: &mut [u64],
 ) -> usize
-    requires { ⌜ (spells (now store) ≡ true) × (e ≡ decode (now store) .entries) × (length (now permits) ≡ length (decode (now store) .consumers)) × (length (all-service-records (decode (now store)) (services (decode (now store)) (decode (now store) .dispatchers) (now permits))) * 13 ≤ length (now list)) ⌝ }
-    ensures value { λ r. ⌜ r ≡ length (all-service-records (decode (now (store .entry))) (services (decode (now (store .entry))) (decode (now (store .entry)) .dispatchers) (now (permits .entry)))) ⌝ }
-    ensures words { λ _. ⌜ now (store .exit) ≡ put (now (store .entry)) (with-dispatchers (decode (now (store .entry))) (map (served-dispatcher (decode (now (store .entry)))) (services (decode (now (store .entry))) (decode (now (store .entry)) .dispatchers) (now (permits .entry))))) ⌝ }
-    ensures permits { λ _. ⌜ now (permits .exit) ≡ permits-left (now (permits .entry)) (services (decode (now (store .entry))) (decode (now (store .entry)) .dispatchers) (now (permits .entry))) ⌝ }
-    ensures records { λ _. ⌜ now (list .exit) ≡ filled (now (list .entry)) 0 (all-service-records (decode (now (store .entry))) (services (decode (now (store .entry))) (decode (now (store .entry)) .dispatchers) (now (permits .entry)))) ⌝ }
-    ensures fits { λ _. ⌜ All (Shaped-dispatcher e) (map (served-dispatcher (decode (now (store .entry)))) (services (decode (now (store .entry))) (decode (now (store .entry)) .dispatchers) (now (permits .entry)))) ⌝ }
+    requires { ⌜ (spells (now store) ≡ true) × (e ≡ decode (now store) .entries) × (length (now permits) ≡ length (decode (now store) .consumers))
+        × (length (shared-records-now (now store) (now permits)) * 13 ≤ length (now list)) ⌝ }
+    ensures value { λ r. ⌜ r ≡ length (shared-records-now (now (store .entry)) (now (permits .entry))) ⌝ }
+    ensures words { λ _. ⌜ now (store .exit) ≡ state-changed (now (store .entry))
+        (λ s. with-dispatchers s (map (served-dispatcher s) (services s (s .dispatchers) (now (permits .entry))))) ⌝ }
+    ensures permits { λ _. ⌜ now (permits .exit) ≡ permits-left (now (permits .entry)) (services-now (now (store .entry)) (now (permits .entry))) ⌝ }
+    ensures records { λ _. ⌜ now (list .exit) ≡ filled (now (list .entry)) 0 (shared-records-now (now (store .entry)) (now (permits .entry))) ⌝ }
+    ensures fits { λ _. ⌜ All (Shaped-dispatcher e)
+        (map (served-dispatcher (decode (now (store .entry)))) (services-now (now (store .entry)) (now (permits .entry)))) ⌝ }
 {
     let n = word(store, 2354 + 32 * e);
     let mut m = 0;

@@ -9,12 +9,13 @@ use lib.ListN.{length, getD, take, drop}
 use Rattle.rules.specs.Table.{Every}
 use Rattle.rules.specs.State.{StoredMessage, Consumer, State, no-bits, with-consumers}
 use Rattle.rules.specs.Ledger.{message-at}
+use Rattle.rules.specs.Commands.{with-permits}
 use Rattle.rules.specs.Outcome.{Dispatch}
 use Rattle.layout.specs.Layout.{decode}
-use Rattle.layout.specs.Fields.{consumer-nth, topic-nth}
+use Rattle.layout.specs.Fields.{consumer-nth, topic-nth, consumer-now}
 use Rattle.layout.specs.Placed.{Consumer-in, Topic-in}
 use Rattle.push.specs.Applied.{with-each}
-use Rattle.push.specs.Plain.{ledger-for, plain-served}
+use Rattle.push.specs.Plain.{plain-due, plain-records, ledger-for, plain-served, all-plain-records}
 
 -- the position of entry j of those that wait: the nacked ones first, then from the cursor on
 unfoldable pub position-at : Consumer → ℕ → ℕ
@@ -49,6 +50,22 @@ entries-taken c n =
       nacked = drop n (c .nacked);
     }
 
+-- the ledger of consumer i's topic, in the state that words decode to
+abbrev pub ledger-now : List ℕ → ℕ → List StoredMessage
+ledger-now ws i = ledger-for (decode ws) (consumer-now ws i)
+
+-- how many entries consumer i is due there, with other permits
+abbrev pub due-now : List ℕ → ℕ → ℕ → ℕ
+due-now ws i permits = plain-due (ledger-now ws i) (with-permits (consumer-now ws i) permits)
+
+-- the records of its next n entries, with other permits
+abbrev pub records-now : List ℕ → ℕ → ℕ → ℕ → List Dispatch
+records-now ws i permits n = plain-records (ledger-now ws i) (with-permits (consumer-now ws i) permits) n
+
+-- the records of all plain consumers' parts, each with its permits of a list
+abbrev pub plain-records-now : List ℕ → List ℕ → List Dispatch
+plain-records-now ws permits = all-plain-records (decode ws) (with-each (decode ws .consumers) permits)
+
 -- the positions that a consumer reads lie in its ledger
 pub record Readable-consumer (s : State) (c : Consumer) : Type 0 where
   pub cursor-in : c .cursor ≤ length (ledger-for s c)
@@ -64,7 +81,8 @@ pub record Sendable (e : ℕ) (ws : List ℕ) (i t permits n : ℕ) : Type 0 whe
   pub topic : Topic-in e ws t
   pub ledger : topic-nth (decode ws) t .messages ≡ ledger-for (decode ws) (consumer-nth (decode ws) i)
   pub readable : Readable-consumer (decode ws) (consumer-nth (decode ws) i)
-  pub waiting : n ≤ length (consumer-nth (decode ws) i .nacked) + (length (ledger-for (decode ws) (consumer-nth (decode ws) i)) - consumer-nth (decode ws) i .cursor)
+  pub waiting : n ≤ length (consumer-nth (decode ws) i .nacked)
+      + (length (ledger-for (decode ws) (consumer-nth (decode ws) i)) - consumer-nth (decode ws) i .cursor)
   pub permitted : n ≤ permits
   pub low : consumer-nth (decode ws) i .cursor ≤ 4096
   pub few : n ≤ 4160

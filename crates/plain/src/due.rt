@@ -10,12 +10,10 @@ ghost use mathlib.Core.Bool.{true};
 ghost use Prim.Native.Nat.{_+_, _-_, min};
 ghost use lib.ListN.{length};
 ghost use Rattle.rules.specs.Permits.{zero-permits};
-ghost use Rattle.rules.specs.Commands.{with-permits};
 ghost use Rattle.layout.specs.Layout.{decode, spells};
-ghost use Rattle.layout.specs.Fields.{consumer-nth};
+ghost use Rattle.layout.specs.Fields.{consumer-now};
 ghost use Rattle.layout.specs.Placed.{Consumer-in};
-ghost use Rattle.push.specs.Applied.{with-each};
-ghost use Rattle.push.specs.Plain.{plain-due, ledger-for, all-plain-records};
+ghost use Rattle.plain.specs.Reading.{ledger-now, due-now, plain-records-now};
 
 // No permits, in excess form.
 const ZERO_PERMITS: u64 = 4_611_686_018_427_387_904;
@@ -33,7 +31,8 @@ fn permitted(permits: u64, n: usize) -> usize
 // How many entries wait for consumer `i`.
 pub fn waiting(store: &[u64], e: usize, i: usize) -> usize
     requires { ⌜ Consumer-in e (now store) i ⌝ }
-    ensures { λ r. ⌜ r ≡ length (consumer-nth (decode (now (store .entry))) i .nacked) + (length (ledger-for (decode (now (store .entry))) (consumer-nth (decode (now (store .entry))) i)) - consumer-nth (decode (now (store .entry))) i .cursor) ⌝ }
+    ensures { λ r. ⌜ r ≡ length (consumer-now (now (store .entry)) i .nacked)
+        + (length (ledger-now (now (store .entry)) i) - consumer-now (now (store .entry)) i .cursor) ⌝ }
 {
     let n = ledger_length(store, e, topic(store, e, i));
     let from = smaller(cursor(store, e, i), n);
@@ -43,7 +42,7 @@ pub fn waiting(store: &[u64], e: usize, i: usize) -> usize
 // How many entries consumer `i` is due with other permits.
 pub(crate) fn plain_due(store: &[u64], e: usize, i: usize, permits: u64) -> usize
     requires { ⌜ Consumer-in e (now store) i ⌝ }
-    ensures { λ r. ⌜ r ≡ plain-due (ledger-for (decode (now (store .entry))) (consumer-nth (decode (now (store .entry))) i)) (with-permits (consumer-nth (decode (now (store .entry))) i) permits) ⌝ }
+    ensures { λ r. ⌜ r ≡ due-now (now (store .entry)) i permits ⌝ }
 {
     if is_shared(store, e, i) {
         return 0;
@@ -53,8 +52,9 @@ pub(crate) fn plain_due(store: &[u64], e: usize, i: usize, permits: u64) -> usiz
 
 // How many entries all consumers are due, each with its permits of `permits`.
 pub fn due_plain(store: &[u64], e: usize, permits: &[u64]) -> usize
-    requires { ⌜ (spells (now store) ≡ true) × (e ≡ decode (now store) .entries) × (length (now permits) ≡ length (decode (now store) .consumers)) ⌝ }
-    ensures { λ r. ⌜ r ≡ length (all-plain-records (decode (now (store .entry))) (with-each (decode (now (store .entry)) .consumers) (now (permits .entry)))) ⌝ }
+    requires { ⌜ (spells (now store) ≡ true) × (e ≡ decode (now store) .entries)
+        × (length (now permits) ≡ length (decode (now store) .consumers)) ⌝ }
+    ensures { λ r. ⌜ r ≡ length (plain-records-now (now (store .entry)) (now (permits .entry))) ⌝ }
 {
     let n = permits.len();
     let mut due = 0;

@@ -9,15 +9,14 @@ ghost use mathlib.Core.Path.{_≡_};
 ghost use Prim.Native.Nat.{_+_, _-_, _≤_, _<_, min};
 ghost use lib.ListN.{length, getD, drop};
 ghost use Rattle.rules.specs.Commands.{with-reading};
-ghost use Rattle.layout.specs.Layout.{decode, put};
-ghost use Rattle.layout.specs.Fields.{consumer-nth, set-consumer};
+ghost use Rattle.layout.specs.Fields.{consumer-now, consumer-changed};
 ghost use Rattle.layout.specs.Placed.{Consumer-in};
 ghost use Rattle.plain.specs.Reading.{position-at};
 
 // Nacked position `j` of consumer `i`.
 pub(crate) fn nacked(store: &[u64], e: usize, i: usize, j: usize) -> usize
-    requires { ⌜ Consumer-in e (now store) i × (j < length (consumer-nth (decode (now store)) i .nacked)) ⌝ }
-    ensures { λ r. ⌜ r ≡ getD (consumer-nth (decode (now (store .entry))) i .nacked) j 0 ⌝ }
+    requires { ⌜ Consumer-in e (now store) i × (j < length (consumer-now (now store) i .nacked)) ⌝ }
+    ensures { λ r. ⌜ r ≡ getD (consumer-now (now (store .entry)) i .nacked) j 0 ⌝ }
 {
     let at = consumer_at(i);
     word(store, at + 7 + j)
@@ -25,8 +24,8 @@ pub(crate) fn nacked(store: &[u64], e: usize, i: usize, j: usize) -> usize
 
 // The position of entry `j` of those that wait for consumer `i`.
 pub(crate) fn position(store: &[u64], e: usize, i: usize, j: usize) -> usize
-    requires { ⌜ Consumer-in e (now store) i × (consumer-nth (decode (now store)) i .cursor ≤ 4096) × (j ≤ 8192) ⌝ }
-    ensures { λ r. ⌜ r ≡ position-at (consumer-nth (decode (now (store .entry))) i) j ⌝ }
+    requires { ⌜ Consumer-in e (now store) i × (consumer-now (now store) i .cursor ≤ 4096) × (j ≤ 8192) ⌝ }
+    ensures { λ r. ⌜ r ≡ position-at (consumer-now (now (store .entry)) i) j ⌝ }
 {
     let n = nacked_count(store, e, i);
     if j < n {
@@ -37,8 +36,8 @@ pub(crate) fn position(store: &[u64], e: usize, i: usize, j: usize) -> usize
 
 // The first `n` nacked positions of consumer `i` are taken out.
 fn drop_nacked(store: &mut [u64], e: usize, i: usize, n: usize)
-    requires { ⌜ Consumer-in e (now store) i × (n ≤ length (consumer-nth (decode (now store)) i .nacked)) ⌝ }
-    ensures { λ _. ⌜ now (store .exit) ≡ put (now (store .entry)) (set-consumer (decode (now (store .entry))) i (with-reading (consumer-nth (decode (now (store .entry))) i) (consumer-nth (decode (now (store .entry))) i .cursor) (drop n (consumer-nth (decode (now (store .entry))) i .nacked)))) ⌝ }
+    requires { ⌜ Consumer-in e (now store) i × (n ≤ length (consumer-now (now store) i .nacked)) ⌝ }
+    ensures { λ _. ⌜ now (store .exit) ≡ consumer-changed (now (store .entry)) i (λ x. with-reading x (x .cursor) (drop n (x .nacked))) ⌝ }
 {
     let at = consumer_at(i);
     let count = word(store, at + 6);
@@ -55,8 +54,9 @@ pub fn smaller(a: usize, b: usize) -> usize
 
 // Consumer `i` reads `n` entries: nacked ones are taken out, and the cursor moves on by the others.
 pub(crate) fn read_on(store: &mut [u64], e: usize, i: usize, n: usize)
-    requires { ⌜ Consumer-in e (now store) i × (consumer-nth (decode (now store)) i .cursor ≤ 4096) × (n ≤ 4160) ⌝ }
-    ensures { λ _. ⌜ now (store .exit) ≡ put (now (store .entry)) (set-consumer (decode (now (store .entry))) i (with-reading (consumer-nth (decode (now (store .entry))) i) (consumer-nth (decode (now (store .entry))) i .cursor + (n - length (consumer-nth (decode (now (store .entry))) i .nacked))) (drop n (consumer-nth (decode (now (store .entry))) i .nacked)))) ⌝ }
+    requires { ⌜ Consumer-in e (now store) i × (consumer-now (now store) i .cursor ≤ 4096) × (n ≤ 4160) ⌝ }
+    ensures { λ _. ⌜ now (store .exit) ≡ consumer-changed (now (store .entry)) i
+        (λ x. with-reading x (x .cursor + (n - length (x .nacked))) (drop n (x .nacked))) ⌝ }
 {
     let taken = smaller(n, nacked_count(store, e, i));
     let from = cursor(store, e, i);

@@ -19,19 +19,20 @@ ghost use Rattle.words.specs.Act.{lay};
 ghost use Rattle.rules.specs.State.{with-consumers};
 ghost use Rattle.rules.specs.Commands.{with-permits};
 ghost use Rattle.rules.specs.Push.{flat};
-ghost use Rattle.layout.specs.Layout.{decode, put};
+ghost use Rattle.layout.specs.Layout.{decode};
 ghost use Rattle.layout.specs.Canon.{Canon-store};
-ghost use Rattle.layout.specs.Fields.{consumer-nth, topic-nth, set-consumer};
+ghost use Rattle.layout.specs.Fields.{consumer-now, topic-now, state-changed, consumer-changed};
 ghost use Rattle.layout.specs.Placed.{Consumer-in, Topic-in};
 ghost use Rattle.push.specs.Applied.{with-each};
-ghost use Rattle.push.specs.Plain.{plain-due, plain-records, ledger-for, plain-served, all-plain-records};
+ghost use Rattle.push.specs.Plain.{plain-served};
 ghost use Rattle.records.specs.Flat.{filled, record-words};
-ghost use Rattle.plain.specs.Reading.{record-to, entry-record, entries-taken, Readable-consumer, Readable, Sendable};
+ghost use Rattle.plain.specs.Reading.{record-to, entry-record, entries-taken, ledger-now, due-now, records-now, plain-records-now, Readable-consumer};
+ghost use Rattle.plain.specs.Reading.{Readable, Sendable};
 
 // The record of message `k` of topic `t`, to the consumer with an id, with its permits after it.
 fn plain_record(store: &[u64], e: usize, t: usize, k: usize, id: u64, permits: u64) -> Dispatch
-    requires { ⌜ Topic-in e (now store) t × (k < length (topic-nth (decode (now store)) t .messages)) ⌝ }
-    ensures { λ r. ⌜ record-words r ≡ flat (record-to (topic-nth (decode (now (store .entry))) t .messages) id k permits) ⌝ }
+    requires { ⌜ Topic-in e (now store) t × (k < length (topic-now (now store) t .messages)) ⌝ }
+    ensures { λ r. ⌜ record-words r ≡ flat (record-to (topic-now (now (store .entry)) t .messages) id k permits) ⌝ }
 {
     let m = load_message(store, e, t, k);
     let none = UnackedBits {
@@ -66,7 +67,8 @@ fn send_entry(
     m: usize,
 )
     requires { ⌜ Sendable e (now store) i t permits (j + 1) × (m * 13 + 13 ≤ length (now list)) ⌝ }
-    ensures { λ _. ⌜ now (list .exit) ≡ lay (flat (entry-record (ledger-for (decode (now (store .entry))) (consumer-nth (decode (now (store .entry))) i)) (with-permits (consumer-nth (decode (now (store .entry))) i) permits) j)) .run (m * 13) (now (list .entry)) ⌝ }
+    ensures { λ _. ⌜ now (list .exit) ≡ lay (flat (entry-record (ledger-now (now (store .entry)) i)
+        (with-permits (consumer-now (now (store .entry)) i) permits) j)) .run (m * 13) (now (list .entry)) ⌝ }
 {
     let k = position(store, e, i, j);
     let id = consumer_id(store, e, i);
@@ -86,7 +88,7 @@ fn serve_records(
     m: usize,
 )
     requires { ⌜ Sendable e (now store) i t permits n × ((m + n) * 13 ≤ length (now list)) ⌝ }
-    ensures { λ _. ⌜ now (list .exit) ≡ filled (now (list .entry)) m (plain-records (ledger-for (decode (now (store .entry))) (consumer-nth (decode (now (store .entry))) i)) (with-permits (consumer-nth (decode (now (store .entry))) i) permits) n) ⌝ }
+    ensures { λ _. ⌜ now (list .exit) ≡ filled (now (list .entry)) m (records-now (now (store .entry)) i permits n) ⌝ }
 {
     let mut j = 0;
     while j < n {
@@ -98,8 +100,9 @@ fn serve_records(
 // The `n` entries that consumer `i` is due become records of a list; its topic is looked up only if
 // there are any.
 fn serve_due(store: &[u64], e: usize, i: usize, permits: u64, n: usize, list: &mut [u64], m: usize)
-    requires { ⌜ Consumer-in e (now store) i × Readable-consumer (decode (now store)) (consumer-nth (decode (now store)) i) × (n ≡ plain-due (ledger-for (decode (now store)) (consumer-nth (decode (now store)) i)) (with-permits (consumer-nth (decode (now store)) i) permits)) × ((m + n) * 13 ≤ length (now list)) ⌝ }
-    ensures { λ _. ⌜ now (list .exit) ≡ filled (now (list .entry)) m (plain-records (ledger-for (decode (now (store .entry))) (consumer-nth (decode (now (store .entry))) i)) (with-permits (consumer-nth (decode (now (store .entry))) i) permits) n) ⌝ }
+    requires { ⌜ Consumer-in e (now store) i × Readable-consumer (decode (now store)) (consumer-now (now store) i) × (n ≡ due-now (now store) i permits)
+        × ((m + n) * 13 ≤ length (now list)) ⌝ }
+    ensures { λ _. ⌜ now (list .exit) ≡ filled (now (list .entry)) m (records-now (now (store .entry)) i permits n) ⌝ }
 {
     if n == 0 {
         return;
@@ -110,8 +113,8 @@ fn serve_due(store: &[u64], e: usize, i: usize, permits: u64, n: usize, list: &m
 
 // Consumer `i` gets other permits and has `n` entries taken.
 fn take_entries(store: &mut [u64], e: usize, i: usize, permits: u64, n: usize)
-    requires { ⌜ Consumer-in e (now store) i × (consumer-nth (decode (now store)) i .cursor ≤ 4096) × (n ≤ 4160) × (n ≤ permits) ⌝ }
-    ensures { λ _. ⌜ now (store .exit) ≡ put (now (store .entry)) (set-consumer (decode (now (store .entry))) i (entries-taken (with-permits (consumer-nth (decode (now (store .entry))) i) permits) n)) ⌝ }
+    requires { ⌜ Consumer-in e (now store) i × (consumer-now (now store) i .cursor ≤ 4096) × (n ≤ 4160) × (n ≤ permits) ⌝ }
+    ensures { λ _. ⌜ now (store .exit) ≡ consumer-changed (now (store .entry)) i (λ x. entries-taken (with-permits x permits) n) ⌝ }
 {
     set_permits(store, e, i, permits - (n as u64));
     read_on(store, e, i, n);
@@ -126,10 +129,13 @@ fn serve_consumer(
     list: &mut [u64],
     m: usize,
 ) -> usize
-    requires { ⌜ Consumer-in e (now store) i × Readable-consumer (decode (now store)) (consumer-nth (decode (now store)) i) × ((m + plain-due (ledger-for (decode (now store)) (consumer-nth (decode (now store)) i)) (with-permits (consumer-nth (decode (now store)) i) permits)) * 13 ≤ length (now list)) ⌝ }
-    ensures value { λ r. ⌜ r ≡ m + plain-due (ledger-for (decode (now (store .entry))) (consumer-nth (decode (now (store .entry))) i)) (with-permits (consumer-nth (decode (now (store .entry))) i) permits) ⌝ }
-    ensures words { λ _. ⌜ now (store .exit) ≡ put (now (store .entry)) (set-consumer (decode (now (store .entry))) i (plain-served (decode (now (store .entry))) (with-permits (consumer-nth (decode (now (store .entry))) i) permits))) ⌝ }
-    ensures records { λ _. ⌜ now (list .exit) ≡ filled (now (list .entry)) m (plain-records (ledger-for (decode (now (store .entry))) (consumer-nth (decode (now (store .entry))) i)) (with-permits (consumer-nth (decode (now (store .entry))) i) permits) (plain-due (ledger-for (decode (now (store .entry))) (consumer-nth (decode (now (store .entry))) i)) (with-permits (consumer-nth (decode (now (store .entry))) i) permits))) ⌝ }
+    requires { ⌜ Consumer-in e (now store) i × Readable-consumer (decode (now store)) (consumer-now (now store) i)
+        × ((m + due-now (now store) i permits) * 13 ≤ length (now list)) ⌝ }
+    ensures value { λ r. ⌜ r ≡ m + due-now (now (store .entry)) i permits ⌝ }
+    ensures words { λ _. ⌜ now (store .exit) ≡ consumer-changed (now (store .entry)) i
+        (λ x. plain-served (decode (now (store .entry))) (with-permits x permits)) ⌝ }
+    ensures records { λ _. ⌜ now (list .exit) ≡ filled (now (list .entry)) m
+        (records-now (now (store .entry)) i permits (due-now (now (store .entry)) i permits)) ⌝ }
 {
     let n = plain_due(store, e, i, permits);
     serve_due(store, e, i, permits, n, list, m);
@@ -146,10 +152,12 @@ pub fn serve_plain(
     list: &mut [u64],
     m: usize,
 ) -> usize
-    requires { ⌜ Canon-store e (now store) × Readable (decode (now store)) × (length (now permits) ≡ length (decode (now store) .consumers)) × ((m + length (all-plain-records (decode (now store)) (with-each (decode (now store) .consumers) (now permits)))) * 13 ≤ length (now list)) ⌝ }
-    ensures value { λ r. ⌜ r ≡ m + length (all-plain-records (decode (now (store .entry))) (with-each (decode (now (store .entry)) .consumers) (now (permits .entry)))) ⌝ }
-    ensures words { λ _. ⌜ now (store .exit) ≡ put (now (store .entry)) (with-consumers (decode (now (store .entry))) (map (plain-served (decode (now (store .entry)))) (with-each (decode (now (store .entry)) .consumers) (now (permits .entry))))) ⌝ }
-    ensures records { λ _. ⌜ now (list .exit) ≡ filled (now (list .entry)) m (all-plain-records (decode (now (store .entry))) (with-each (decode (now (store .entry)) .consumers) (now (permits .entry)))) ⌝ }
+    requires { ⌜ Canon-store e (now store) × Readable (decode (now store)) × (length (now permits) ≡ length (decode (now store) .consumers))
+        × ((m + length (plain-records-now (now store) (now permits))) * 13 ≤ length (now list)) ⌝ }
+    ensures value { λ r. ⌜ r ≡ m + length (plain-records-now (now (store .entry)) (now (permits .entry))) ⌝ }
+    ensures words { λ _. ⌜ now (store .exit) ≡ state-changed (now (store .entry))
+        (λ s. with-consumers s (map (plain-served s) (with-each (s .consumers) (now (permits .entry))))) ⌝ }
+    ensures records { λ _. ⌜ now (list .exit) ≡ filled (now (list .entry)) m (plain-records-now (now (store .entry)) (now (permits .entry))) ⌝ }
 {
     let n = permits.len();
     let mut at = m;

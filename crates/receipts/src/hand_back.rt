@@ -13,16 +13,17 @@ ghost use lib.ListN.{length};
 ghost use Rattle.rules.specs.State.{ledger-of};
 ghost use Rattle.rules.specs.Commands.{redeliver-id, redeliver-groups};
 ghost use Rattle.rules.specs.Valid.{Valid-dispatcher};
-ghost use Rattle.layout.specs.Layout.{decode, put};
-ghost use Rattle.layout.specs.Fields.{dispatcher-nth, set-dispatcher};
+ghost use Rattle.layout.specs.Layout.{decode};
+ghost use Rattle.layout.specs.Fields.{dispatcher-now, dispatcher-changed};
 ghost use Rattle.layout.specs.Placed.{Dispatcher-in};
 ghost use Rattle.groups.specs.Walk.{Fits, Stands, group-at, groups-from};
 ghost use Rattle.receipts.specs.Back.{handed};
 
 // Entry `j` in flight of dispatcher `d`, which is on position `k`, is handed back.
 fn hand_back_held(store: &mut [u64], e: usize, d: usize, j: usize, k: usize)
-    requires { ⌜ Dispatcher-in e (now store) d × (j < length (dispatcher-nth (decode (now store)) d .in-flight)) × (length (dispatcher-nth (decode (now store)) d .redelivery) < e) × (k < length (dispatcher-nth (decode (now store)) d .marks)) ⌝ }
-    ensures { λ _. ⌜ now (store .exit) ≡ put (now (store .entry)) (set-dispatcher (decode (now (store .entry))) d (handed j k (dispatcher-nth (decode (now (store .entry))) d))) ⌝ }
+    requires { ⌜ Dispatcher-in e (now store) d × (j < length (dispatcher-now (now store) d .in-flight))
+        × (length (dispatcher-now (now store) d .redelivery) < e) × (k < length (dispatcher-now (now store) d .marks)) ⌝ }
+    ensures { λ _. ⌜ now (store .exit) ≡ dispatcher-changed (now (store .entry)) d (handed j k) ⌝ }
 {
     append_queue(store, e, d, k);
     remove_flight(store, e, d, j);
@@ -31,8 +32,9 @@ fn hand_back_held(store: &mut [u64], e: usize, d: usize, j: usize, k: usize)
 
 // The id of the group at `at` is handed back if `id` holds it.
 fn hand_back(store: &mut [u64], e: usize, d: usize, topic: u64, id: u64, list: &[u64], at: usize)
-    requires { ⌜ Dispatcher-in e (now store) d × Fits (now list) at × Valid-dispatcher (decode (now store)) (dispatcher-nth (decode (now store)) d) ⌝ }
-    ensures { λ _. ⌜ now (store .exit) ≡ put (now (store .entry)) (set-dispatcher (decode (now (store .entry))) d (redeliver-id (ledger-of (decode (now (store .entry))) topic) id (dispatcher-nth (decode (now (store .entry))) d) (group-at (now (list .entry)) at .id))) ⌝ }
+    requires { ⌜ Dispatcher-in e (now store) d × Fits (now list) at × Valid-dispatcher (decode (now store)) (dispatcher-now (now store) d) ⌝ }
+    ensures { λ _. ⌜ now (store .exit) ≡ dispatcher-changed (now (store .entry)) d
+        (λ x. redeliver-id (ledger-of (decode (now (store .entry))) topic) id x (group-at (now (list .entry)) at .id)) ⌝ }
 {
     let k = position_here(store, e, topic, list, at);
     let j = find_hold(store, e, d, id, k);
@@ -50,8 +52,9 @@ pub(crate) fn hand_back_all(
     id: u64,
     list: &[u64],
 )
-    requires { ⌜ Dispatcher-in e (now store) d × Stands (now list) 0 × Valid-dispatcher (decode (now store)) (dispatcher-nth (decode (now store)) d) ⌝ }
-    ensures { λ _. ⌜ now (store .exit) ≡ put (now (store .entry)) (set-dispatcher (decode (now (store .entry))) d (redeliver-groups (ledger-of (decode (now (store .entry))) topic) id (dispatcher-nth (decode (now (store .entry))) d) (groups-from (now (list .entry)) 0))) ⌝ }
+    requires { ⌜ Dispatcher-in e (now store) d × Stands (now list) 0 × Valid-dispatcher (decode (now store)) (dispatcher-now (now store) d) ⌝ }
+    ensures { λ _. ⌜ now (store .exit) ≡ dispatcher-changed (now (store .entry)) d
+        (λ x. redeliver-groups (ledger-of (decode (now (store .entry))) topic) id x (groups-from (now (list .entry)) 0)) ⌝ }
 {
     let mut at = 0;
     while at < list.len() {

@@ -11,9 +11,9 @@ ghost use Prim.Native.Nat.{_+_, _≤_, _<_};
 ghost use lib.ListN.{length};
 ghost use Rattle.rules.specs.State.{ledger-of};
 ghost use Rattle.rules.specs.Commands.{with-reading, found-positions};
-ghost use Rattle.layout.specs.Layout.{decode, put};
+ghost use Rattle.layout.specs.Layout.{decode};
 ghost use Rattle.layout.specs.Canon.{Canon-store};
-ghost use Rattle.layout.specs.Fields.{consumer-nth, set-consumer};
+ghost use Rattle.layout.specs.Fields.{consumer-now, consumer-changed};
 ghost use Rattle.layout.specs.Placed.{Consumer-in};
 ghost use Rattle.groups.specs.Walk.{Fits, Stands, group-at, groups-from};
 
@@ -46,8 +46,8 @@ pub(crate) fn found_count(store: &[u64], e: usize, topic: u64, list: &[u64]) -> 
 
 // Position `k` joins the nacked positions of consumer `i`, at their end.
 fn append_nacked(store: &mut [u64], e: usize, i: usize, k: usize)
-    requires { ⌜ Consumer-in e (now store) i × (length (consumer-nth (decode (now store)) i .nacked) < 64) ⌝ }
-    ensures { λ _. ⌜ now (store .exit) ≡ put (now (store .entry)) (set-consumer (decode (now (store .entry))) i (with-reading (consumer-nth (decode (now (store .entry))) i) (consumer-nth (decode (now (store .entry))) i .cursor) (consumer-nth (decode (now (store .entry))) i .nacked ++ k ∷ []))) ⌝ }
+    requires { ⌜ Consumer-in e (now store) i × (length (consumer-now (now store) i .nacked) < 64) ⌝ }
+    ensures { λ _. ⌜ now (store .exit) ≡ consumer-changed (now (store .entry)) i (λ x. with-reading x (x .cursor) (x .nacked ++ k ∷ [])) ⌝ }
 {
     let at = consumer_at(i);
     let n = word(store, at + 6);
@@ -57,8 +57,10 @@ fn append_nacked(store: &mut [u64], e: usize, i: usize, k: usize)
 
 // The position of the group at `at` joins the nacked positions of consumer `i` if it is found.
 fn join_here(store: &mut [u64], e: usize, i: usize, topic: u64, list: &[u64], at: usize)
-    requires { ⌜ Consumer-in e (now store) i × Fits (now list) at × (length (consumer-nth (decode (now store)) i .nacked) + length (found-positions (ledger-of (decode (now store)) topic) (group-at (now list) at ∷ [])) ≤ 64) ⌝ }
-    ensures { λ _. ⌜ now (store .exit) ≡ put (now (store .entry)) (set-consumer (decode (now (store .entry))) i (with-reading (consumer-nth (decode (now (store .entry))) i) (consumer-nth (decode (now (store .entry))) i .cursor) (consumer-nth (decode (now (store .entry))) i .nacked ++ found-positions (ledger-of (decode (now (store .entry))) topic) (group-at (now (list .entry)) at ∷ [])))) ⌝ }
+    requires { ⌜ Consumer-in e (now store) i × Fits (now list) at × (length (consumer-now (now store) i .nacked)
+        + length (found-positions (ledger-of (decode (now store)) topic) (group-at (now list) at ∷ [])) ≤ 64) ⌝ }
+    ensures { λ _. ⌜ now (store .exit) ≡ consumer-changed (now (store .entry)) i (λ x. with-reading x (x .cursor) (x .nacked
+        ++ found-positions (ledger-of (decode (now (store .entry))) topic) (group-at (now (list .entry)) at ∷ []))) ⌝ }
 {
     let k = position_here(store, e, topic, list, at);
     if k < ledger_length(store, e, topic) {
@@ -68,8 +70,10 @@ fn join_here(store: &mut [u64], e: usize, i: usize, topic: u64, list: &[u64], at
 
 // The found positions of a list join the nacked positions of consumer `i`, repeats included.
 pub(crate) fn join_found(store: &mut [u64], e: usize, i: usize, topic: u64, list: &[u64])
-    requires { ⌜ Consumer-in e (now store) i × Stands (now list) 0 × (length (consumer-nth (decode (now store)) i .nacked ++ found-positions (ledger-of (decode (now store)) topic) (groups-from (now list) 0)) ≤ 64) ⌝ }
-    ensures { λ _. ⌜ now (store .exit) ≡ put (now (store .entry)) (set-consumer (decode (now (store .entry))) i (with-reading (consumer-nth (decode (now (store .entry))) i) (consumer-nth (decode (now (store .entry))) i .cursor) (consumer-nth (decode (now (store .entry))) i .nacked ++ found-positions (ledger-of (decode (now (store .entry))) topic) (groups-from (now (list .entry)) 0)))) ⌝ }
+    requires { ⌜ Consumer-in e (now store) i × Stands (now list) 0
+        × (length (consumer-now (now store) i .nacked ++ found-positions (ledger-of (decode (now store)) topic) (groups-from (now list) 0)) ≤ 64) ⌝ }
+    ensures { λ _. ⌜ now (store .exit) ≡ consumer-changed (now (store .entry)) i (λ x. with-reading x (x .cursor) (x .nacked
+        ++ found-positions (ledger-of (decode (now (store .entry))) topic) (groups-from (now (list .entry)) 0))) ⌝ }
 {
     let mut at = 0;
     while at < list.len() {

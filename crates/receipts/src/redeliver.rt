@@ -15,9 +15,9 @@ ghost use mathlib.Core.Path.{_≡_};
 ghost use mathlib.Core.Bool.{true};
 ghost use Rattle.rules.specs.State.Kind.{plain, shared};
 ghost use Rattle.rules.specs.Calls.Call.{Redeliver};
-ghost use Rattle.layout.specs.Layout.{decode, spells};
+ghost use Rattle.layout.specs.Layout.{spells};
 ghost use Rattle.layout.specs.Calls.{answer, after};
-ghost use Rattle.layout.specs.Fields.{consumer-nth};
+ghost use Rattle.layout.specs.Fields.{consumer-now};
 ghost use Rattle.groups.specs.Walk.{Stands};
 ghost use Rattle.commands.specs.Live.{Live};
 
@@ -39,7 +39,7 @@ pub fn redeliver(store: &mut [u64], consumer: u64, list: &[u64]) -> u64
 
 // A redeliver of the live consumer `i`, of a list of the form.
 fn redeliver_live(store: &mut [u64], e: usize, i: usize, consumer: u64, list: &[u64]) -> u64
-    requires { ⌜ Live e (now store) i × (consumer-nth (decode (now store)) i .id ≡ consumer) × Stands (now list) 0 ⌝ }
+    requires { ⌜ Live e (now store) i × (consumer-now (now store) i .id ≡ consumer) × Stands (now list) 0 ⌝ }
     ensures answer { λ r. ⌜ r ≡ answer (now (store .entry)) (Redeliver consumer (now (list .entry))) ⌝ }
     ensures words { λ _. ⌜ now (store .exit) ≡ after (now (store .entry)) (Redeliver consumer (now (list .entry))) ⌝ }
 {
@@ -51,7 +51,8 @@ fn redeliver_live(store: &mut [u64], e: usize, i: usize, consumer: u64, list: &[
 
 // A redeliver of the live plain consumer `i`.
 fn redeliver_plain(store: &mut [u64], e: usize, i: usize, consumer: u64, list: &[u64]) -> u64
-    requires { ⌜ Live e (now store) i × (consumer-nth (decode (now store)) i .id ≡ consumer) × Stands (now list) 0 × (consumer-nth (decode (now store)) i .kind ≡ plain) ⌝ }
+    requires { ⌜ Live e (now store) i × (consumer-now (now store) i .id ≡ consumer) × Stands (now list) 0
+        × (consumer-now (now store) i .kind ≡ plain) ⌝ }
     ensures answer { λ r. ⌜ r ≡ answer (now (store .entry)) (Redeliver consumer (now (list .entry))) ⌝ }
     ensures words { λ _. ⌜ now (store .exit) ≡ after (now (store .entry)) (Redeliver consumer (now (list .entry))) ⌝ }
 {
@@ -66,7 +67,8 @@ fn redeliver_plain(store: &mut [u64], e: usize, i: usize, consumer: u64, list: &
 
 // A redeliver of the live shared consumer `i`.
 fn redeliver_shared(store: &mut [u64], e: usize, i: usize, consumer: u64, list: &[u64]) -> u64
-    requires { ⌜ Live e (now store) i × (consumer-nth (decode (now store)) i .id ≡ consumer) × Stands (now list) 0 × (consumer-nth (decode (now store)) i .kind ≡ shared) ⌝ }
+    requires { ⌜ Live e (now store) i × (consumer-now (now store) i .id ≡ consumer) × Stands (now list) 0
+        × (consumer-now (now store) i .kind ≡ shared) ⌝ }
     ensures answer { λ r. ⌜ r ≡ answer (now (store .entry)) (Redeliver consumer (now (list .entry))) ⌝ }
     ensures words { λ _. ⌜ now (store .exit) ≡ after (now (store .entry)) (Redeliver consumer (now (list .entry))) ⌝ }
 {

@@ -9,7 +9,7 @@ ghost use Rattle.rules.specs.Table.{member};
 ghost use Rattle.rules.specs.State.{by-number, by-pair, same-pair, ledger-of, dispatcher};
 ghost use Rattle.layout.specs.Layout.{decode};
 ghost use Rattle.layout.specs.Canon.{Canon-store};
-ghost use Rattle.layout.specs.Fields.{dispatcher-nth};
+ghost use Rattle.layout.specs.Fields.{pair-of, dispatcher-now};
 ghost use Rattle.store.specs.Find.{slot};
 
 // The slot of a topic.
@@ -45,7 +45,7 @@ pub fn ledger_length(store: &[u64], e: usize, topic: u64) -> usize
 // Whether a dispatcher is the one of a pair.
 fn is_of_pair(store: &[u64], e: usize, d: usize, topic: u64, subscription: u64) -> bool
     requires { ⌜ Canon-store e (now store) × (d < length (decode (now store) .dispatchers)) ⌝ }
-    ensures { λ r. ⌜ r ≡ same-pair (record { topic = topic; subscription = subscription }) (dispatcher-nth (decode (now (store .entry))) d .pair) ⌝ }
+    ensures { λ r. ⌜ r ≡ same-pair (pair-of topic subscription) (dispatcher-now (now (store .entry)) d .pair) ⌝ }
 {
     let at = 2355 + 32 * e + d * (176 + 9 * e);
     if store[at] != topic {
@@ -57,7 +57,7 @@ fn is_of_pair(store: &[u64], e: usize, d: usize, topic: u64, subscription: u64) 
 // The slot of a pair's dispatcher.
 pub fn find_dispatcher(store: &[u64], e: usize, topic: u64, subscription: u64) -> usize
     requires { ⌜ Canon-store e (now store) ⌝ }
-    ensures { λ r. ⌜ r ≡ slot by-pair (record { topic = topic; subscription = subscription }) (decode (now (store .entry)) .dispatchers) ⌝ }
+    ensures { λ r. ⌜ r ≡ slot by-pair (pair-of topic subscription) (decode (now (store .entry)) .dispatchers) ⌝ }
 {
     let n = word(store, 2354 + 32 * e);
     let mut d = 0;
@@ -73,7 +73,7 @@ pub fn find_dispatcher(store: &[u64], e: usize, topic: u64, subscription: u64) -
 // Whether an id is in the ring of a dispatcher.
 fn ring_holds(store: &[u64], e: usize, d: usize, id: u64) -> bool
     requires { ⌜ Canon-store e (now store) × (d < length (decode (now store) .dispatchers)) ⌝ }
-    ensures { λ r. ⌜ r ≡ member id (dispatcher-nth (decode (now (store .entry))) d .attached) ⌝ }
+    ensures { λ r. ⌜ r ≡ member id (dispatcher-now (now (store .entry)) d .attached) ⌝ }
 {
     let first = 2367 + 32 * e + d * (176 + 9 * e);
     let n = word(store, first - 1);
@@ -90,7 +90,7 @@ fn ring_holds(store: &[u64], e: usize, d: usize, id: u64) -> bool
 // Whether an id is in the ring of a pair's dispatcher; no id is where the pair has none.
 pub fn in_ring(store: &[u64], e: usize, topic: u64, subscription: u64, id: u64) -> bool
     requires { ⌜ Canon-store e (now store) ⌝ }
-    ensures { λ r. ⌜ r ≡ member id (dispatcher (decode (now (store .entry))) (record { topic = topic; subscription = subscription }) .attached) ⌝ }
+    ensures { λ r. ⌜ r ≡ member id (dispatcher (decode (now (store .entry))) (pair-of topic subscription) .attached) ⌝ }
 {
     let d = find_dispatcher(store, e, topic, subscription);
     if d < word(store, 2354 + 32 * e) {

@@ -18,7 +18,8 @@ pub enum Lookup {
 pub fn find_consumer(store: &[u64], e: usize, id: u64) -> Lookup
     requires { ⌜ Canon-store e (now store) ⌝ }
     ensures slot { λ r. ⌜ r ≡ looked-up id (decode (now (store .entry)) .consumers) ⌝ }
-    ensures answer { λ r. ⌜ ((f : Consumer → Outcome) → lookup-outcome (decode (now (store .entry)) .consumers) f r ≡ with-live (decode (now (store .entry))) id f) ⌝ }
+    ensures answer { λ r. ⌜ ((f : Consumer → Outcome) → lookup-outcome (decode (now (store .entry)) .consumers) f r
+        ≡ with-live (decode (now (store .entry))) id f) ⌝ }
 {
     let n = word(store, 16);
     let mut i = 0;

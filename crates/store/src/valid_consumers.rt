@@ -14,7 +14,7 @@ ghost use Rattle.rules.specs.State.{Consumer};
 ghost use Rattle.rules.specs.Valid.{ascending, valid-consumer};
 ghost use Rattle.layout.specs.Layout.{decode};
 ghost use Rattle.layout.specs.Canon.{Canon-store};
-ghost use Rattle.layout.specs.Fields.{consumer-nth};
+ghost use Rattle.layout.specs.Fields.{consumer-now};
 ghost use Rattle.store.specs.ValidConsumers.{numbers-valid, nacked-valid, places-valid, attached-valid};
 
 // The least and the most permits of a consumer, 2^62 - 255 and 2^62 + 2^40 in excess form.
@@ -25,7 +25,7 @@ const MOST_PERMITS: u64 = 0x4000_0100_0000_0000;
 // Whether consumer i's topic and subscription are bytes and its permits in range.
 fn numbers_valid(store: &[u64], e: usize, i: usize) -> bool
     requires { ⌜ Canon-store e (now store) × (i < length (decode (now store) .consumers)) ⌝ }
-    ensures { λ r. ⌜ r ≡ numbers-valid (consumer-nth (decode (now (store .entry))) i) ⌝ }
+    ensures { λ r. ⌜ r ≡ numbers-valid (consumer-now (now (store .entry)) i) ⌝ }
 {
     let at = 17 + i * 72;
     if 255 < store[at + 1] {
@@ -43,7 +43,7 @@ fn numbers_valid(store: &[u64], e: usize, i: usize) -> bool
 // Whether each nacked position of consumer i is below n.
 fn nacked_valid(store: &[u64], e: usize, i: usize, n: usize) -> bool
     requires { ⌜ Canon-store e (now store) × (i < length (decode (now store) .consumers)) ⌝ }
-    ensures { λ r. ⌜ r ≡ nacked-valid n (consumer-nth (decode (now (store .entry))) i) ⌝ }
+    ensures { λ r. ⌜ r ≡ nacked-valid n (consumer-now (now (store .entry)) i) ⌝ }
 {
     let first = 24 + i * 72;
     let count = word(store, first - 1);
@@ -60,7 +60,7 @@ fn nacked_valid(store: &[u64], e: usize, i: usize, n: usize) -> bool
 // Whether consumer i's cursor and nacked positions are in its topic's ledger.
 fn places_valid(store: &[u64], e: usize, i: usize) -> bool
     requires { ⌜ Canon-store e (now store) × (i < length (decode (now store) .consumers)) ⌝ }
-    ensures { λ r. ⌜ r ≡ places-valid (decode (now (store .entry))) (consumer-nth (decode (now (store .entry))) i) ⌝ }
+    ensures { λ r. ⌜ r ≡ places-valid (decode (now (store .entry))) (consumer-now (now (store .entry)) i) ⌝ }
 {
     let at = 17 + i * 72;
     let n = ledger_length(store, e, store[at + 1]);
@@ -73,7 +73,7 @@ fn places_valid(store: &[u64], e: usize, i: usize) -> bool
 // Whether consumer i, if it is a shared one, is in its dispatcher's ring.
 fn attached_valid(store: &[u64], e: usize, i: usize) -> bool
     requires { ⌜ Canon-store e (now store) × (i < length (decode (now store) .consumers)) ⌝ }
-    ensures { λ r. ⌜ r ≡ attached-valid (decode (now (store .entry))) (consumer-nth (decode (now (store .entry))) i) ⌝ }
+    ensures { λ r. ⌜ r ≡ attached-valid (decode (now (store .entry))) (consumer-now (now (store .entry)) i) ⌝ }
 {
     let at = 17 + i * 72;
     if store[at + 3] == 0 {
@@ -85,7 +85,7 @@ fn attached_valid(store: &[u64], e: usize, i: usize) -> bool
 // Whether consumer i is valid.
 fn consumer_valid(store: &[u64], e: usize, i: usize) -> bool
     requires { ⌜ Canon-store e (now store) × (i < length (decode (now store) .consumers)) ⌝ }
-    ensures { λ r. ⌜ r ≡ valid-consumer (decode (now (store .entry))) (consumer-nth (decode (now (store .entry))) i) ⌝ }
+    ensures { λ r. ⌜ r ≡ valid-consumer (decode (now (store .entry))) (consumer-now (now (store .entry)) i) ⌝ }
 {
     if !numbers_valid(store, e, i) {
         return false;
@@ -99,8 +99,10 @@ fn consumer_valid(store: &[u64], e: usize, i: usize) -> bool
 // Whether consumer i's id is above those of all before it, which ascend: it is if it is above the
 // last of them.
 fn id_ascends(store: &[u64], e: usize, i: usize) -> bool
-    requires { ⌜ Canon-store e (now store) × (i < length (decode (now store) .consumers)) × (ascending (take i (decode (now store) .consumers)) ≡ true) ⌝ }
-    ensures { λ r. ⌜ r ≡ all (λ (c : Consumer). ltb (c .id) (consumer-nth (decode (now (store .entry))) i .id)) (take i (decode (now (store .entry)) .consumers)) ⌝ }
+    requires { ⌜ Canon-store e (now store) × (i < length (decode (now store) .consumers))
+        × (ascending (take i (decode (now store) .consumers)) ≡ true) ⌝ }
+    ensures { λ r. ⌜ r ≡ all (λ (c : Consumer). ltb (c .id) (consumer-now (now (store .entry)) i .id))
+        (take i (decode (now (store .entry)) .consumers)) ⌝ }
 {
     if i == 0 {
         return true;
@@ -111,7 +113,8 @@ fn id_ascends(store: &[u64], e: usize, i: usize) -> bool
 // Whether the consumers are valid and their ids ascend.
 pub(crate) fn consumers_valid(store: &[u64], e: usize) -> bool
     requires { ⌜ Canon-store e (now store) ⌝ }
-    ensures { λ r. ⌜ r ≡ (ascending (decode (now (store .entry)) .consumers) && all (valid-consumer (decode (now (store .entry)))) (decode (now (store .entry)) .consumers)) ⌝ }
+    ensures { λ r. ⌜ r ≡ (ascending (decode (now (store .entry)) .consumers)
+        && all (valid-consumer (decode (now (store .entry)))) (decode (now (store .entry)) .consumers)) ⌝ }
 {
     let n = word(store, 16);
     let mut i = 0;

@@ -17,7 +17,7 @@ ghost use Rattle.rules.specs.Table.{all};
 ghost use Rattle.rules.specs.Valid.{valid-dispatcher};
 ghost use Rattle.layout.specs.Layout.{decode};
 ghost use Rattle.layout.specs.Canon.{Canon-store};
-ghost use Rattle.layout.specs.Fields.{dispatcher-nth};
+ghost use Rattle.layout.specs.Fields.{dispatcher-now};
 ghost use Rattle.store.specs.Rows.{twos-ascend};
 ghost use Rattle.store.specs.Orders.{Known};
 ghost use Rattle.store.specs.Places.{Under, Tested};
@@ -123,7 +123,7 @@ fn dispatcher_valid(store: &[u64], e: usize, d: usize, orders: &[u8], stamps: &m
     requires there { ⌜ d < length (decode (now store) .dispatchers) ⌝ }
     requires orders { ⌜ (length (now orders) ≡ 9) × Known e (now store) (now orders) ⌝ }
     requires stamps { ⌜ (length (now stamps) ≡ 4096) × Under (now stamps) (d + 1) ⌝ }
-    ensures { λ r. ⌜ Tested (d + 1) (now (stamps .exit)) r (valid-dispatcher (decode (now (store .entry))) (dispatcher-nth (decode (now (store .entry))) d)) ⌝ }
+    ensures { λ r. ⌜ Tested (d + 1) (now (stamps .exit)) r (valid-dispatcher (decode (now (store .entry))) (dispatcher-now (now (store .entry)) d)) ⌝ }
 {
     let at = 2355 + 32 * e + d * (176 + 9 * e);
     let topic = store[at];

@@ -15,13 +15,14 @@ ghost use Rattle.rules.specs.State.{same-id, StoredMessage, Topic};
 ghost use Rattle.rules.specs.Valid.{valid-message, valid-topic};
 ghost use Rattle.layout.specs.Layout.{decode};
 ghost use Rattle.layout.specs.Canon.{Canon-store};
-ghost use Rattle.layout.specs.Fields.{topic-nth};
+ghost use Rattle.layout.specs.Fields.{topic-now};
 ghost use Rattle.store.specs.Orders.{messages-ascend, topic-order, Known, Ordered};
 
 // Whether the two words at `at` are another id than the given one.
 fn is_other(store: &[u64], at: usize, ledger: u64, entry: u64) -> bool
     requires { ⌜ at + 1 < length (now store) ⌝ }
-    ensures { λ r. ⌜ r ≡ not (same-id (record { ledger = ledger; entry = entry }) (record { ledger = getD (now (store .entry)) at 0; entry = getD (now (store .entry)) (at + 1) 0 })) ⌝ }
+    ensures { λ r. ⌜ r ≡ not (same-id (record { ledger = ledger; entry = entry })
+        (record { ledger = getD (now (store .entry)) at 0; entry = getD (now (store .entry)) (at + 1) 0 })) ⌝ }
 {
     if store[at] != ledger {
         return true;
@@ -31,8 +32,9 @@ fn is_other(store: &[u64], at: usize, ledger: u64, entry: u64) -> bool
 
 // Whether none of the first m messages of topic t has an id.
 fn is_new(store: &[u64], e: usize, t: usize, m: usize, ledger: u64, entry: u64) -> bool
-    requires { ⌜ Canon-store e (now store) × (t < length (decode (now store) .topics)) × (m ≤ length (topic-nth (decode (now store)) t .messages)) ⌝ }
-    ensures { λ r. ⌜ r ≡ not (any (same-id (record { ledger = ledger; entry = entry })) (map (λ (x : StoredMessage). x .id) (take m (topic-nth (decode (now (store .entry))) t .messages)))) ⌝ }
+    requires { ⌜ Canon-store e (now store) × (t < length (decode (now store) .topics)) × (m ≤ length (topic-now (now store) t .messages)) ⌝ }
+    ensures { λ r. ⌜ r ≡ not (any (same-id (record { ledger = ledger; entry = entry }))
+        (map (λ (x : StoredMessage). x .id) (take m (topic-now (now (store .entry)) t .messages)))) ⌝ }
 {
     let first = 2326 + t * (4 + 4 * e);
     let mut j = 0;
@@ -49,7 +51,8 @@ fn is_new(store: &[u64], e: usize, t: usize, m: usize, ledger: u64, entry: u64) 
 // greater than all before it is new; only one that is not greater is compared with each of them.
 fn messages_valid(store: &[u64], e: usize, t: usize) -> bool
     requires { ⌜ Canon-store e (now store) × (t < length (decode (now store) .topics)) ⌝ }
-    ensures { λ r. ⌜ r ≡ (all valid-message (topic-nth (decode (now (store .entry))) t .messages) && distinct same-id (map (λ (x : StoredMessage). x .id) (topic-nth (decode (now (store .entry))) t .messages))) ⌝ }
+    ensures { λ r. ⌜ r ≡ (all valid-message (topic-now (now (store .entry)) t .messages)
+        && distinct same-id (map (λ (x : StoredMessage). x .id) (topic-now (now (store .entry)) t .messages))) ⌝ }
 {
     let first = 2326 + t * (4 + 4 * e);
     let n = word(store, first - 1);
@@ -133,7 +136,9 @@ fn topic_order(store: &[u64], e: usize, t: usize) -> u8
 pub(crate) fn topics_valid(store: &[u64], e: usize, orders: &mut [u8]) -> bool
     requires canon { ⌜ Canon-store e (now store) ⌝ }
     requires orders { ⌜ (length (now orders) ≡ 9) × Known e (now store) (now orders) ⌝ }
-    ensures { λ r. ⌜ Ordered e (now (store .entry)) (now (orders .exit)) r (distinct eqb (map (λ (t : Topic). t .number) (decode (now (store .entry)) .topics)) && all (valid-topic e) (decode (now (store .entry)) .topics)) ⌝ }
+    ensures { λ r. ⌜ Ordered e (now (store .entry)) (now (orders .exit)) r
+        (distinct eqb (map (λ (t : Topic). t .number) (decode (now (store .entry)) .topics))
+        && all (valid-topic e) (decode (now (store .entry)) .topics)) ⌝ }
 {
     let n = word(store, 2321);
     let width = 4 + 4 * e;

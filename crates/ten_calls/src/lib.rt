@@ -32,7 +32,8 @@ fn open_and_subscribe(
     handle: u64,
     batch: u64,
 )
-    ensures words { λ _. ⌜ now (store .exit) ≡ run (open-after (now (store .entry)) 32 0 0) (subscribing (message-of ledger entry handle batch) first second) ⌝ }
+    ensures words { λ _. ⌜ now (store .exit) ≡ run (open-after (now (store .entry)) 32 0 0)
+        (subscribing (message-of ledger entry handle batch) first second) ⌝ }
 {
     broker_open(store, 32, 0, 0);
     broker_append(store, 1, ledger, entry, handle, batch);
@@ -79,9 +80,17 @@ pub fn ten_calls(
     back: &[u64],
 )
     requires { ⌜ (needed 32 ≤ length (now store)) × (first ≡ second → ⊥) ⌝ }
-    ensures words { λ _. ⌜ now (store .exit) ≡ run (open-after (now (store .entry)) 32 0 0) (ten-calls (message-of ledger entry handle batch) first second grant (length (now (list .entry)) / 13) (now (acked .entry)) (now (back .entry))) ⌝ }
-    ensures records { λ _. ⌜ now (list .exit) ≡ list-pushed (open-after (now (store .entry)) 32 0 0) (subscribing (message-of ledger entry handle batch) first second ++ granting first second grant) (now (list .entry)) ⌝ }
-    ensures accounted { λ _. ⌜ Words-accounted (record { words = now (store .exit); book = after-calls (at-opening (now (store .entry)) 32 0) (lent (now (list .entry)) (ten-calls (message-of ledger entry handle batch) first second grant (length (now (list .entry)) / 13) (now (acked .entry)) (now (back .entry)))) .book }) ⌝ }
+    ensures words { λ _. ⌜ now (store .exit) ≡ run (open-after (now (store .entry)) 32 0 0)
+        (ten-calls (message-of ledger entry handle batch) first second grant (length (now (list .entry)) / 13) (now (acked .entry)) (now (back .entry))) ⌝ }
+    ensures records { λ _. ⌜ now (list .exit) ≡ list-pushed (open-after (now (store .entry)) 32 0 0)
+        (subscribing (message-of ledger entry handle batch) first second ++ granting first second grant) (now (list .entry)) ⌝ }
+    ensures accounted { λ _. ⌜ Words-accounted
+        (record {
+          words = now (store .exit);
+          book = after-calls (at-opening (now (store .entry)) 32 0)
+              (lent (now (list .entry)) (ten-calls (message-of ledger entry handle batch) first second grant (length (now (list .entry)) / 13)
+              (now (acked .entry)) (now (back .entry)))) .book;
+        }) ⌝ }
 {
     open_and_subscribe(store, first, second, ledger, entry, handle, batch);
     grant_and_push(store, list, first, second, grant);

@@ -8,11 +8,13 @@ use lib.Dec.{ltb}
 use lib.ListN.{length, getD, take, drop}
 use Rattle.rules.specs.Table.{Every}
 use Rattle.rules.specs.State.{StoredMessage, State, ledger-of}
+use Rattle.rules.specs.Outcome.{Dispatch}
 use Rattle.layout.specs.Layout.{decode}
-use Rattle.layout.specs.Fields.{topic-nth, dispatcher-nth}
+use Rattle.layout.specs.Fields.{topic-nth, dispatcher-nth, dispatcher-now}
 use Rattle.layout.specs.Placed.{Topic-in, Dispatcher-in}
-use Rattle.push.specs.Local.{Local, Step, Place, Local-turn, first-with-permits}
+use Rattle.push.specs.Local.{Fixed, Local, Step, Place, Local-turn, Steps, first-with-permits, fixed-of, served}
 use Rattle.push.specs.Local.Local-turn.{stop, move}
+use Rattle.push.specs.Shared.{Service, services, all-service-records}
 use Rattle.heads.specs.declared.Head as numbers
 use Rattle.turns.specs.declared.turn.Step as steps
 use Rattle.turns.specs.declared.turn.Turn as turns
@@ -45,6 +47,22 @@ turn-of permits (variants.Move x h taken) = move (step-of x) (local-from permits
 unfoldable pub numbers-of : turns.Turn → numbers.Head
 numbers-of (variants.Stop h taken) = h
 numbers-of (variants.Move x h taken) = h
+
+-- what a push only reads of dispatcher d of the state that words decode to
+abbrev pub fixed-now : List ℕ → ℕ → Fixed
+fixed-now ws d = fixed-of (decode ws) (dispatcher-now ws d)
+
+-- the steps of its service, from some permits
+abbrev pub served-now : List ℕ → ℕ → List ℕ → Steps
+served-now ws d permits = served (decode ws) (dispatcher-now ws d) permits
+
+-- the services of all dispatchers of that state, from some permits
+abbrev pub services-now : List ℕ → List ℕ → List Service
+services-now ws permits = services (decode ws) (decode ws .dispatchers) permits
+
+-- their records
+abbrev pub shared-records-now : List ℕ → List ℕ → List Dispatch
+shared-records-now ws permits = all-service-records (decode ws) (services-now ws permits)
 
 -- the ledger of a dispatcher's topic
 abbrev pub ledger-under : State → ℕ → List StoredMessage

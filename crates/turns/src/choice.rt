@@ -25,7 +25,8 @@ fn has_permits(permits: &[u64], c: usize) -> bool
 // The first place from `from` to before `to` whose consumer has permits above 0; `to` if there is none.
 fn ready(ring: &[usize], permits: &[u64], from: usize, to: usize) -> usize
     requires { ⌜ (from ≤ to) × (to ≤ length (now ring)) ⌝ }
-    ensures { λ r. ⌜ (place-named (now (ring .entry)) to r ≡ first-with-permits (now (permits .entry)) from (take (to - from) (drop from (now (ring .entry)))) none) × (r ≤ to) ⌝ }
+    ensures { λ r. ⌜ (place-named (now (ring .entry)) to r ≡ first-with-permits (now (permits .entry)) from
+        (take (to - from) (drop from (now (ring .entry)))) none) × (r ≤ to) ⌝ }
 {
     let mut j = from;
     while j < to {
@@ -40,7 +41,8 @@ fn ready(ring: &[usize], permits: &[u64], from: usize, to: usize) -> usize
 // The first place from `next` on, going round; the ring's length if there is none.
 pub(crate) fn choose(ring: &[usize], permits: &[u64], next: usize) -> usize
     requires { ⌜ next ≤ length (now ring) ⌝ }
-    ensures { λ r. ⌜ (place-named (now (ring .entry)) (length (now (ring .entry))) r ≡ first-place (now (ring .entry)) (now (permits .entry)) next) × (r ≤ length (now (ring .entry))) ⌝ }
+    ensures { λ r. ⌜ (place-named (now (ring .entry)) (length (now (ring .entry))) r ≡ first-place (now (ring .entry)) (now (permits .entry)) next)
+        × (r ≤ length (now (ring .entry))) ⌝ }
 {
     let n = ring.len();
     let r = ready(ring, permits, next, n);

@@ -14,10 +14,9 @@ ghost use mathlib.Core.Bool.{true};
 ghost use Prim.Native.Nat.{_≤_, _<_};
 ghost use lib.ListN.{length};
 ghost use Rattle.layout.specs.Layout.{decode, spells};
-ghost use Rattle.layout.specs.Fields.{dispatcher-nth};
-ghost use Rattle.push.specs.Local.{fixed-of, served};
-ghost use Rattle.push.specs.Shared.{services, permits-left, all-service-records};
-ghost use Rattle.turns.specs.Turns.{Serving};
+ghost use Rattle.layout.specs.Fields.{dispatcher-now};
+ghost use Rattle.push.specs.Shared.{permits-left};
+ghost use Rattle.turns.specs.Turns.{fixed-now, served-now, services-now, shared-records-now, Serving};
 
 // How many dispatches dispatcher `d` is due, by turns; the permits are left as its service leaves them.
 fn due_turns(
@@ -29,9 +28,10 @@ fn due_turns(
     ring: &[usize],
     permits: &mut [u64],
 ) -> usize
-    requires { ⌜ Serving e (now store) d t n × (now ring ≡ fixed-of (decode (now store)) (dispatcher-nth (decode (now store)) d) .ring) × (dispatcher-nth (decode (now store)) d .next ≤ length (now ring)) ⌝ }
-    ensures count { λ r. ⌜ r ≡ length (served (decode (now (store .entry))) (dispatcher-nth (decode (now (store .entry))) d) (now (permits .entry)) .made) ⌝ }
-    ensures permits { λ _. ⌜ now (permits .exit) ≡ served (decode (now (store .entry))) (dispatcher-nth (decode (now (store .entry))) d) (now (permits .entry)) .after .permits ⌝ }
+    requires { ⌜ Serving e (now store) d t n × (now ring ≡ fixed-now (now store) d .ring)
+        × (dispatcher-now (now store) d .next ≤ length (now ring)) ⌝ }
+    ensures count { λ r. ⌜ r ≡ length (served-now (now (store .entry)) d (now (permits .entry)) .made) ⌝ }
+    ensures permits { λ _. ⌜ now (permits .exit) ≡ served-now (now (store .entry)) d (now (permits .entry)) .after .permits ⌝ }
 {
     let mut head = load_head(store, e, d);
     let mut taken = 0;
@@ -49,9 +49,10 @@ fn due_turns(
 
 // The same, of a dispatcher whose ring is to be written to `ring`, a list of its length.
 fn due_with(store: &[u64], e: usize, d: usize, ring: &mut [usize], permits: &mut [u64]) -> usize
-    requires { ⌜ (spells (now store) ≡ true) × (e ≡ decode (now store) .entries) × (d < length (decode (now store) .dispatchers)) × (length (now ring) ≡ length (dispatcher-nth (decode (now store)) d .attached)) ⌝ }
-    ensures count { λ r. ⌜ r ≡ length (served (decode (now (store .entry))) (dispatcher-nth (decode (now (store .entry))) d) (now (permits .entry)) .made) ⌝ }
-    ensures permits { λ _. ⌜ now (permits .exit) ≡ served (decode (now (store .entry))) (dispatcher-nth (decode (now (store .entry))) d) (now (permits .entry)) .after .permits ⌝ }
+    requires { ⌜ (spells (now store) ≡ true) × (e ≡ decode (now store) .entries) × (d < length (decode (now store) .dispatchers))
+        × (length (now ring) ≡ length (dispatcher-now (now store) d .attached)) ⌝ }
+    ensures count { λ r. ⌜ r ≡ length (served-now (now (store .entry)) d (now (permits .entry)) .made) ⌝ }
+    ensures permits { λ _. ⌜ now (permits .exit) ≡ served-now (now (store .entry)) d (now (permits .entry)) .after .permits ⌝ }
 {
     let number = store[dispatcher_at(e, d)];
     let t = find_topic(store, e, number);
@@ -63,8 +64,8 @@ fn due_with(store: &[u64], e: usize, d: usize, ring: &mut [usize], permits: &mut
 // How many dispatches dispatcher `d` is due; the permits are left as its service leaves them.
 fn due_of(store: &[u64], e: usize, d: usize, permits: &mut [u64]) -> usize
     requires { ⌜ (spells (now store) ≡ true) × (e ≡ decode (now store) .entries) × (d < length (decode (now store) .dispatchers)) ⌝ }
-    ensures count { λ r. ⌜ r ≡ length (served (decode (now (store .entry))) (dispatcher-nth (decode (now (store .entry))) d) (now (permits .entry)) .made) ⌝ }
-    ensures permits { λ _. ⌜ now (permits .exit) ≡ served (decode (now (store .entry))) (dispatcher-nth (decode (now (store .entry))) d) (now (permits .entry)) .after .permits ⌝ }
+    ensures count { λ r. ⌜ r ≡ length (served-now (now (store .entry)) d (now (permits .entry)) .made) ⌝ }
+    ensures permits { λ _. ⌜ now (permits .exit) ≡ served-now (now (store .entry)) d (now (permits .entry)) .after .permits ⌝ }
 {
     let size = ring_count(store, e, d);
     let mut ring = [0usize; 32];
@@ -74,8 +75,8 @@ fn due_of(store: &[u64], e: usize, d: usize, permits: &mut [u64]) -> usize
 // How many dispatches all dispatchers are due; the permits are left as the last service leaves them.
 pub fn due_shared(store: &[u64], e: usize, permits: &mut [u64]) -> usize
     requires { ⌜ (spells (now store) ≡ true) × (e ≡ decode (now store) .entries) ⌝ }
-    ensures count { λ r. ⌜ r ≡ length (all-service-records (decode (now (store .entry))) (services (decode (now (store .entry))) (decode (now (store .entry)) .dispatchers) (now (permits .entry)))) ⌝ }
-    ensures permits { λ _. ⌜ now (permits .exit) ≡ permits-left (now (permits .entry)) (services (decode (now (store .entry))) (decode (now (store .entry)) .dispatchers) (now (permits .entry))) ⌝ }
+    ensures count { λ r. ⌜ r ≡ length (shared-records-now (now (store .entry)) (now (permits .entry))) ⌝ }
+    ensures permits { λ _. ⌜ now (permits .exit) ≡ permits-left (now (permits .entry)) (services-now (now (store .entry)) (now (permits .entry))) ⌝ }
 {
     let n = word(store, 2354 + 32 * e);
     let mut count = 0;

@@ -3,15 +3,13 @@ use dispatcher::marks::load_mark;
 use ledger::message::batch_size;
 ghost use mathlib.Core.Path.{_≡_};
 ghost use Prim.Native.Nat.{_≤_, _<_};
-ghost use Rattle.layout.specs.Layout.{decode};
-ghost use Rattle.layout.specs.Fields.{dispatcher-nth};
-ghost use Rattle.push.specs.Local.{price-of, fixed-of};
-ghost use Rattle.turns.specs.Turns.{Serving};
+ghost use Rattle.push.specs.Local.{price-of};
+ghost use Rattle.turns.specs.Turns.{fixed-now, Serving};
 
 // The cost of the entry at position `k` of dispatcher `d`, whose ledger of `n` entries is that of topic `t`.
 pub(crate) fn price(store: &[u64], e: usize, d: usize, t: usize, n: usize, k: usize) -> u64
     requires { ⌜ Serving e (now store) d t n × (k < n) ⌝ }
-    ensures { λ r. ⌜ (r ≡ price-of (fixed-of (decode (now (store .entry))) (dispatcher-nth (decode (now (store .entry))) d)) k) × (r ≤ 256) ⌝ }
+    ensures { λ r. ⌜ (r ≡ price-of (fixed-now (now (store .entry)) d) k) × (r ≤ 256) ⌝ }
 {
     let mark = load_mark(store, e, d, k);
     if mark.unacked.bits_empty() {

@@ -9,10 +9,10 @@ ghost use lib.ListN.{length};
 ghost use Rattle.rules.specs.State.{by-id};
 ghost use Rattle.layout.specs.Layout.{decode};
 ghost use Rattle.layout.specs.Canon.{Canon-store};
-ghost use Rattle.layout.specs.Fields.{dispatcher-nth};
+ghost use Rattle.layout.specs.Fields.{dispatcher-now};
 ghost use Rattle.layout.specs.Placed.{Dispatcher-in};
 ghost use Rattle.store.specs.Find.{slot};
-ghost use Rattle.push.specs.Local.{fixed-of};
+ghost use Rattle.turns.specs.Turns.{fixed-now};
 
 // The slot of the consumer with an id; the number of consumers if it is not live.
 fn slot_of(store: &[u64], e: usize, id: u64) -> usize
@@ -27,8 +27,8 @@ fn slot_of(store: &[u64], e: usize, id: u64) -> usize
 
 // The ring of dispatcher `d` as slots, in a list of its length.
 pub fn ring_slots(store: &[u64], e: usize, d: usize, ring: &mut [usize])
-    requires { ⌜ Dispatcher-in e (now store) d × (length (now ring) ≡ length (dispatcher-nth (decode (now store)) d .attached)) ⌝ }
-    ensures { λ _. ⌜ now (ring .exit) ≡ fixed-of (decode (now (store .entry))) (dispatcher-nth (decode (now (store .entry))) d) .ring ⌝ }
+    requires { ⌜ Dispatcher-in e (now store) d × (length (now ring) ≡ length (dispatcher-now (now store) d .attached)) ⌝ }
+    ensures { λ _. ⌜ now (ring .exit) ≡ fixed-now (now (store .entry)) d .ring ⌝ }
 {
     let at = dispatcher_at(e, d);
     let mut j = 0;

@@ -12,10 +12,8 @@ ghost use Prim.Native.Nat.{suc, _≤_, _<_};
 ghost use lib.Dec.{eqb};
 ghost use lib.ListN.{length, getD};
 ghost use Rattle.rules.specs.Permits.{zero-permits};
-ghost use Rattle.layout.specs.Layout.{decode};
-ghost use Rattle.layout.specs.Fields.{dispatcher-nth};
-ghost use Rattle.push.specs.Local.{fixed-of, local-turn, take-entry, hand-over};
-ghost use Rattle.turns.specs.Turns.{local-from, turn-of, numbers-of, Serving};
+ghost use Rattle.push.specs.Local.{local-turn, take-entry, hand-over};
+ghost use Rattle.turns.specs.Turns.{local-from, turn-of, numbers-of, fixed-now, Serving};
 
 // No permits, in excess form.
 const ZERO_PERMITS: u64 = 4_611_686_018_427_387_904;
@@ -62,7 +60,8 @@ fn hand_over(
     taken: usize,
 ) -> Turn
     requires { ⌜ Serving e (now store) d t n × (k < n) × (zero-permits < getD (now permits) c 0) × (zero-permits < head .«total_available_permits») ⌝ }
-    ensures turn { λ r. ⌜ turn-of (now (permits .exit)) r ≡ hand-over (fixed-of (decode (now (store .entry))) (dispatcher-nth (decode (now (store .entry))) d)) (now (permits .entry)) next cursor (head .«total_available_permits») taken c k ⌝ }
+    ensures turn { λ r. ⌜ turn-of (now (permits .exit)) r ≡ hand-over (fixed-now (now (store .entry)) d) (now (permits .entry)) next cursor
+        (head .«total_available_permits») taken c k ⌝ }
     ensures mark_delete { λ r. ⌜ numbers-of r .«mark_delete» ≡ head .«mark_delete» ⌝ }
 {
     let cost = price(store, e, d, t, n, k);
@@ -91,7 +90,8 @@ fn take_entry(
     taken: usize,
 ) -> Turn
     requires { ⌜ Serving e (now store) d t n × (zero-permits < getD (now permits) c 0) × (zero-permits < head .«total_available_permits») ⌝ }
-    ensures turn { λ r. ⌜ turn-of (now (permits .exit)) r ≡ take-entry (fixed-of (decode (now (store .entry))) (dispatcher-nth (decode (now (store .entry))) d)) (local-from (now (permits .entry)) head taken) next c ⌝ }
+    ensures turn { λ r. ⌜ turn-of (now (permits .exit)) r ≡ take-entry (fixed-now (now (store .entry)) d)
+        (local-from (now (permits .entry)) head taken) next c ⌝ }
     ensures mark_delete { λ r. ⌜ numbers-of r .«mark_delete» ≡ head .«mark_delete» ⌝ }
 {
     let cursor = head.cursor;
@@ -143,8 +143,9 @@ pub fn take_turn(
     head: Head,
     taken: usize,
 ) -> Turn
-    requires { ⌜ Serving e (now store) d t n × (now ring ≡ fixed-of (decode (now store)) (dispatcher-nth (decode (now store)) d) .ring) × (head .next ≤ length (now ring)) ⌝ }
-    ensures turn { λ r. ⌜ turn-of (now (permits .exit)) r ≡ local-turn (fixed-of (decode (now (store .entry))) (dispatcher-nth (decode (now (store .entry))) d)) (local-from (now (permits .entry)) head taken) ⌝ }
+    requires { ⌜ Serving e (now store) d t n × (now ring ≡ fixed-now (now store) d .ring) × (head .next ≤ length (now ring)) ⌝ }
+    ensures turn { λ r. ⌜ turn-of (now (permits .exit)) r ≡ local-turn (fixed-now (now (store .entry)) d)
+        (local-from (now (permits .entry)) head taken) ⌝ }
     ensures mark_delete { λ r. ⌜ numbers-of r .«mark_delete» ≡ head .«mark_delete» ⌝ }
 {
     let size = ring.len();
