@@ -7,7 +7,7 @@ use mathlib.Core.List.{List, [], _∷_, List·Memᴰ·not-nil}
 use native.Mathlib.Omega.{arith}
 use Rattle.rules.specs.Table.{all, Distinct}
 use Rattle.rules.specs.State.{StoredMessage, Pair, Kind, State}
-use Rattle.rules.specs.Outcome.{Value, Outcome}
+use Rattle.rules.specs.Outcome.{Value}
 use Rattle.rules.specs.Outcome.Outcome.{refused, short, done}
 use Rattle.rules.specs.Commands.{append, subscribe, flow, ack, Target, seek, redeliver, close}
 use Rattle.rules.specs.Push.{push}
@@ -24,8 +24,9 @@ use Rattle.rules.proofs.Kept.Append.{append-keeps}
 use Rattle.rules.proofs.Kept.Push.{push-keeps}
 pub use Rattle.rules.proofs.Kept.Records.{Ranged}
 pub use Rattle.rules.proofs.Kept.Push.{records-ranged}
-use Rattle.rules.proofs.Kept.Settings as fixed
-pub use Rattle.rules.proofs.Kept.Settings.{settings-keeps, settings-kept, entries-kept}
+use Rattle.rules.proofs.Kept.Range.{valid-of, opened-in-range, call-valid}
+pub use Rattle.rules.proofs.Kept.Settings.{settings-kept, entries-kept}
+pub use Rattle.rules.proofs.Kept.Range.{shared-turn-valid, plain-turn-valid}
 pub mod Every
 pub mod Counts
 pub mod Frame
@@ -45,6 +46,7 @@ pub mod Choice
 pub mod Shared
 pub mod Plain
 pub mod Push
+pub mod Range
 pub mod Settings
 
 -- a state just opened has sound tables
@@ -65,8 +67,7 @@ opened-sound e leak noop =
 
 -- and is valid
 pub opened-valid : (e : ℕ) (leak noop : Bool) → 1 ≤ e → e ≤ 4096 → Valid (opened e leak noop)
-unfolding opened
-opened-valid e leak noop h k = record { E-from = h; E-to = k; tables = opened-sound e leak noop }
+opened-valid e leak noop h k = valid-of (opened-in-range e leak noop h k) (opened-sound e leak noop)
 
 -- ---- every call
 
@@ -92,19 +93,9 @@ rule-sound s (Call.Redeliver i list) v f = redeliver-keeps s i list v
 rule-sound s (Call.Close i) v f = close-keeps s i v
 rule-sound s (Call.Push room) v f = push-keeps s room v
 
--- with the settings of a valid state, sound tables are valid
-valid-again : (s t : State) → Valid s → Sound t → fixed.Settings s t → Valid t
-valid-again s t v sound settings =
-    record { E-from = rw (settings .same-entries) (v .E-from); E-to = rw (settings .same-entries) (v .E-to); tables = sound }
-
--- so any call's outcome keeps the state valid
+-- so it keeps the state valid
 pub rule-keeps : (s : State) (x : Call) → Valid s → fits x ≡ true → Keeps Valid s (rule s x)
-rule-keeps s x v f = go (rule s x) (rule-sound s x (v .tables) f) (settings-keeps s x)
-  where
-    go : (o : Outcome) → Keeps Sound s o → Keeps (fixed.Settings s) s o → Keeps Valid s o
-    go (refused n) sound settings = v
-    go (short n) sound settings = v
-    go (done y t) sound settings = valid-again s t v sound settings
+rule-keeps s x v f = call-valid s x v (rule-sound s x (v .tables) f)
 
 -- and the state after it is valid
 pub kept : (s : State) (x : Call) → Valid s → fits x ≡ true → Valid (state-after s (rule s x))

@@ -1,4 +1,5 @@
 // The header of a store: whether its words are what they should be.
+use super::open::HEADER_RESERVED;
 use super::open::LAYOUT_TAG;
 use super::stretch::is_blank;
 ghost use mathlib.Core.Path.{_≡_};
@@ -26,5 +27,5 @@ pub(crate) fn header_right(store: &[u64]) -> bool
     if 1 < store[3] {
         return false;
     }
-    is_blank(store, 4, 16)
+    is_blank(store, HEADER_RESERVED, 16)
 }

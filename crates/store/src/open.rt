@@ -12,6 +12,9 @@ ghost use Rattle.store.specs.Open.{opened-words};
 // What word 0 of every store of this layout is.
 pub const LAYOUT_TAG: u64 = 0x5a51_4453_5031_0002;
 
+// The first of the header's reserved words, which reach to its end.
+pub(crate) const HEADER_RESERVED: usize = 4;
+
 // The words become those of a store just opened, or stay as they are: 2 if E is not 1 to 4,096,
 // 3 if the store is too short.
 pub fn open(store: &mut [u64], entries: u64, leak: u64, noop: u64) -> u64

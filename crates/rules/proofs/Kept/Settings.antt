@@ -3,7 +3,7 @@ use mathlib.Core.Path.{_≡_, refl}
 use Rattle.rules.specs.State.{State, with-topics, with-consumers, with-dispatchers, put-consumer, put-dispatcher}
 use Rattle.rules.specs.Commands.{without-consumer}
 use Rattle.rules.specs.Calls.{Call, rule, state-after}
-use Rattle.rules.proofs.Kept.Outcomes.{Keeps, keeps-after}
+use Rattle.rules.proofs.Kept.Outcomes.{keeps-after}
 use Rattle.rules.proofs.Kept.Closed.{Closed, closed-keeps}
 
 -- a state with the settings of another
@@ -23,14 +23,11 @@ settings-closed s =
       entry-put = λ t topic m h. record { same-entries = h .same-entries; same-leak = h .same-leak; same-noop = h .same-noop };
     }
 
--- any call's outcome
-pub settings-keeps : (s : State) (x : Call) → Keeps (Settings s) s (rule s x)
-settings-keeps s x =
-    closed-keeps (Settings s) (settings-closed s) s (record { same-entries = refl; same-leak = refl; same-noop = refl }) x
-
 -- no call changes the settings
 pub settings-kept : (s : State) (x : Call) → Settings s (state-after s (rule s x))
-settings-kept s x = keeps-after (Settings s) s (rule s x) (settings-keeps s x)
+settings-kept s x =
+    keeps-after (Settings s) s (rule s x)
+    (closed-keeps (Settings s) (settings-closed s) s (record { same-entries = refl; same-leak = refl; same-noop = refl }) x)
 
 -- E among them
 pub entries-kept : (s : State) (x : Call) → state-after s (rule s x) .entries ≡ s .entries
