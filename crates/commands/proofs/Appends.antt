@@ -211,7 +211,7 @@ module _ (s : State) (t topic : ℕ) (e : t ≡ slot by-number topic (s .topics)
 -- a valid state's dispatchers take an entry for which the ledger has room
 pub all-take : (s : State) (topic : ℕ) → Valid s → length (ledger-of s topic) < s .entries → Every (Takes (s .entries) topic) (s .dispatchers)
 all-take s topic v r d m q =
-    let w = v .each-dispatcher d m in
+    let w = v .tables .each-dispatcher d m in
     let l : length (ledger-of s (d .pair .topic)) < s .entries = subst (λ (n : ℕ). length (ledger-of s n) < s .entries) q r in
     record { room = rw (w .entry-marks .one-each) l; outside-once = ascending-distinct (d .outside) (w .outside-ids .outside-ascending) }
 

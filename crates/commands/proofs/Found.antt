@@ -25,7 +25,7 @@ module _ {e : ℕ} {ws : List ℕ} {i : ℕ} (h : Live e ws i) where
 
   -- its slot is that of its id
   pub live-slot : i ≡ slot by-id (consumer-nth (decode ws) i .id) (decode ws .consumers)
-  live-slot = slot-nth (decode ws .consumers) i zero-consumer (live-valid .consumers-ascending) (h .there)
+  live-slot = slot-nth (decode ws .consumers) i zero-consumer (live-valid .tables .consumers-ascending) (h .there)
 
   -- it is valid
   pub live-consumer : Valid-consumer (decode ws) (consumer-nth (decode ws) i)

@@ -126,7 +126,7 @@ range-on p sum j (some c) v l r =
 pub found-range : (s : State) (id : ℕ) (c : Consumer) → Valid s → consumer-of s id ≡ some c → (least-permits ≤ c .permits) × (c .permits ≤ most-permits)
 unfolding consumer-of
 found-range s id c v e =
-    let w : Valid-consumer s c = v .each-consumer c (found-in by-id id (s .consumers) c e) in (w .permits-from, w .permits-to)
+    let w : Valid-consumer s c = v .tables .each-consumer c (found-in by-id id (s .consumers) c e) in (w .permits-from, w .permits-to)
 
 -- ---- the sum over a ring
 

@@ -156,7 +156,7 @@ module _ (s : State) (i id : ℕ) (e : i ≡ slot by-id id (s .consumers)) where
 
   -- it is valid in a valid state
   pub consumer-found-valid : Valid s → i < length (s .consumers) → Valid-consumer s (consumer-nth s i)
-  consumer-found-valid v h = v .each-consumer (consumer-nth s i) (rw e (slot-in by-id id (s .consumers) zero-consumer (rw e at h)))
+  consumer-found-valid v h = v .tables .each-consumer (consumer-nth s i) (rw e (slot-in by-id id (s .consumers) zero-consumer (rw e at h)))
 
   -- what is done with a live consumer is done with it
   pub live-found : (f : Consumer → Outcome) → i < length (s .consumers) → with-live s id f ≡ f (consumer-nth s i)
@@ -187,14 +187,14 @@ module _ (s : State) (i id : ℕ) (e : i ≡ slot by-id id (s .consumers)) where
   set-consumer-put c v h q =
       let e′ : i ≡ slot by-id (c .id) (s .consumers) = e ∙ ap (λ (j : ℕ). slot by-id j (s .consumers)) (sym q) in
       ap (with-consumers s) (ap (λ (j : ℕ). set (s .consumers) j c) e′
-      ∙ sym (insert-found c (s .consumers) (v .consumers-ascending) (rw e′ at h)))
+      ∙ sym (insert-found c (s .consumers) (v .tables .consumers-ascending) (rw e′ at h)))
 
   -- the state without it
   pub without-consumer-at : Valid s → i < length (s .consumers)
       → without-consumer s id ≡ with-consumers s (take i (s .consumers) ++ drop (i + 1) (s .consumers))
   unfolding without-consumer
   without-consumer-at v h =
-      ap (with-consumers s) (keep-others id (s .consumers) (v .consumers-ascending) (rw e at h) ∙ rw (e, add-one))
+      ap (with-consumers s) (keep-others id (s .consumers) (v .tables .consumers-ascending) (rw e at h) ∙ rw (e, add-one))
 
 -- ---- the dispatcher of a pair, by its slot
 
@@ -210,7 +210,7 @@ module _ (s : State) (d : ℕ) (p : Pair) (e : d ≡ slot by-pair p (s .dispatch
 
   -- it is valid in a valid state
   pub dispatcher-found-valid : Valid s → d < length (s .dispatchers) → Valid-dispatcher s (dispatcher-nth s d)
-  dispatcher-found-valid v h = v .each-dispatcher (dispatcher-nth s d) (rw e (slot-in by-pair p (s .dispatchers) zero-dispatcher (rw e at h)))
+  dispatcher-found-valid v h = v .tables .each-dispatcher (dispatcher-nth s d) (rw e (slot-in by-pair p (s .dispatchers) zero-dispatcher (rw e at h)))
 
   -- a dispatcher of that pair set at its slot is put in the state
   pub set-dispatcher-put : (x : Dispatcher) → d < length (s .dispatchers) → x .pair ≡ p → set-dispatcher s d x ≡ put-dispatcher s x

@@ -20,7 +20,7 @@ use Rattle.rules.proofs.Valid.{says-valid}
 use Rattle.rules.proofs.Kept.{opened-valid, valid-kept, entries-kept}
 use Rattle.layout.specs.Layout.{decode, spells, put}
 use Rattle.layout.specs.Calls.{outcome, words-after, answer, after, run, open-outcome, open-after}
-use Rattle.layout.proofs.Valid.{valid-shaped}
+use Rattle.layout.proofs.Body.{valid-shaped}
 use Rattle.layout.proofs.Store.{put-decode, decode-put, put-spells, spells-canon, spells-valid, length-put, drop-put}
 
 -- ---- one call

@@ -16,9 +16,8 @@ use Rattle.words.specs.Store.{canonical, canonicals}
 use Rattle.words.proofs.Width.{width-word, width-flag, width-zeros, width-pair, width-upto}
 use Rattle.words.proofs.Check.{canonical-word, canonical-flag, canonical-zeros, canonical-pair, canonical-via, canonical-upto, canonicals-none, canonicals-cons}
 use Rattle.layout.specs.Records.{as-id, id-codec, as-message, message-codec, as-bits, bits-codec, as-mark, mark-codec, as-held, held-codec, as-pair, pair-codec, flag-of, kind-of, as-kind, kind-codec, as-consumer, consumer-codec, as-topic, topic-codec, as-dispatcher, dispatcher-codec}
-use Rattle.layout.specs.Layout.{as-body, body-codec}
-use Rattle.layout.specs.Offsets.{flight-in, held-in, marks-in, topic-count-at, dispatcher-count-at, reserved-at}
-use Rattle.layout.proofs.Widths.{width-id, width-message, width-bits, width-held, width-of-pair, width-kind, width-numbers, width-consumers, width-topics, width-dispatchers}
+use Rattle.layout.specs.Offsets.{flight-in, held-in, marks-in}
+use Rattle.layout.proofs.Widths.{width-id, width-message, width-bits, width-held, width-of-pair, width-kind, width-numbers}
 
 -- ---- plain records: any words spell one
 
@@ -221,23 +220,3 @@ check-dispatcher e at ws h =
     (part _ _ (at + flight-in e) (at + marks-in e) ws (omega arith) (width-upto held-codec e width-held)
     ∙ ap (λ (t : Bool). t && canonical (upto mark-codec e) (drop (at + marks-in e) ws))
     (check-list plain-held e (at + flight-in e) (at + held-in e 0) ws (omega arith) (omega arith))))))
-
--- ---- the body
-
--- the tables, and the words reserved at the end
-pub check-body : (e : ℕ) (ws : List ℕ)
-    → canonical (body-codec e) (drop 16 ws)
-    ≡ canonical (upto consumer-codec 32) (drop 16 ws)
-    && (canonical (upto (topic-codec e) 8) (drop topic-count-at ws)
-    && (canonical (upto (dispatcher-codec e) 8) (drop (dispatcher-count-at e) ws)
-    && blank (333 + 24 * e) (drop (reserved-at e) ws)))
-unfolding body-codec
-check-body e ws =
-    canonical-via (as-body e) (drop 16 ws) refl
-    ∙ part _ _ 16 topic-count-at ws refl width-consumers
-    ∙ ap (λ (t : Bool). canonical (upto consumer-codec 32) (drop 16 ws) && t)
-    (part _ _ topic-count-at (dispatcher-count-at e) ws (omega arith) (width-topics e)
-    ∙ ap (λ (t : Bool). canonical (upto (topic-codec e) 8) (drop topic-count-at ws) && t)
-    (part _ _ (dispatcher-count-at e) (reserved-at e) ws (omega arith) (width-dispatchers e)
-    ∙ ap (λ (t : Bool). canonical (upto (dispatcher-codec e) 8) (drop (dispatcher-count-at e) ws) && t)
-    (canonical-zeros (333 + 24 * e) (drop (reserved-at e) ws))))

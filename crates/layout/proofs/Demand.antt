@@ -76,7 +76,7 @@ told-same b s (Close i) list v = told-other b (Close i) (λ l k. refl) list (rul
 told-same b s (Push room) list v =
     let all = push-pending s in
     told-push b room list (all .dispatched) (all .state) (omega (arith, few-due s v))
-    (λ x m. let top = records-ranged s v x m .permits-to in omega (arith, top))
+    (λ x m. let top = records-ranged s (v .tables) x m .permits-to in omega (arith, top))
     (leb (length (all .dispatched)) room) (numbered s (Push room))
 
 -- ---- one call

@@ -12,8 +12,7 @@ use Rattle.rules.specs.Push.Turn.{halt, sent}
 use Rattle.rules.specs.Valid.{Valid, Valid-topic}
 use Rattle.rules.proofs.Kept.Frame.{consumer-valid, dispatcher-cases, found-valid}
 use Rattle.rules.proofs.Kept.Turns.{turns-keep}
-use Rattle.rules.proofs.Kept.Shared.{shared-turn-keeps}
-use Rattle.rules.proofs.Kept.Plain.{plain-turn-keeps}
+use Rattle.rules.proofs.Kept.{shared-turn-valid, plain-turn-valid}
 use Rattle.layout.specs.Whole.{Shaped-topic}
 use Rattle.layout.proofs.Valid.{all-valid, ledger-fits, dispatcher-shaped}
 
@@ -46,14 +45,14 @@ each-few P serve kept few (k ∷ ks) s h =
 module _ (s : State) (v : Valid s) where
   -- every ledger fits E
   short-ledger : (n : ℕ) → length (ledger-of s n) ≤ s .entries
-  short-ledger n = ledger-fits s n (all-valid {P = Valid-topic (s .entries)} (λ a h. h .at-most-E) (s .topics) (v .each-topic))
+  short-ledger n = ledger-fits s n (all-valid {P = Valid-topic (s .entries)} (λ a h. h .at-most-E) (s .topics) (v .tables .each-topic))
 
   -- and so does every queue
   short-queue : (p : Pair) → length (dispatcher s p .redelivery) ≤ s .entries
   unfolding new-dispatcher
   short-queue p =
       dispatcher-cases (λ (d : Dispatcher). length (d .redelivery) ≤ s .entries) s p (λ e. omega arith)
-      (λ d e. dispatcher-shaped s (all-valid {P = Valid-topic (s .entries)} {Q = Shaped-topic (s .entries)} (λ a h. h .at-most-E) (s .topics) (v .each-topic)) d (found-valid s p d v e) .queue-fits)
+      (λ d e. dispatcher-shaped s (all-valid {P = Valid-topic (s .entries)} {Q = Shaped-topic (s .entries)} (λ a h. h .at-most-E) (s .topics) (v .tables .each-topic)) d (found-valid s p d (v .tables) e) .queue-fits)
 
   -- a dispatcher served
   few-shared : (p : Pair) → length (serve-dispatcher s p .dispatched) ≤ 8193
@@ -66,7 +65,7 @@ module _ (s : State) (v : Valid s) where
   few-backlog : (i : ℕ) (o : Option Consumer) → consumer-of s i ≡ o → plain-backlog s o ≤ 4160
   unfolding plain-backlog
   few-backlog i none e = omega arith
-  few-backlog i (some c) e = omega (arith, consumer-valid s i c v e .nacked-count, short-ledger (c .pair .topic), v .E-to)
+  few-backlog i (some c) e = omega (arith, consumer-valid s i c (v .tables) e .nacked-count, short-ledger (c .pair .topic), v .E-to)
 
   -- a plain consumer served
   few-plain : (i : ℕ) → length (serve-plain s i .dispatched) ≤ 8193
@@ -77,12 +76,12 @@ module _ (s : State) (v : Valid s) where
 -- serving a dispatcher keeps a state valid
 shared-kept : (t : State) (p : Pair) → Valid t → Valid (serve-dispatcher t p .state)
 unfolding serve-dispatcher
-shared-kept t p v = turns-keep _ (shared-turn p) t (shared-turn-keeps p) v .state-keeps
+shared-kept t p v = turns-keep _ (shared-turn p) t (shared-turn-valid p) v .state-keeps
 
 -- and so does serving a plain consumer
 plain-kept : (t : State) (i : ℕ) → Valid t → Valid (serve-plain t i .state)
 unfolding serve-plain
-plain-kept t i v = turns-keep _ (plain-turn i) t (plain-turn-keeps i) v .state-keeps
+plain-kept t i v = turns-keep _ (plain-turn i) t (plain-turn-valid i) v .state-keeps
 
 -- some served, each keeping a state valid
 each-kept : {K : Type 0} (serve : State → K → Pushed) → ((t : State) (k : K) → Valid t → Valid (serve t k .state)) → (ks : List K) (s : State)
@@ -101,4 +100,4 @@ few-due s v =
     let rest : Pushed = serve-each serve-plain ids (first .state) in
     let a = each-few Valid serve-dispatcher shared-kept (λ t p h. few-shared t h p) pairs s v in
     let b = each-few Valid serve-plain plain-kept (λ t i h. few-plain t h i) ids (first .state) (each-kept serve-dispatcher shared-kept pairs s v) in
-    omega (arith, length-append (first .dispatched) (rest .dispatched), length-map (s .dispatchers) (λ (d : Dispatcher). d .pair), length-map (s .consumers) (λ (c : Consumer). c .id), v .dispatcher-count, v .consumer-count)
+    omega (arith, length-append (first .dispatched) (rest .dispatched), length-map (s .dispatchers) (λ (d : Dispatcher). d .pair), length-map (s .consumers) (λ (c : Consumer). c .id), v .tables .dispatcher-count, v .tables .consumer-count)

@@ -8,19 +8,19 @@ use native.Mathlib.Omega.{arith}
 use lib.ListN.{length, getD, set}
 use Rattle.words.specs.Codec.{word, pair, bit}
 use Rattle.words.specs.Field.{Reads}
-use Rattle.words.proofs.Width.{width-word, width-flag, width-tag}
 use Rattle.words.proofs.Each.{all-getD}
-use Rattle.words.proofs.Field.{reads-flag, reads-left, reads-right, reads-via}
+use Rattle.words.proofs.Field.{reads-left, reads-via}
 use Rattle.words.proofs.Lists.{reads-count}
 use Rattle.words.proofs.Entries.{reads-entry}
 use Rattle.rules.specs.State.{Consumer}
 use Rattle.rules.specs.Ledger.{no-message}
 use Rattle.layout.specs.Records.{message-codec, flag-of, consumer-codec, topic-codec, dispatcher-codec}
-use Rattle.layout.specs.Layout.{layout-tag, as-header, header-codec, decode}
+use Rattle.layout.specs.Layout.{header-codec, header-of, decode}
 use Rattle.layout.specs.Whole.{as-state, state-codec, Shaped-topic, Shaped-consumer}
 use Rattle.layout.specs.Canon.{Canon-store}
 use Rattle.layout.specs.Offsets.{consumer-count-at, consumer-at, topic-count-at, topic-at, message-in, dispatcher-count-at}
 use Rattle.layout.specs.Fields.{zero-consumer, zero-topic, set-consumer, set-topic, with-messages, consumer-now, topic-now}
+use Rattle.layout.proofs.Header.{reads-leak, reads-noop}
 use Rattle.layout.proofs.Store.{canon-entries}
 use Rattle.layout.proofs.Part.{Part, part-in, reads-part, reads-one}
 use Rattle.layout.proofs.Parts.{ledger-part, entry-part, message-id-part, handle-part, batch-part, topic-part, subscription-part, reads-kind, id-part, consumer-pair-part, kind-part, permits-part, consumer-cursor-part, nacked-part, number-part, messages-part, message-part}
@@ -29,28 +29,18 @@ use Rattle.layout.proofs.Spot.{Spot, spot-in, state-reads, looks, reads
 module _ {e : ℕ} {ws : List ℕ} (h : Canon-store e ws) where
   -- ---- the header
 
+  -- a word of it
+  pub read-header : {off v : ℕ} → Reads header-codec (header-of (decode ws)) off v → getD ws off 0 ≡ v
+  unfolding state-codec
+  read-header r = state-reads h (reads-via (as-state e) (reads-left _ _ r))
+
   -- the leak switch
   pub read-leak : getD ws 2 0 ≡ bit (decode ws .leak-shared-permits-on-churn)
-  unfolding state-codec header-codec
-  read-leak =
-      state-reads h
-      (reads-via (as-state e)
-      (reads-left _ _
-      (reads-via as-header
-      (reads-right _ _ (width-tag layout-tag)
-      (reads-right _ _ width-word (reads-left _ _ (reads-flag (decode ws .leak-shared-permits-on-churn))))))))
+  read-leak = read-header (reads-leak (header-of (decode ws)))
 
   -- the no-op switch
   pub read-noop : getD ws 3 0 ≡ bit (decode ws .live-id-subscribe-is-noop)
-  unfolding state-codec header-codec
-  read-noop =
-      state-reads h
-      (reads-via (as-state e)
-      (reads-left _ _
-      (reads-via as-header
-      (reads-right _ _ (width-tag layout-tag)
-      (reads-right _ _ width-word
-      (reads-right _ _ width-flag (reads-left _ _ (reads-flag (decode ws .live-id-subscribe-is-noop)))))))))
+  read-noop = read-header (reads-noop (header-of (decode ws)))
 
   -- ---- the counts of the tables
 

@@ -2,8 +2,11 @@ pub mod Widths
 pub mod Shaped
 pub mod Pigeons
 pub mod Valid
-pub mod Store
+pub mod Fine
 pub mod Check
+pub mod Header
+pub mod Body
+pub mod Store
 pub mod Spells
 pub mod Narrow
 pub mod Tables

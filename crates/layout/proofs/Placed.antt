@@ -17,6 +17,7 @@ use Rattle.layout.specs.Canon.{Canon-store}
 use Rattle.layout.specs.Placed.{Consumer-in, Topic-in, Dispatcher-in}
 use Rattle.layout.specs.Offsets.{topic-at, dispatcher-count-at, dispatcher-at, reserved-at}
 use Rattle.layout.specs.Fields.{set-consumer, set-topic, set-dispatcher, for-pair}
+use Rattle.layout.proofs.Body.{shaped-tables}
 use Rattle.layout.proofs.Gets.{nacked-short, messages-short}
 use Rattle.layout.proofs.GetsDispatcher.{dispatcher-short}
 
@@ -60,46 +61,19 @@ module _ (s : State) (h : Shaped s) where
   pub shaped-consumers : (l : List Consumer) → length l ≤ 32 → All Shaped-consumer l → Shaped (with-consumers s l)
   unfolding with-consumers
   shaped-consumers l k a =
-      record {
-        E-least = h .E-least;
-        E-most = h .E-most;
-        consumers-fit = k;
-        topics-fit = h .topics-fit;
-        dispatchers-fit = h .dispatchers-fit;
-        each-consumer = a;
-        each-topic = h .each-topic;
-        each-dispatcher = h .each-dispatcher;
-      }
+      shaped-tables s h (s .topics) l (s .dispatchers) (h .topics-fit) k (h .dispatchers-fit) (h .each-topic) a (h .each-dispatcher)
 
   -- other topics
   pub shaped-topics : (l : List Topic) → length l ≤ 8 → All (Shaped-topic (s .entries)) l → Shaped (with-topics s l)
   unfolding with-topics
   shaped-topics l k a =
-      record {
-        E-least = h .E-least;
-        E-most = h .E-most;
-        consumers-fit = h .consumers-fit;
-        topics-fit = k;
-        dispatchers-fit = h .dispatchers-fit;
-        each-consumer = h .each-consumer;
-        each-topic = a;
-        each-dispatcher = h .each-dispatcher;
-      }
+      shaped-tables s h l (s .consumers) (s .dispatchers) k (h .consumers-fit) (h .dispatchers-fit) a (h .each-consumer) (h .each-dispatcher)
 
   -- other dispatchers
   pub shaped-dispatchers : (l : List Dispatcher) → length l ≤ 8 → All (Shaped-dispatcher (s .entries)) l → Shaped (with-dispatchers s l)
   unfolding with-dispatchers
   shaped-dispatchers l k a =
-      record {
-        E-least = h .E-least;
-        E-most = h .E-most;
-        consumers-fit = h .consumers-fit;
-        topics-fit = h .topics-fit;
-        dispatchers-fit = k;
-        each-consumer = h .each-consumer;
-        each-topic = h .each-topic;
-        each-dispatcher = a;
-      }
+      shaped-tables s h (s .topics) (s .consumers) l (h .topics-fit) (h .consumers-fit) k (h .each-topic) (h .each-consumer) a
 
   -- ---- with one record changed
 

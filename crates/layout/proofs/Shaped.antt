@@ -1,14 +1,14 @@
--- `Shaped` and the codecs' own `Ok` are the same, so whatever words decode to is shaped.
+-- `Shaped` and the codecs' own `Ok` are the same for each record of a state, and E as it is decoded lies in its range.
 use mathlib.Core.Path.{_≡_}
 use mathlib.Core.List.{List, [], _∷_}
 use Prim.Native.Nat.{ℕ, _≤_}
 use native.Mathlib.Omega.{arith}
-use lib.ListN.{length, drop}
-use Rattle.words.specs.Codec.{Codec, word, zeros, flag, tag, pair, via, upto, asFlag, asTag, All, Fits}
-use Rattle.rules.specs.State.{Id, StoredMessage, Topic, Consumer, Mark, Held, Dispatcher, State}
+use lib.ListN.{length}
+use Rattle.words.specs.Codec.{Codec, word, zeros, flag, pair, via, upto, asFlag, All, Fits}
+use Rattle.rules.specs.State.{Id, StoredMessage, Topic, Consumer, Mark, Held, Dispatcher}
 use Rattle.layout.specs.Records.{id-codec, message-codec, bits-codec, mark-codec, held-codec, pair-codec, kind-codec, consumer-codec, topic-codec, dispatcher-codec}
-use Rattle.layout.specs.Layout.{header-codec, body-codec, header-of, body-of, clamp, entries-in, decode}
-use Rattle.layout.specs.Whole.{state-codec, Shaped-topic, Shaped-consumer, Shaped-dispatcher, Shaped}
+use Rattle.layout.specs.Layout.{clamp}
+use Rattle.layout.specs.Whole.{Shaped-topic, Shaped-consumer, Shaped-dispatcher}
 
 -- what holds of each element holds in another form
 pub all-as : {A : Type 0} {P Q : A → Type 0} → ((a : A) → P a → Q a) → (l : List A) → All P l → All Q l
@@ -103,46 +103,7 @@ dispatcher-ok e d ok =
       marks-fit = ok .1 .1 .1 .1 .1 .1 .1 .short;
     }
 
--- ---- the whole
-
--- the header of any state is Ok
-pub ok-header : (s : State) → header-codec .Ok (header-of s)
-unfolding header-codec via pair tag asTag word flag asFlag zeros
-ok-header s = (tt, (tt, (tt, (tt, tt))))
-
--- the body of a shaped state is Ok
-pub ok-body : (s : State) → Shaped s → body-codec (s .entries) .Ok (body-of s)
-unfolding body-codec via pair upto zeros
-ok-body s h = (
-  record { short = h .consumers-fit; each = all-as ok-consumer (s .consumers) (h .each-consumer) },
-  (
-    record { short = h .topics-fit; each = all-as (ok-topic (s .entries)) (s .topics) (h .each-topic) },
-    (
-      record { short = h .dispatchers-fit; each = all-as (ok-dispatcher (s .entries)) (s .dispatchers) (h .each-dispatcher) },
-      tt,
-    ),
-  ),
-)
-
--- and the other way round
-pub body-ok : (s : State) → 1 ≤ s .entries → s .entries ≤ 4096 → body-codec (s .entries) .Ok (body-of s) → Shaped s
-unfolding body-codec via pair upto zeros
-body-ok s l m ok =
-    record {
-      E-least = l;
-      E-most = m;
-      consumers-fit = ok .0 .short;
-      topics-fit = ok .1 .0 .short;
-      dispatchers-fit = ok .1 .1 .0 .short;
-      each-consumer = all-as consumer-ok (s .consumers) (ok .0 .each);
-      each-topic = all-as (topic-ok (s .entries)) (s .topics) (ok .1 .0 .each);
-      each-dispatcher = all-as (dispatcher-ok (s .entries)) (s .dispatchers) (ok .1 .1 .0 .each);
-    }
-
--- a shaped state is Ok for the codec of its E
-pub ok-state : (s : State) → Shaped s → state-codec (s .entries) .Ok s
-unfolding state-codec via pair
-ok-state s h = (ok-header s, ok-body s h)
+-- ---- E
 
 -- E as words say it is in its range
 pub clamp-from : (n : ℕ) → 1 ≤ clamp n
@@ -158,10 +119,3 @@ clamp-to n = omega arith
 pub clamp-in : (n : ℕ) → 1 ≤ n → n ≤ 4096 → clamp n ≡ n
 unfolding clamp
 clamp-in n h k = omega arith
-
--- whatever words decode to is shaped
-pub shaped-decode : (ws : List ℕ) → Shaped (decode ws)
-unfolding decode entries-in
-shaped-decode ws =
-    let n : ℕ = header-codec .dec ws .entries in
-    body-ok (decode ws) (clamp-from n) (clamp-to n) (body-codec (clamp n) .sound (drop 16 ws))

@@ -1,6 +1,6 @@
 -- `spells` by parts, as a check of a store makes its tests: the header's words, the length that E needs, the body spelt as
 -- it should be, and the state valid.
-use mathlib.Core.Path.{_≡_, refl, sym, ap₂, _∙_, subst}
+use mathlib.Core.Path.{_≡_, refl, sym, _∙_, subst}
 use mathlib.Core.Bool.{Bool, true, false, _&&_}
 use mathlib.Core.List.{List}
 use Prim.Native.Nat.{ℕ, _≤_}
@@ -9,18 +9,16 @@ use lib.Dec.{eqb, leb}
 use lib.ListN.{length, getD, drop}
 use Rattle.words.specs.Words.{blank}
 use Rattle.words.specs.Store.{Canon, canonical}
-use Rattle.words.proofs.Width.{width-flag, width-tag}
-use Rattle.words.proofs.Check.{canonical-true, canon-true, canonical-tag, canonical-flag, canonical-zeros, canonical-via}
+use Rattle.words.proofs.Check.{canonical-true, canon-true}
 use Rattle.rules.specs.Valid.{valid}
 use Rattle.rules.specs.Calls.{needed}
 use Rattle.rules.proofs.Says.{Says, says-as, says-leb, says-eqb, says-true, says-and}
-use Rattle.layout.specs.Layout.{as-header, header-codec, layout-tag, body-codec, decode, spells}
+use Rattle.layout.specs.Layout.{header-codec, layout-tag, body-codec, decode, spells}
 use Rattle.layout.specs.Canon.{Canon-store}
 use Rattle.layout.specs.Check.{header-right}
-use Rattle.layout.proofs.Widths.{width-header}
-use Rattle.layout.proofs.Shaped.{shaped-decode}
-use Rattle.layout.proofs.Store.{entries-in-range, spells-canon, spells-valid, canon-spells}
-use Rattle.layout.proofs.Check.{plain-word, part, skip}
+use Rattle.layout.specs.Offsets.{header-reserved-at, header-reserved}
+use Rattle.layout.proofs.Header.{width-header, check-header}
+use Rattle.layout.proofs.Store.{shaped-decode, entries-in-range, spells-canon, spells-valid, canon-spells}
 
 -- two tests that say the same are the same
 pub same-test : {x y : Bool} {P : Type 0} → Says x P → Says y P → x ≡ y
@@ -28,28 +26,13 @@ same-test {x = true} s r = sym (r .given (s .gives refl))
 same-test {x = false} {y = true} s r = s .given (r .gives refl)
 same-test {x = false} {y = false} s r = refl
 
--- the header's words
-pub check-header : (ws : List ℕ) → 16 ≤ length ws
-    → canonical header-codec ws
-    ≡ eqb (getD ws 0 0) layout-tag && (leb (getD ws 2 0) 1 && (leb (getD ws 3 0) 1 && blank 12 (drop 4 ws)))
-unfolding header-codec
-check-header ws h =
-    canonical-via as-header ws refl
-    ∙ part _ _ 0 1 ws refl (width-tag layout-tag)
-    ∙ ap₂ _&&_ (canonical-tag layout-tag 0 ws (omega arith))
-    (skip _ 1 2 ws refl plain-word (omega arith)
-    ∙ part _ _ 2 3 ws refl width-flag
-    ∙ ap₂ _&&_ (canonical-flag 2 ws (omega arith))
-    (part _ _ 3 4 ws refl width-flag
-    ∙ ap₂ _&&_ (canonical-flag 3 ws (omega arith)) (canonical-zeros 12 (drop 4 ws))))
-
 -- the header's words that only one value spells
 says-words : (ws : List ℕ)
-    → Says (eqb (getD ws 0 0) layout-tag && (leb (getD ws 2 0) 1 && (leb (getD ws 3 0) 1 && blank 12 (drop 4 ws))))
-    ((getD ws 0 0 ≡ layout-tag) × ((getD ws 2 0 ≤ 1) × ((getD ws 3 0 ≤ 1) × (blank 12 (drop 4 ws) ≡ true))))
+    → Says (eqb (getD ws 0 0) layout-tag && (leb (getD ws 2 0) 1 && (leb (getD ws 3 0) 1 && blank header-reserved (drop header-reserved-at ws))))
+    ((getD ws 0 0 ≡ layout-tag) × ((getD ws 2 0 ≤ 1) × ((getD ws 3 0 ≤ 1) × (blank header-reserved (drop header-reserved-at ws) ≡ true))))
 says-words ws =
     says-and _ _ (says-eqb (getD ws 0 0) layout-tag)
-    (says-and _ _ (says-leb (getD ws 2 0) 1) (says-and _ _ (says-leb (getD ws 3 0) 1) (says-true (blank 12 (drop 4 ws)))))
+    (says-and _ _ (says-leb (getD ws 2 0) 1) (says-and _ _ (says-leb (getD ws 3 0) 1) (says-true (blank header-reserved (drop header-reserved-at ws)))))
 
 -- what the tests of the header say
 pub says-header : (ws : List ℕ) → Says (header-right ws) (Canon header-codec ws × (1 ≤ getD ws 1 0) × (getD ws 1 0 ≤ 4096))
@@ -65,7 +48,7 @@ says-header ws =
     ))
     (λ v.
     let l : 16 ≤ length ws = subst (λ (n : ℕ). n ≤ length ws) width-header (v .0 .long) in
-    let g : (getD ws 0 0 ≡ layout-tag) × ((getD ws 2 0 ≤ 1) × ((getD ws 3 0 ≤ 1) × (blank 12 (drop 4 ws) ≡ true))) =
+    let g : (getD ws 0 0 ≡ layout-tag) × ((getD ws 2 0 ≤ 1) × ((getD ws 3 0 ≤ 1) × (blank header-reserved (drop header-reserved-at ws) ≡ true))) =
     says-words ws .gives (sym (check-header ws l) ∙ canon-true header-codec (v .0)) in
     ((((((l, g .0), v .1), v .2), g .1 .0), g .1 .1 .0), g .1 .1 .1))
     (says-and _ _
@@ -76,7 +59,7 @@ says-header ws =
     (says-leb (getD ws 1 0) 4096))
     (says-leb (getD ws 2 0) 1))
     (says-leb (getD ws 3 0) 1))
-    (says-true (blank 12 (drop 4 ws))))
+    (says-true (blank header-reserved (drop header-reserved-at ws))))
 
 -- a store as it should be, from its parts
 pub canon-parts : (ws : List ℕ) → 1 ≤ getD ws 1 0 → getD ws 1 0 ≤ 4096 → needed (getD ws 1 0) ≤ length ws

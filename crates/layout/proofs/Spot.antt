@@ -17,7 +17,8 @@ use Rattle.layout.specs.Whole.{as-state, state-codec, Shaped}
 use Rattle.layout.specs.Canon.{Canon-store}
 use Rattle.layout.specs.Offsets.{consumer-at, topic-count-at, topic-at, dispatcher-count-at, dispatcher-at}
 use Rattle.layout.specs.Fields.{zero-consumer, zero-topic, zero-dispatcher, consumer-nth, topic-nth, dispatcher-nth, set-consumer, set-topic, set-dispatcher}
-use Rattle.layout.proofs.Widths.{width-header, width-consumer, width-topic, width-dispatcher, width-consumers, width-topics}
+use Rattle.layout.proofs.Header.{width-header}
+use Rattle.layout.proofs.Widths.{width-consumer, width-topic, width-dispatcher, width-consumers, width-topics}
 use Rattle.layout.proofs.Store.{canon-state, decode-canon, canon-entries, put-as, put-put, decode-put}
 use Rattle.layout.proofs.Part.{Part, part-at, part-in, reads-part, writes-first, reads-one, writes-one, first, beyond, by-change, nth}
 

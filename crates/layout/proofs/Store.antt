@@ -13,6 +13,7 @@ use Rattle.words.specs.Words.{starts}
 use Rattle.words.specs.Codec.{word, pair, via, tag}
 use Rattle.words.specs.Store as words
 use Rattle.words.specs.Store.{Canon}
+use Rattle.words.proofs.Width.{width-pair, width-via}
 use Rattle.words.proofs.Store.{put-dec, canon-enc}
 use Rattle.words.proofs.Check.{starts-self, starts-true, and-left, and-right}
 use Rattle.words.proofs.Canon.{canon-pair, canon-via}
@@ -22,9 +23,37 @@ use Rattle.rules.specs.Calls.{needed}
 use Rattle.layout.specs.Layout.{header-codec, body-codec, header-of, body-of, state-of, Header, clamp, entries-in, encode, decode, spells, put}
 use Rattle.layout.specs.Whole.{as-state, state-codec, Shaped}
 use Rattle.layout.specs.Canon.{Canon-store}
-use Rattle.layout.proofs.Widths.{width-header, width-state, encode-is, length-encode}
-use Rattle.layout.proofs.Shaped.{ok-header, ok-body, ok-state, clamp-in, shaped-decode}
-use Rattle.layout.proofs.Valid.{valid-shaped}
+use Rattle.layout.proofs.Shaped.{clamp-from, clamp-to, clamp-in}
+use Rattle.layout.proofs.Header.{width-header, ok-header}
+use Rattle.layout.proofs.Body.{width-body, ok-body, body-ok, valid-shaped}
+
+-- ---- the codec of states
+
+-- the whole state: as many words as are needed
+pub width-state : (e : ℕ) → state-codec e .width ≡ needed e
+unfolding state-codec needed
+width-state e = width-via (as-state e) (width-pair _ _ width-header (width-body e)) ∙ omega arith
+
+-- a state's spelling is that of the codec of its E
+pub encode-is : (s : State) → encode s ≡ state-codec (s .entries) .enc s
+unfolding encode state-codec via pair
+encode-is s = refl
+
+-- a spelling has the words that are needed
+pub length-encode : (s : State) → length (encode s) ≡ needed (s .entries)
+length-encode s = ap length (encode-is s) ∙ state-codec (s .entries) .len s ∙ width-state (s .entries)
+
+-- a shaped state is Ok for the codec of its E
+pub ok-state : (s : State) → Shaped s → state-codec (s .entries) .Ok s
+unfolding state-codec via pair
+ok-state s h = (ok-header s, ok-body s h)
+
+-- whatever words decode to is shaped
+pub shaped-decode : (ws : List ℕ) → Shaped (decode ws)
+unfolding decode entries-in
+shaped-decode ws =
+    let n : ℕ = header-codec .dec ws .entries in
+    body-ok (decode ws) (clamp-from n) (clamp-to n) (body-codec (clamp n) .sound (drop 16 ws))
 
 -- ---- E
 

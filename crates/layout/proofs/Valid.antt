@@ -1,5 +1,5 @@
--- A valid state is shaped: every list fits its slots. The queue and what is in flight fit because their positions are
--- distinct and below the cursor.
+-- The dispatchers of a valid state are shaped: the queue and what is in flight fit because their positions are distinct
+-- and below the cursor.
 use mathlib.Core.Path.{_≡_, ap, _∙_}
 use mathlib.Core.Bool.{Bool, true, false, cond}
 use mathlib.Core.List.{List, [], _∷_, _++_, map}
@@ -11,10 +11,9 @@ use lib.ListN.{length, length-append, length-map}
 use Rattle.words.specs.Codec.{All}
 use Rattle.rules.specs.Table.{Every, find, or-else}
 use Rattle.rules.specs.State.{Topic, by-number, topic-of, ledger-of, Held, Dispatcher, State}
-use Rattle.rules.specs.Valid.{valid, Valid, Valid-topic, Valid-consumer, Valid-dispatcher}
+use Rattle.rules.specs.Valid.{Valid-dispatcher}
 use Rattle.rules.proofs.Says.{every-head, every-tail}
-use Rattle.rules.proofs.Valid.{says-valid}
-use Rattle.layout.specs.Whole.{Shaped-topic, Shaped-consumer, Shaped-dispatcher, Shaped}
+use Rattle.layout.specs.Whole.{Shaped-topic, Shaped-dispatcher}
 use Rattle.layout.proofs.Pigeons.{distinct-below}
 
 -- what holds of every element, element by element
@@ -62,20 +61,3 @@ dispatcher-shaped s t d v =
 -- each element, seen by what is valid of it
 pub all-valid : {A : Type 0} {P Q : A → Type 0} → ((a : A) → P a → Q a) → (l : List A) → Every P l → All Q l
 all-valid {Q = Q} f l h = every-all {P = Q} l (λ a m. f a (h a m))
-
--- a valid state is shaped
-pub valid-shaped : (s : State) → valid s ≡ true → Shaped s
-valid-shaped s e =
-    let v : Valid s = says-valid s .gives e in
-    let t : All (Shaped-topic (s .entries)) (s .topics) =
-    all-valid {P = Valid-topic (s .entries)} (λ a h. h .at-most-E) (s .topics) (v .each-topic) in
-    record {
-      E-least = v .E-from;
-      E-most = v .E-to;
-      consumers-fit = v .consumer-count;
-      topics-fit = v .topic-count;
-      dispatchers-fit = v .dispatcher-count;
-      each-consumer = all-valid {P = Valid-consumer s} {Q = Shaped-consumer} (λ a h. h .nacked-count) (s .consumers) (v .each-consumer);
-      each-topic = t;
-      each-dispatcher = all-valid (dispatcher-shaped s t) (s .dispatchers) (v .each-dispatcher);
-    }

@@ -1,15 +1,10 @@
 -- How many words each part of the layout takes.
-use mathlib.Core.Path.{_≡_, refl, ap, _∙_}
+use mathlib.Core.Path.{_≡_, _∙_}
 use Prim.Native.Nat.{ℕ, _+_, _*_}
 use native.Mathlib.Omega.{arith}
-use lib.ListN.{length}
 use Rattle.words.specs.Codec.{word, pair, via, upto}
-use Rattle.words.proofs.Width.{width-word, width-flag, width-tag, width-zeros, width-pair, width-via, width-upto}
-use Rattle.rules.specs.State.{State}
-use Rattle.rules.specs.Calls.{needed}
+use Rattle.words.proofs.Width.{width-word, width-flag, width-zeros, width-pair, width-via, width-upto}
 use Rattle.layout.specs.Records.{as-id, id-codec, as-message, message-codec, as-bits, bits-codec, as-mark, mark-codec, as-held, held-codec, as-pair, pair-codec, as-kind, kind-codec, as-consumer, consumer-codec, as-topic, topic-codec, as-dispatcher, dispatcher-codec}
-use Rattle.layout.specs.Layout.{as-header, header-codec, as-body, body-codec, encode, layout-tag}
-use Rattle.layout.specs.Whole.{as-state, state-codec}
 
 -- ---- small records
 
@@ -90,15 +85,7 @@ width-dispatcher e =
     (width-pair _ _ (width-upto held-codec e width-held) (width-upto mark-codec e width-mark))))))))
     ∙ omega arith
 
--- ---- the store
-
--- the header
-pub width-header : header-codec .width ≡ 16
-unfolding header-codec
-width-header =
-    width-via as-header
-    (width-pair _ _ (width-tag layout-tag)
-    (width-pair _ _ width-word (width-pair _ _ width-flag (width-pair _ _ width-flag (width-zeros 12)))))
+-- ---- the tables
 
 -- the table of consumers
 pub width-consumers : upto consumer-codec 32 .width ≡ 2305
@@ -111,26 +98,3 @@ width-topics e = width-upto (topic-codec e) 8 (width-topic e) ∙ omega arith
 -- the table of dispatchers
 pub width-dispatchers : (e : ℕ) → upto (dispatcher-codec e) 8 .width ≡ 1409 + 72 * e
 width-dispatchers e = width-upto (dispatcher-codec e) 8 (width-dispatcher e) ∙ omega arith
-
--- the body
-pub width-body : (e : ℕ) → body-codec e .width ≡ 4080 + 128 * e
-unfolding body-codec
-width-body e =
-    width-via (as-body e)
-    (width-pair _ _ width-consumers
-    (width-pair _ _ (width-topics e) (width-pair _ _ (width-dispatchers e) (width-zeros (333 + 24 * e)))))
-    ∙ omega arith
-
--- the whole state: as many words as are needed
-pub width-state : (e : ℕ) → state-codec e .width ≡ needed e
-unfolding state-codec needed
-width-state e = width-via (as-state e) (width-pair _ _ width-header (width-body e)) ∙ omega arith
-
--- a state's spelling is that of the codec of its E
-pub encode-is : (s : State) → encode s ≡ state-codec (s .entries) .enc s
-unfolding encode state-codec via pair
-encode-is s = refl
-
--- a spelling has the words that are needed
-pub length-encode : (s : State) → length (encode s) ≡ needed (s .entries)
-length-encode s = ap length (encode-is s) ∙ state-codec (s .entries) .len s ∙ width-state (s .entries)

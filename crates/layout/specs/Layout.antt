@@ -9,10 +9,11 @@ use lib.Dec.{leb}
 use lib.ListN.{length, drop}
 use Rattle.words.specs.Words.{starts}
 use Rattle.words.specs.Codec.{Codec, Change, word, zeros, pair, via, flag, tag, upto}
-use Rattle.rules.specs.State.{Topic, Consumer, Dispatcher, State}
+use Rattle.rules.specs.State.{Topic, Consumer, Dispatcher, State, state-with}
 use Rattle.rules.specs.Valid.{valid}
 use Rattle.rules.specs.Calls.{needed}
 use Rattle.layout.specs.Records.{consumer-codec, topic-codec, dispatcher-codec}
+use Rattle.layout.specs.Offsets.{header-reserved, reserved}
 
 -- what word 0 of every store of this layout is
 abbrev pub layout-tag : ℕ
@@ -24,8 +25,8 @@ pub record Header : Type 0 where
   pub leak : Bool
   pub noop : Bool
 
--- the header, 16 words: the tag, E, the leak switch, the no-op switch, twelve words reserved
-abbrev pub as-header : Change (pair (tag layout-tag) (pair word (pair flag (pair flag (zeros 12))))) Header
+-- the header, 16 words: the tag, E, the leak switch, the no-op switch, the rest reserved
+abbrev pub as-header : Change (pair (tag layout-tag) (pair word (pair flag (pair flag (zeros header-reserved))))) Header
 as-header =
     record {
       to = λ t. record { entries = t .1 .0; leak = t .1 .1 .0; noop = t .1 .1 .1 .0 };
@@ -44,9 +45,9 @@ pub record Body : Type 0 where
   pub topics : List Topic
   pub dispatchers : List Dispatcher
 
--- the body, 4,080 + 128 E words: up to 32 consumers, up to 8 topics, up to 8 dispatchers, 333 + 24 E words reserved
+-- the body, 4,080 + 128 E words: up to 32 consumers, up to 8 topics, up to 8 dispatchers, the rest reserved
 abbrev pub as-body : (e : ℕ) → Change (pair (upto consumer-codec 32)
-    (pair (upto (topic-codec e) 8) (pair (upto (dispatcher-codec e) 8) (zeros (333 + 24 * e))))) Body
+    (pair (upto (topic-codec e) 8) (pair (upto (dispatcher-codec e) 8) (zeros (reserved e))))) Body
 as-body e =
     record {
       to = λ t. record { consumers = t .0; topics = t .1 .0; dispatchers = t .1 .1 .0 };
@@ -70,15 +71,7 @@ body-of s = record { consumers = s .consumers; topics = s .topics; dispatchers =
 
 -- a state of E entries with a header's switches and a body
 abbrev pub state-of : ℕ → Header → Body → State
-state-of e h b =
-    record {
-      entries = e;
-      leak-shared-permits-on-churn = h .leak;
-      live-id-subscribe-is-noop = h .noop;
-      topics = b .topics;
-      consumers = b .consumers;
-      dispatchers = b .dispatchers;
-    }
+state-of e h b = state-with e (h .leak) (h .noop) (b .topics) (b .consumers) (b .dispatchers)
 
 -- a word as E: within 1 to 4,096, whatever it is
 unfoldable pub clamp : ℕ → ℕ

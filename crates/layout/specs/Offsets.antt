@@ -2,6 +2,16 @@
 -- word; those ending in `-in` are from the first word of the record that holds them. The same table as docs/STORE.md.
 use Prim.Native.Nat.{ℕ, _+_, _*_}
 
+-- ---- the header
+
+-- the header's reserved words, which reach to its end
+abbrev pub header-reserved-at : ℕ
+header-reserved-at = 4
+
+-- how many they are
+abbrev pub header-reserved : ℕ
+header-reserved = 12
+
 -- ---- the tables
 
 -- the number of consumers
@@ -31,6 +41,10 @@ dispatcher-at e d = 2355 + 32 * e + d * (176 + 9 * e)
 -- the words reserved at the end
 abbrev pub reserved-at : ℕ → ℕ
 reserved-at e = 3763 + 104 * e
+
+-- how many they are
+abbrev pub reserved : ℕ → ℕ
+reserved e = 333 + 24 * e
 
 -- ---- in a consumer
 

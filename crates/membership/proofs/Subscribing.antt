@@ -125,6 +125,6 @@ module _ {e : ℕ} {ws : List ℕ} {id : ℕ} (a : Admitted e ws id) (p : Pair) 
 pub seats : {e : ℕ} {ws : List ℕ} {id : ℕ} → Admitted e ws id → Seats e ws id
 seats {e} {ws} {id} a = record {
   canon = canon-of e ws (a .spelt) (a .E);
-  ascending = valid-now ws (a .spelt) .consumers-ascending;
+  ascending = valid-now ws (a .spelt) .tables .consumers-ascending;
   room = λ m. leb-false 32 (length (decode ws .consumers)) (new-by _ _ (live-none (decode ws) id m) ∙ a .room);
 }

@@ -13,6 +13,7 @@ use Rattle.layout.specs.Layout.{decode, put, spells}
 use Rattle.layout.specs.Canon.{Canon-store}
 use Rattle.layout.specs.Whole.{Shaped, Shaped-dispatcher}
 use Rattle.layout.specs.Fields.{zero-consumer, consumer-nth}
+use Rattle.layout.proofs.Placed.{shaped-dispatchers}
 use Rattle.frame.proofs.Frame.{canon-of, canon-after, decode-after, then-write}
 use Rattle.push.specs.Local.{served}
 use Rattle.push.specs.Applied.{with-each}
@@ -108,19 +109,11 @@ module _ {e : ℕ} (ws : List ℕ) (spelt : spells ws ≡ true) (E : e ≡ decod
   T = with-dispatchers s (served-rows s)
 
   shaped : Shaped T
-  unfolding with-dispatchers
   shaped =
       let h = canon-of e ws spelt E .shaped in
-      record {
-        E-least = h .E-least;
-        E-most = h .E-most;
-        consumers-fit = h .consumers-fit;
-        topics-fit = h .topics-fit;
-        dispatchers-fit = rw (length-map (services s (s .dispatchers) (permits-now s)) (served-dispatcher s), length-services s (s .dispatchers) (permits-now s)) (h .dispatchers-fit);
-        each-consumer = h .each-consumer;
-        each-topic = h .each-topic;
-        each-dispatcher = subst (λ (n : ℕ). All (Shaped-dispatcher n) (served-rows s)) E fit;
-      }
+      shaped-dispatchers s h (served-rows s)
+      (rw (length-map (services s (s .dispatchers) (permits-now s)) (served-dispatcher s), length-services s (s .dispatchers) (permits-now s)) (h .dispatchers-fit))
+      (subst (λ (n : ℕ). All (Shaped-dispatcher n) (served-rows s)) E fit)
 
   module _ {us : List ℕ} (a : us ≡ put ws T) where
     state-now : decode us ≡ T

@@ -19,7 +19,7 @@ use Rattle.layout.specs.Canon.{Canon-store}
 use Rattle.layout.specs.Whole.{Shaped, Shaped-dispatcher}
 use Rattle.layout.specs.Fields.{zero-dispatcher, dispatcher-nth, set-dispatcher}
 use Rattle.layout.proofs.Store.{canon-entries, put-decode}
-use Rattle.layout.proofs.Placed.{dispatcher-in}
+use Rattle.layout.proofs.Placed.{dispatcher-in, shaped-dispatchers}
 use Rattle.frame.proofs.Frame.{canon-of, canon-after, decode-after, then-write, valid-now, every-nth}
 use Rattle.push.specs.Local.{Steps, fixed-of, served, turns-of}
 use Rattle.push.specs.Applied.{record-of, held-of}
@@ -108,19 +108,7 @@ module _ {e : ℕ} (ws : List ℕ) (spelt : spells ws ≡ true) (E : e ≡ decod
 
     -- the state fits, and is what the store says
     shaped : Shaped (with-dispatchers s rows)
-    unfolding with-dispatchers
-    shaped =
-        let h = canon .shaped in
-        record {
-          E-least = h .E-least;
-          E-most = h .E-most;
-          consumers-fit = h .consumers-fit;
-          topics-fit = h .topics-fit;
-          dispatchers-fit = rw as-many (h .dispatchers-fit);
-          each-consumer = h .each-consumer;
-          each-topic = h .each-topic;
-          each-dispatcher = w .fit;
-        }
+    shaped = let h = canon .shaped in shaped-dispatchers s h rows (rw as-many (h .dispatchers-fit)) (w .fit)
 
     state-now : decode us ≡ with-dispatchers s rows
     state-now = decode-after ws (with-dispatchers s rows) shaped (w .words)
@@ -159,11 +147,11 @@ module _ {e : ℕ} (ws : List ℕ) (spelt : spells ws ≡ true) (E : e ≡ decod
       unfolding with-dispatchers ledger-of topic-of
       ready-next =
           let v = valid-now ws spelt in
-          let one : Valid-dispatcher s x = every-nth ds d zero-dispatcher (v .each-dispatcher) l in
+          let one : Valid-dispatcher s x = every-nth ds d zero-dispatcher (v .tables .each-dispatcher) l in
           record {
             here = dispatcher-in canon-now d (rw dispatchers-now l);
             dispatcher-valid = rw (next-now, state-now) (move-dispatcher s (with-dispatchers s rows) x refl one);
-            topics-valid = rw state-now (v .each-topic);
+            topics-valid = rw state-now (v .tables .each-topic);
           }
 
       abbrev v : Service

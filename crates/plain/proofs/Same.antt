@@ -27,7 +27,7 @@ readable-by s t c e r =
 pub readable-valid : (s : State) → Valid s → Readable s
 readable-valid s v =
     record {
-      each = λ c m. record { cursor-in = v .each-consumer c m .cursor-in-ledger; nacked-in = v .each-consumer c m .nacked-in-ledger };
+      each = λ c m. record { cursor-in = v .tables .each-consumer c m .cursor-in-ledger; nacked-in = v .tables .each-consumer c m .nacked-in-ledger };
     }
 
 -- and so is one that words spell

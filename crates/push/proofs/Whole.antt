@@ -47,7 +47,7 @@ shared-part : (s : State) → Valid s
       state = with-tables s (s .topics) (charged-consumers s) (map (served-dispatcher s) (services-of s));
     }
 unfolding charged-consumers services-of permits-now served-state
-shared-part s v = shared-same s (v .consumers-ascending) (v .pairs-distinct)
+shared-part s v = shared-same s (v .tables .consumers-ascending) (v .tables .pairs-distinct)
 
 -- the plain part, on the state that the services leave
 plain-part : (s : State) → Ascending (s .consumers)
@@ -74,4 +74,4 @@ push-same s v =
     let rest : State → Pushed = λ x. serve-each serve-plain (map (λ (c : Consumer). c .id) (s .consumers)) x in
     ap (λ (r : Pushed). record { dispatched = r .dispatched ++ rest (r .state) .dispatched; state = rest (r .state) .state }) (shared-part s v)
     ∙ ap (λ (r : Pushed). record { dispatched = all-service-records s (services-of s) ++ r .dispatched; state = r .state })
-    (plain-part s (v .consumers-ascending))
+    (plain-part s (v .tables .consumers-ascending))

@@ -16,7 +16,7 @@ use Rattle.rules.specs.Table.{all, Every, distinct, Distinct, member, is
 use Rattle.rules.specs.State.{Id, same-id, StoredMessage, Topic, same-pair, Kind, by-kind, Consumer, Mark, Held, Dispatcher, State, new-mark, ledger-of, dispatcher}
 use Rattle.rules.specs.State.Kind.{plain, shared}
 use Rattle.rules.specs.Ledger.{holds-id, no-message, message-at, after-id}
-use Rattle.rules.specs.Valid.{is-byte, is-word, valid-id, Valid-id, valid-message, Valid-message, valid-topic, Valid-topic, ascending, Ascending, valid-consumer, Valid-consumer, valid-mark, Valid-mark, valid-marks, Valid-marks, valid-ring, Valid-ring, valid-places, Valid-places, ascending-ids, Ascending-ids, valid-outside, Valid-outside, valid-dispatcher, Valid-dispatcher, valid, Valid}
+use Rattle.rules.specs.Valid.{is-byte, is-word, valid-id, Valid-id, valid-message, Valid-message, valid-topic, Valid-topic, ascending, Ascending, valid-consumer, Valid-consumer, valid-mark, Valid-mark, valid-marks, Valid-marks, valid-ring, Valid-ring, valid-places, Valid-places, ascending-ids, Ascending-ids, valid-outside, Valid-outside, valid-dispatcher, Valid-dispatcher, sound, Sound, valid, Valid}
 use Rattle.rules.proofs.Says.{Says, says-as, says-leb, says-ltb, says-eqb, says-true, says-not, says-and, says-or, says-all, says-distinct, says-member}
 
 pub says-byte : (n : ℕ) → Says (is-byte n) (n < 256)
@@ -252,16 +252,14 @@ says-dispatcher s d =
     (says-marks (ledger-of s (d .pair .topic)) (d .marks)))
     (says-outside (ledger-of s (d .pair .topic)) (d .outside)))
 
--- the reading of `valid`
-pub says-valid : (s : State) → Says (valid s) (Valid s)
-unfolding valid
-says-valid s =
+-- the reading of `sound`
+pub says-sound : (s : State) → Says (sound s) (Sound s)
+unfolding sound
+says-sound s =
     says-as
     (λ k.
     record {
-      E-from = k .0 .0 .0 .0 .0 .0 .0 .0 .0 .0;
-      E-to = k .0 .0 .0 .0 .0 .0 .0 .0 .0 .1;
-      topic-count = k .0 .0 .0 .0 .0 .0 .0 .0 .1;
+      topic-count = k .0 .0 .0 .0 .0 .0 .0 .0;
       topics-distinct = k .0 .0 .0 .0 .0 .0 .0 .1;
       each-topic = k .0 .0 .0 .0 .0 .0 .1;
       consumer-count = k .0 .0 .0 .0 .0 .1;
@@ -272,7 +270,7 @@ says-valid s =
       each-dispatcher = k .1;
     })
     (λ v.
-    ((((((((((v .E-from, v .E-to), v .topic-count), v .topics-distinct), v .each-topic), v .consumer-count), v .consumers-ascending), v .each-consumer), v .dispatcher-count), v .pairs-distinct), v .each-dispatcher))
+    ((((((((v .topic-count, v .topics-distinct), v .each-topic), v .consumer-count), v .consumers-ascending), v .each-consumer), v .dispatcher-count), v .pairs-distinct), v .each-dispatcher))
     (says-and _ _
     (says-and _ _
     (says-and _ _
@@ -280,9 +278,7 @@ says-valid s =
     (says-and _ _
     (says-and _ _
     (says-and _ _
-    (says-and _ _
-    (says-and _ _ (says-and _ _ (says-leb 1 (s .entries)) (says-leb (s .entries) 4096)) (says-leb (length (s .topics)) 8))
-    (says-distinct eqb (map (λ (t : Topic). t .number) (s .topics))))
+    (says-and _ _ (says-leb (length (s .topics)) 8) (says-distinct eqb (map (λ (t : Topic). t .number) (s .topics))))
     (says-all (says-topic (s .entries)) (s .topics)))
     (says-leb (length (s .consumers)) 32))
     (says-ascending (s .consumers)))
@@ -290,3 +286,12 @@ says-valid s =
     (says-leb (length (s .dispatchers)) 8))
     (says-distinct same-pair (map (λ (d : Dispatcher). d .pair) (s .dispatchers))))
     (says-all (says-dispatcher s) (s .dispatchers)))
+
+-- the reading of `valid`
+pub says-valid : (s : State) → Says (valid s) (Valid s)
+unfolding valid
+says-valid s =
+    says-as
+    (λ k. record { E-from = k .0 .0; E-to = k .0 .1; tables = k .1 })
+    (λ v. ((v .E-from, v .E-to), v .tables))
+    (says-and _ _ (says-and _ _ (says-leb 1 (s .entries)) (says-leb (s .entries) 4096)) (says-sound s))

@@ -5,7 +5,7 @@ use mathlib.Core.List.{List, [], _∷_}
 use lib.Dec.{leb, ltb}
 use lib.ListN.{length}
 use Rattle.rules.specs.Table.{all}
-use Rattle.rules.specs.State.{StoredMessage, Pair, Kind, State}
+use Rattle.rules.specs.State.{StoredMessage, Pair, Kind, State, state-with}
 use Rattle.rules.specs.Valid.{is-byte, is-word, valid-id}
 use Rattle.rules.specs.Outcome.{Value, Outcome, guard}
 use Rattle.rules.specs.Outcome.Outcome.{refused, short, done}
@@ -22,15 +22,7 @@ needed e = 4096 + 128 * e
 
 -- a store just opened: no topic, consumer or dispatcher
 unfoldable pub opened : ℕ → Bool → Bool → State
-opened e leak noop =
-    record {
-      entries = e;
-      leak-shared-permits-on-churn = leak;
-      live-id-subscribe-is-noop = noop;
-      topics = [];
-      consumers = [];
-      dispatchers = [];
-    }
+opened e leak noop = state-with e leak noop [] [] []
 
 -- opening a store of some words: 2 if E is not 1 to 4,096. 3 if the store is too short.
 unfoldable pub opening : ℕ → ℕ → Bool → Bool → Outcome

@@ -99,6 +99,30 @@ pub record State : Type 0 where
   pub consumers : List Consumer
   pub dispatchers : List Dispatcher
 
+-- a state of E entries with its switches and tables
+abbrev pub state-with : ℕ → Bool → Bool → List Topic → List Consumer → List Dispatcher → State
+state-with e leak noop topics consumers dispatchers =
+    record {
+      entries = e;
+      leak-shared-permits-on-churn = leak;
+      live-id-subscribe-is-noop = noop;
+      topics = topics;
+      consumers = consumers;
+      dispatchers = dispatchers;
+    }
+
+-- the same state with other tables
+abbrev pub with-tables : State → List Topic → List Consumer → List Dispatcher → State
+with-tables s topics consumers dispatchers =
+    record {
+      entries = s .entries;
+      leak-shared-permits-on-churn = s .leak-shared-permits-on-churn;
+      live-id-subscribe-is-noop = s .live-id-subscribe-is-noop;
+      topics = topics;
+      consumers = consumers;
+      dispatchers = dispatchers;
+    }
+
 -- ---- nothing yet
 
 -- no stored bits
@@ -173,18 +197,6 @@ dispatcher s p = or-else (dispatcher-of s p) (new-dispatcher p (length (ledger-o
 unfoldable pub insert : Consumer → List Consumer → List Consumer
 insert c [] = c ∷ []
 insert c (d ∷ l) = cond (ltb (c .id) (d .id)) (c ∷ d ∷ l) (cond (eqb (c .id) (d .id)) (c ∷ l) (d ∷ insert c l))
-
--- a state with other tables
-abbrev pub with-tables : State → List Topic → List Consumer → List Dispatcher → State
-with-tables s topics consumers dispatchers =
-    record {
-      entries = s .entries;
-      leak-shared-permits-on-churn = s .leak-shared-permits-on-churn;
-      live-id-subscribe-is-noop = s .live-id-subscribe-is-noop;
-      topics = topics;
-      consumers = consumers;
-      dispatchers = dispatchers;
-    }
 
 -- a state with other topics
 unfoldable pub with-topics : State → List Topic → State

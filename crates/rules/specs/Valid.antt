@@ -185,21 +185,18 @@ pub record Valid-dispatcher (s : State) (d : Dispatcher) : Type 0 where
   pub entry-marks : Valid-marks (ledger-of s (d .pair .topic)) (d .marks)
   pub outside-ids : Valid-outside (ledger-of s (d .pair .topic)) (d .outside)
 
--- "E 1 to 4,096", "at most 8 topics, numbers distinct", "at most 32 live consumers", "at most 8 dispatchers, (topic,
+-- the tables: "at most 8 topics, numbers distinct", "at most 32 live consumers", "at most 8 dispatchers, (topic,
 -- subscription) distinct"
-unfoldable pub valid : State → Bool
-valid s =
-    leb 1 (s .entries) && leb (s .entries) 4096
-    && leb (length (s .topics)) 8 && distinct eqb (map (λ (t : Topic). t .number) (s .topics))
+unfoldable pub sound : State → Bool
+sound s =
+    leb (length (s .topics)) 8 && distinct eqb (map (λ (t : Topic). t .number) (s .topics))
     && all (valid-topic (s .entries)) (s .topics)
     && leb (length (s .consumers)) 32 && ascending (s .consumers) && all (valid-consumer s) (s .consumers)
     && leb (length (s .dispatchers)) 8 && distinct same-pair (map (λ (d : Dispatcher). d .pair) (s .dispatchers))
     && all (valid-dispatcher s) (s .dispatchers)
 
--- what a state obeys: the same as a proposition
-pub record Valid (s : State) : Type 0 where
-  pub E-from : 1 ≤ s .entries
-  pub E-to : s .entries ≤ 4096
+-- the same as a proposition
+pub record Sound (s : State) : Type 0 where
   pub topic-count : length (s .topics) ≤ 8
   pub topics-distinct : Distinct eqb (map (λ (t : Topic). t .number) (s .topics))
   pub each-topic : Every (Valid-topic (s .entries)) (s .topics)
@@ -209,3 +206,13 @@ pub record Valid (s : State) : Type 0 where
   pub dispatcher-count : length (s .dispatchers) ≤ 8
   pub pairs-distinct : Distinct same-pair (map (λ (d : Dispatcher). d .pair) (s .dispatchers))
   pub each-dispatcher : Every (Valid-dispatcher s) (s .dispatchers)
+
+-- "E 1 to 4,096", and the tables
+unfoldable pub valid : State → Bool
+valid s = leb 1 (s .entries) && leb (s .entries) 4096 && sound s
+
+-- what a state obeys: the same as a proposition
+pub record Valid (s : State) : Type 0 where
+  pub E-from : 1 ≤ s .entries
+  pub E-to : s .entries ≤ 4096
+  pub tables : Sound s

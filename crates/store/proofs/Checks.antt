@@ -10,14 +10,14 @@ use borrow.Author.Tests.{le-leb}
 use Rattle.words.specs.Store.{canonical}
 use Rattle.rules.specs.Table.{all, distinct}
 use Rattle.rules.specs.State.{Topic, Dispatcher, State, same-pair}
-use Rattle.rules.specs.Valid.{valid-topic, ascending, valid-consumer, valid-dispatcher, valid}
+use Rattle.rules.specs.Valid.{valid-topic, ascending, valid-consumer, valid-dispatcher, sound, valid}
 use Rattle.rules.specs.Calls.{needed}
 use Rattle.layout.specs.Layout.{body-codec, decode, spells}
 use Rattle.layout.specs.Whole.{Shaped}
 use Rattle.layout.specs.Canon.{Canon-store}
 use Rattle.layout.specs.Check.{header-right}
 use Rattle.layout.proofs.Store.{canon-entries}
-use Rattle.layout.proofs.Widths.{width-header}
+use Rattle.layout.proofs.Header.{width-header}
 use Rattle.layout.proofs.Spells.{says-header, says-canon, spells-parts}
 use Rattle.store.specs.Dispatchers.{dispatchers-right}
 
@@ -39,13 +39,11 @@ topics-right e s = distinct eqb (map (λ (t : Topic). t .number) (s .topics)) &&
 abbrev consumers-right : State → Bool
 consumers-right s = ascending (s .consumers) && all (valid-consumer s) (s .consumers)
 
--- the rules on a state whose lists fit their slots, table by table
-by-tables : (s : State) → Shaped s → (topics-right (s .entries) s && (consumers-right s && dispatchers-right s)) ≡ valid s
-unfolding valid
+-- the rules on the tables of a state whose lists fit their slots, table by table
+by-tables : (s : State) → Shaped s → (topics-right (s .entries) s && (consumers-right s && dispatchers-right s)) ≡ sound s
+unfolding sound
 by-tables s h =
     rw (
-      le-leb 1 (s .entries) (h .E-least),
-      le-leb (s .entries) 4096 (h .E-most),
       le-leb (length (s .topics)) 8 (h .topics-fit),
       le-leb (length (s .consumers)) 32 (h .consumers-fit),
       le-leb (length (s .dispatchers)) 8 (h .dispatchers-fit),
@@ -54,12 +52,17 @@ by-tables s h =
     (ascending (s .consumers)) (all (valid-consumer s) (s .consumers))
     (distinct same-pair (map (λ (d : Dispatcher). d .pair) (s .dispatchers))) (all (valid-dispatcher s) (s .dispatchers)))
 
+-- with E in its range they are all the rules
+by-parts : (s : State) → Shaped s → sound s ≡ valid s
+unfolding valid
+by-parts s h = rw (le-leb 1 (s .entries) (h .E-least), le-leb (s .entries) 4096 (h .E-most))
+
 -- the same of the state that well-spelt words decode to
 pub state-by-tables : {e : ℕ} {ws : List ℕ} → Canon-store e ws
     → (topics-right e (decode ws) && (consumers-right (decode ws) && dispatchers-right (decode ws))) ≡ valid (decode ws)
 state-by-tables {e} {ws} h =
     subst (λ (n : ℕ). (topics-right n (decode ws) && (consumers-right (decode ws) && dispatchers-right (decode ws))) ≡ valid (decode ws))
-    (canon-entries h) (by-tables (decode ws) (h .shaped))
+    (canon-entries h) (by-tables (decode ws) (h .shaped) ∙ by-parts (decode ws) (h .shaped))
 
 -- ---- words
 

@@ -9,6 +9,7 @@ use borrow.Author.Tests.{lt-leb, le-leb, eq-eqb, ne-eqb}
 use Rattle.words.specs.Words.{blank}
 use Rattle.layout.specs.Layout.{layout-tag}
 use Rattle.layout.specs.Check.{header-right}
+use Rattle.layout.specs.Offsets.{header-reserved-at, header-reserved}
 
 module _ (ws : List ℕ) where
   pub too-short : length ws < 16 → false ≡ header-right ws
@@ -61,7 +62,7 @@ module _ (ws : List ℕ) where
                   lt-leb (getD ws 3 0) 1 a,
                 )
 
-            pub rest-decides : getD ws 3 0 ≤ 1 → {r : Bool} → r ≡ blank 12 (drop 4 ws) → r ≡ header-right ws
+            pub rest-decides : getD ws 3 0 ≤ 1 → {r : Bool} → r ≡ blank header-reserved (drop header-reserved-at ws) → r ≡ header-right ws
             unfolding header-right
             rest-decides a q =
                 rw (

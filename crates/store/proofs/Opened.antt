@@ -8,27 +8,16 @@ use lib.Dec.{eqb, leb, ltb}
 use lib.ListN.{length, set, drop, replicate, length-replicate, replicate-append-replicate}
 use borrow.Author.Tests.{le-leb, lt-leb, le-ltb, lt-ltb}
 use Rattle.words.specs.Act.{clear}
-use Rattle.words.specs.Codec.{Codec, bit, word, flag, asFlag, tag, asTag, zeros, pair, via, upto}
+use Rattle.words.specs.Codec.{bit, word, flag, asFlag, tag, asTag, zeros, pair, via}
 use Rattle.words.proofs.Act.{lay-front}
-use Rattle.words.proofs.Zero.{Zero, zero-upto, zero-pair, zero-via, zero-zeros}
 use Rattle.rules.specs.Outcome.{guard}
 use Rattle.rules.specs.Outcome.Outcome.{refused, done}
 use Rattle.rules.specs.Outcome.Value.{nothing}
 use Rattle.rules.specs.Calls.{needed, opened, opening, answer-word, value-number}
-use Rattle.layout.specs.Records.{consumer-codec, topic-codec, dispatcher-codec}
-use Rattle.layout.specs.Layout.{layout-tag, header-codec, body-codec, as-body, header-of, body-of, encode, put}
+use Rattle.layout.specs.Layout.{layout-tag, header-codec, header-of, encode, put}
 use Rattle.layout.specs.Calls.{words-after, open-outcome, open-answer, open-after}
-use Rattle.layout.proofs.Widths.{width-body}
+use Rattle.layout.proofs.Body.{width-body, zero-body}
 use Rattle.store.specs.Open.{opened-words}
-
--- a body without tables is all zeros
-empty-body : (e : ℕ) (leak noop : Bool) → Zero (body-codec e) (body-of (opened e leak noop))
-unfolding body-codec opened
-empty-body e leak noop =
-    zero-via (as-body e) _
-    (zero-pair (upto consumer-codec 32) _ [] _ (zero-upto consumer-codec 32)
-    (zero-pair (upto (topic-codec e) 8) _ [] _ (zero-upto (topic-codec e) 8)
-    (zero-pair (upto (dispatcher-codec e) 8) _ [] _ (zero-upto (dispatcher-codec e) 8) (zero-zeros (333 + 24 * e)))))
 
 -- the header of the empty state
 opened-header : (e : ℕ) (leak noop : Bool) → header-codec .enc (header-of (opened e leak noop)) ≡ layout-tag ∷ e ∷ bit leak ∷ bit noop ∷ replicate 12 0
@@ -40,7 +29,7 @@ pub opened-encode : (e : ℕ) (leak noop : Bool) → encode (opened e leak noop)
 unfolding encode opened
 opened-encode e leak noop =
     let sum : 12 + (4080 + 128 * e) ≡ 4092 + 128 * e = omega arith in
-    ap₂ {A = List ℕ} {B = List ℕ} _++_ (opened-header e leak noop) (empty-body e leak noop ∙ ap (λ (n : ℕ). replicate n 0) (width-body e))
+    ap₂ {A = List ℕ} {B = List ℕ} _++_ (opened-header e leak noop) (zero-body e leak noop ∙ ap (λ (n : ℕ). replicate n 0) (width-body e))
     ∙ ap (λ (l : List ℕ). layout-tag ∷ e ∷ bit leak ∷ bit noop ∷ l)
     (replicate-append-replicate 12 (4080 + 128 * e) 0 ∙ ap (λ (n : ℕ). replicate n 0) sum)
 

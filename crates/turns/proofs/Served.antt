@@ -69,12 +69,12 @@ module _ {e d : ℕ} {ws : List ℕ} (here : Dispatcher-in e ws d) (v : Valid-di
 module _ (ws : List ℕ) (d : ℕ) (spelt : spells ws ≡ true) (there : d < length (decode ws .dispatchers)) where
   -- the dispatcher is valid
   pub served-valid : Valid-dispatcher (decode ws) (dispatcher-nth (decode ws) d)
-  served-valid = every-nth (decode ws .dispatchers) d zero-dispatcher (valid-now ws spelt .each-dispatcher) there
+  served-valid = every-nth (decode ws .dispatchers) d zero-dispatcher (valid-now ws spelt .tables .each-dispatcher) there
 
   -- it can be served
   pub serving-now : (e t n : ℕ) → e ≡ decode ws .entries → t ≡ slot by-number (dispatcher-nth (decode ws) d .pair .topic) (decode ws .topics) → n ≡ length (ledger-under (decode ws) d)
       → Serving e ws d t n
-  serving-now e t n E q m = serving-valid (dispatcher-in (canon-of e ws spelt E) d there) served-valid (valid-now ws spelt .each-topic) t n q m
+  serving-now e t n E q m = serving-valid (dispatcher-in (canon-of e ws spelt E) d there) served-valid (valid-now ws spelt .tables .each-topic) t n q m
 
   -- next lies in the ring
   pub next-in-ring : (e : ℕ) → e ≡ decode ws .entries → dispatcher-nth (decode ws) d .next ≤ length (dispatcher-nth (decode ws) d .attached)

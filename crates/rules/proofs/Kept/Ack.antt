@@ -1,4 +1,4 @@
--- An ack keeps a state valid. The groups may pass the 64 ids outside the ledger for a moment, so that their number is
+-- An ack keeps a state sound. The groups may pass the 64 ids outside the ledger for a moment, so that their number is
 -- left to refusal 11.
 use Prim.Native.Nat.{ℕ, _+_, _-_, _≤_}
 use mathlib.Core.Path.{_≡_, refl, sym, _∙_, ap, subst}
@@ -17,12 +17,12 @@ use Rattle.rules.specs.Groups.{Group}
 use Rattle.rules.specs.Commands.{ack-groups, ack-shared, ack}
 use Rattle.rules.specs.Calls.{fits}
 use Rattle.rules.specs.Calls.Call.{Ack}
-use Rattle.rules.specs.Valid.{is-word, Valid-id, Valid-marks, Valid-consumer, Valid-dispatcher, Valid}
+use Rattle.rules.specs.Valid.{is-word, Valid-id, Valid-marks, Valid-consumer, Valid-dispatcher, Sound}
 use Rattle.rules.proofs.Says.{says-and, says-true, every-head, every-tail}
 use Rattle.rules.proofs.Table.{by-test, count-parted}
 use Rattle.rules.proofs.State.{dispatcher-pair}
 use Rattle.rules.proofs.Kept.Every.{kept-was}
-use Rattle.rules.proofs.Kept.Frame.{consumer-valid, valid-own-dispatcher}
+use Rattle.rules.proofs.Kept.Frame.{consumer-valid, sound-own-dispatcher}
 use Rattle.rules.proofs.Kept.Parts.{Places, places-of, fewer-places, valid-with-places, valid-with-mark-delete, valid-with-marks, dispatcher-valid}
 use Rattle.rules.proofs.Kept.Outcomes.{Keeps, keeps-guard, keeps-live, keeps-groups, keeps-kind}
 use Rattle.rules.proofs.Kept.Marks.{Outside, outside-of, of-outside, ack-id-rest, ack-id-marks, ack-id-outside}
@@ -100,28 +100,28 @@ acked-valid s d gs v ids h =
     (of-outside ledger (e .outside) h (ack-groups-outside ledger d gs ids (outside-of ledger (d .outside) (v .outside-ids)))))
 
 -- a shared ack
-ack-shared-keeps : (s : State) (i : ℕ) (c : Consumer) (gs : List Group) → Valid s → Valid-consumer s c → c .kind ≡ shared
-    → Ids gs → Keeps Valid s (ack-shared s i (dispatcher s (c .pair)) gs)
+ack-shared-keeps : (s : State) (i : ℕ) (c : Consumer) (gs : List Group) → Sound s → Valid-consumer s c → c .kind ≡ shared
+    → Ids gs → Keeps Sound s (ack-shared s i (dispatcher s (c .pair)) gs)
 unfolding ack-shared with-marks drop-complete advance-mark-delete with-places with-mark-delete
 ack-shared-keeps s i c gs v w k ids =
     let d : Dispatcher = dispatcher s (c .pair) in
     let ledger : List StoredMessage = ledger-of s (d .pair .topic) in
     let acked : Dispatcher = ack-groups ledger d gs in
     let rest = ack-groups-rest ledger d gs in
-    keeps-guard Valid s v _ 11 _ (λ t.
-    valid-own-dispatcher s c (advance-mark-delete (drop-complete i acked)) v w k
+    keeps-guard Sound s v _ 11 _ (λ t.
+    sound-own-dispatcher s c (advance-mark-delete (drop-complete i acked)) v w k
     (ap (λ (x : Dispatcher). x .pair) rest ∙ dispatcher-pair s (c .pair)) (ap (λ (x : Dispatcher). x .attached) rest)
     (advance-valid s (drop-complete i acked)
     (drop-complete-valid s i acked
     (acked-valid s d gs (dispatcher-valid s (c .pair) v (w .topic-byte) (w .subscription-byte)) ids (ltb-false 64 (length (acked .outside)) t)))))
 
 -- any ack
-pub ack-keeps : (s : State) (i : ℕ) (list : List ℕ) → Valid s → fits (Ack i list) ≡ true → Keeps Valid s (ack s i list)
+pub ack-keeps : (s : State) (i : ℕ) (list : List ℕ) → Sound s → fits (Ack i list) ≡ true → Keeps Sound s (ack s i list)
 unfolding fits ack
 ack-keeps s i list v f =
     let width = says-and (is-word i) (all is-word list) (says-true _) (says-true _) .gives f in
-    keeps-live Valid s v i _ (λ c e.
-    keeps-groups Valid s v list _ (λ gs g.
-    keeps-kind Valid s v (c .kind) _ _
+    keeps-live Sound s v i _ (λ c e.
+    keeps-groups Sound s v list _ (λ gs g.
+    keeps-kind Sound s v (c .kind) _ _
     (λ k. v)
     (λ k. ack-shared-keeps s i c gs v (consumer-valid s i c v e) k (groups-ids list gs (width .1) g))))

@@ -1,4 +1,4 @@
--- An append keeps a state valid: the topic's ledger grows by a message with a new id, its dispatchers by a mark.
+-- An append keeps a state sound: the topic's ledger grows by a message with a new id, its dispatchers by a mark.
 use Prim.Native.Nat.{ℕ, suc, _+_, _≤_, _<_}
 use mathlib.Core.Path.{_≡_, refl, sym, _∙_, ap, subst}
 use mathlib.Core.Bool.{Bool, true, false, cond, not}
@@ -16,7 +16,7 @@ use Rattle.rules.specs.Dispatcher.{with-marks, is-outside}
 use Rattle.rules.specs.Commands.{with-new-entry, append}
 use Rattle.rules.specs.Calls.{fits}
 use Rattle.rules.specs.Calls.Call.{Append}
-use Rattle.rules.specs.Valid.{Valid-message, Valid-topic, Valid-mark, Valid-outside, Valid-dispatcher, Valid}
+use Rattle.rules.specs.Valid.{Valid-message, Valid-topic, Valid-mark, Valid-outside, Valid-dispatcher, Sound}
 use Rattle.rules.proofs.Says.{says-and, every-cons}
 use Rattle.rules.proofs.Valid.{says-byte, says-word, says-id}
 use Rattle.rules.proofs.Table.{by-test, decides-numbers, turned-round, find-put, find-map, keys-map, length-keep}
@@ -61,7 +61,13 @@ still-absent j l m h f =
     let n : length (l ++ m ∷ []) ≡ length l + 1 = length-append l (m ∷ []) in
     le-ltb (position-of j (l ++ m ∷ [])) (length (l ++ m ∷ [])) (omega arith)
 
-module _ (s : State) (v : Valid s) (topic : ℕ) (m : StoredMessage) (topic-byte : topic < 256) (message : Valid-message m)
+-- the state that an append leaves
+abbrev pub entry-added : State → ℕ → StoredMessage → State
+entry-added s topic m =
+    with-dispatchers (with-topics s (put by-number (appended m (record { number = topic; messages = ledger-of s topic })) (s .topics)))
+    (map (with-new-entry topic (m .id)) (s .dispatchers))
+
+module _ (s : State) (v : Sound s) (topic : ℕ) (m : StoredMessage) (topic-byte : topic < 256) (message : Valid-message m)
     (new : holds-id (m .id) (ledger-of s topic) ≡ false) (room : is-some (topic-of s topic) ≡ false → length (s .topics) < 8)
     (fewer : length (ledger-of s topic) < s .entries) where
   -- the topic after it
@@ -70,7 +76,7 @@ module _ (s : State) (v : Valid s) (topic : ℕ) (m : StoredMessage) (topic-byte
 
   -- the state after it
   abbrev after : State
-  after = with-dispatchers (with-topics s (put by-number grown-topic (s .topics))) (map (with-new-entry topic (m .id)) (s .dispatchers))
+  after = entry-added s topic m
 
   -- it is valid
   grown-topic-valid : Valid-topic (s .entries) grown-topic
@@ -165,13 +171,11 @@ module _ (s : State) (v : Valid s) (topic : ℕ) (m : StoredMessage) (topic-byte
       (λ t. rw t
       (move-dispatcher s after d (ledger-after (d .pair .topic) ∙ rw (turned-round decides-numbers topic (d .pair .topic) t)) w))
 
-  -- the state after it is valid
-  pub appended-valid : Valid after
+  -- the state after it is sound
+  pub appended-sound : Sound after
   unfolding with-dispatchers with-topics topic-of appended
-  appended-valid =
+  appended-sound =
       record {
-        E-from = v .E-from;
-        E-to = v .E-to;
         topic-count = length-put by-number grown-topic (s .topics) 8 (v .topic-count) room;
         topics-distinct = distinct-put by-number decides-numbers grown-topic (s .topics) (v .topics-distinct);
         each-topic = every-put by-number grown-topic (s .topics) grown-topic-valid (v .each-topic);
@@ -188,14 +192,14 @@ module _ (s : State) (v : Valid s) (topic : ℕ) (m : StoredMessage) (topic-byte
       }
 
 -- any append
-pub append-keeps : (s : State) (topic : ℕ) (m : StoredMessage) → Valid s → fits (Append topic m) ≡ true → Keeps Valid s (append s topic m)
+pub append-keeps : (s : State) (topic : ℕ) (m : StoredMessage) → Sound s → fits (Append topic m) ≡ true → Keeps Sound s (append s topic m)
 unfolding fits append
 append-keeps s topic m v f =
     let width = says-and _ _ (says-and _ _ (says-and _ _ (says-byte topic) (says-id (m .id))) (says-word (m .handle))) (says-word (m .batch-size)) .gives f in
-    keeps-guard Valid s v _ 8 _ (λ a.
-    keeps-guard Valid s v _ 7 _ (λ b.
-    keeps-guard Valid s v _ 5 _ (λ c.
-    keeps-guard Valid s v _ 6 _ (λ d.
-    appended-valid s v topic m (width .0 .0 .0)
+    keeps-guard Sound s v _ 8 _ (λ a.
+    keeps-guard Sound s v _ 7 _ (λ b.
+    keeps-guard Sound s v _ 5 _ (λ c.
+    keeps-guard Sound s v _ 6 _ (λ d.
+    appended-sound s v topic m (width .0 .0 .0)
     (record { id-words = width .0 .0 .1; handle-word = width .0 .1; batch-range = ltb-false 256 (m .batch-size) a })
     b (room-left (is-some (topic-of s topic)) 8 (length (s .topics)) c) (leb-false (s .entries) (length (ledger-of s topic)) d)))))

@@ -1,4 +1,4 @@
--- A close keeps a state valid: the consumer leaves the state first, then its ring, where nobody else is missed.
+-- A close keeps a state sound: the consumer leaves the state first, then its ring, where nobody else is missed.
 use Prim.Native.Nat.{ℕ, _+_, _≤_, _<_}
 use mathlib.Core.Path.{_≡_, refl, sym, _∙_, ap, subst}
 use mathlib.Core.Bool.{Bool, not, true≢false}
@@ -15,12 +15,12 @@ use Rattle.rules.specs.State.{Pair, Consumer, Held, Dispatcher, State, c
 use Rattle.rules.specs.State.Kind.{shared}
 use Rattle.rules.specs.Dispatcher.{with-attached, with-next, with-total, with-places, held-by, without-holder}
 use Rattle.rules.specs.Commands.{total-after-close, next-in-ring, left-by, without-consumer, close-consumer, close-found, close}
-use Rattle.rules.specs.Valid.{Valid-consumer, Valid-dispatcher, Valid}
+use Rattle.rules.specs.Valid.{Valid-consumer, Valid-dispatcher, Sound}
 use Rattle.rules.proofs.Says.{says-and, says-leb}
 use Rattle.rules.proofs.Table.{length-keep, count-append, count-parted}
 use Rattle.rules.proofs.State.{dispatcher-pair}
 use Rattle.rules.proofs.Kept.Every.{kept-was, kept-passes, passes-kept, distinct-keep}
-use Rattle.rules.proofs.Kept.Frame.{move-dispatcher, consumer-valid, ring-exists, valid-put-dispatcher, valid-without-consumer}
+use Rattle.rules.proofs.Kept.Frame.{move-dispatcher, consumer-valid, ring-exists, sound-put-dispatcher, sound-without-consumer}
 use Rattle.rules.proofs.Kept.Parts.{Ring, ring-of, positions, Places, places-of, by-parts, dispatcher-valid}
 use Rattle.rules.proofs.Kept.Outcomes.{Keeps, keeps-guard, keeps-kind}
 
@@ -81,14 +81,14 @@ left-valid s i total d v from to =
     (v .entry-marks) (v .outside-ids)
 
 -- a shared consumer closed: its dispatcher misses nobody who is still live
-left-keeps : (s : State) (c : Consumer) (total : ℕ) → Valid s → Valid-consumer s c → c .kind ≡ shared → least-total ≤ total → total ≤ most-total
-    → Valid (put-dispatcher (without-consumer s (c .id)) (left-by (c .id) total (dispatcher s (c .pair))))
+left-keeps : (s : State) (c : Consumer) (total : ℕ) → Sound s → Valid-consumer s c → c .kind ≡ shared → least-total ≤ total → total ≤ most-total
+    → Sound (put-dispatcher (without-consumer s (c .id)) (left-by (c .id) total (dispatcher s (c .pair))))
 unfolding left-by with-total with-places with-next with-attached without-consumer with-consumers dispatcher dispatcher-of ledger-of topic-of
 left-keeps s c total v w k from to =
     let d : Dispatcher = dispatcher s (c .pair) in
     let t : State = without-consumer s (c .id) in
     let e : d .pair ≡ c .pair = dispatcher-pair s (c .pair) in
-    valid-put-dispatcher t (left-by (c .id) total d) (valid-without-consumer s (c .id) v)
+    sound-put-dispatcher t (left-by (c .id) total d) (sound-without-consumer s (c .id) v)
     (λ f. absurd (true≢false (sym (ring-exists s (c .pair) (c .id) (w .shared-in-ring k)) ∙ (ap (λ (q : Pair). is-some (dispatcher-of s q)) (sym e) ∙ f))))
     (λ x m r.
     passes-kept (others (c .id)) (d .attached) (x .id) (subst (λ (q : Pair). List·Memᴰ (x .id) (dispatcher s q .attached)) e r)
@@ -97,22 +97,22 @@ left-keeps s c total v w k from to =
     (left-valid s (c .id) total d (dispatcher-valid s (c .pair) v (w .topic-byte) (w .subscription-byte)) from to))
 
 -- a live consumer closed
-close-consumer-keeps : (s : State) (i : ℕ) (c : Consumer) → Valid s → consumer-of s i ≡ some c → Keeps Valid s (close-consumer s c)
+close-consumer-keeps : (s : State) (i : ℕ) (c : Consumer) → Sound s → consumer-of s i ≡ some c → Keeps Sound s (close-consumer s c)
 unfolding close-consumer total-in-range
 close-consumer-keeps s i c v e =
     let d : Dispatcher = dispatcher s (c .pair) in
     let total : ℕ = total-after-close (s .leak-shared-permits-on-churn) (d .total-available-permits) (c .permits) in
-    keeps-kind Valid s v (c .kind) _ _
-    (λ k. valid-without-consumer s (c .id) v)
-    (λ k. keeps-guard Valid s v _ 9 _ (λ t.
+    keeps-kind Sound s v (c .kind) _ _
+    (λ k. sound-without-consumer s (c .id) v)
+    (λ k. keeps-guard Sound s v _ 9 _ (λ t.
     let range = says-and _ _ (says-leb least-total total) (says-leb total most-total) .gives (not-false _ t) in
     left-keeps s c total v (consumer-valid s i c v e) k (range .0) (range .1)))
 
 -- the consumer found, or none
-pub close-keeps : (s : State) (i : ℕ) → Valid s → Keeps Valid s (close s i)
+pub close-keeps : (s : State) (i : ℕ) → Sound s → Keeps Sound s (close s i)
 unfolding close close-found
 close-keeps s i v = go (consumer-of s i) refl
   where
-    go : (o : Option Consumer) → consumer-of s i ≡ o → Keeps Valid s (close-found s o)
+    go : (o : Option Consumer) → consumer-of s i ≡ o → Keeps Sound s (close-found s o)
     go none e = v
     go (some c) e = close-consumer-keeps s i c v e

@@ -1,4 +1,4 @@
--- Flow, seek and subscribe keep a state valid, and so does what a plain redeliver changes.
+-- Flow, seek and subscribe keep a state sound, and so does what a plain redeliver changes.
 use Prim.Native.Nat.{ℕ, suc, _+_, _^_, _≤_, _<_}
 use mathlib.Core.Path.{_≡_, refl, sym, _∙_, subst}
 use mathlib.Core.Bool.{true, false, _&&_}
@@ -18,13 +18,13 @@ use Rattle.rules.specs.Commands.{new-consumer, joined, subscribe, with-p
 use Rattle.rules.specs.Commands.Target.{start, to-id}
 use Rattle.rules.specs.Calls.{fits}
 use Rattle.rules.specs.Calls.Call.{Subscribe}
-use Rattle.rules.specs.Valid.{Valid-consumer, Valid-dispatcher, Valid}
+use Rattle.rules.specs.Valid.{Valid-consumer, Valid-dispatcher, Sound}
 use Rattle.rules.proofs.Says.{says-and, says-member}
 use Rattle.rules.proofs.Valid.{says-byte, says-word}
 use Rattle.rules.proofs.Table.{by-test, decides-numbers}
 use Rattle.rules.proofs.State.{decides-pairs, dispatcher-pair, dispatcher-put}
 use Rattle.rules.proofs.Kept.Every.{every-snoc, distinct-snoc, fails-on-each}
-use Rattle.rules.proofs.Kept.Frame.{consumer-valid, valid-put-consumer, valid-replace-consumer, valid-put-dispatcher, valid-own-dispatcher}
+use Rattle.rules.proofs.Kept.Frame.{consumer-valid, sound-put-consumer, sound-replace-consumer, sound-put-dispatcher, sound-own-dispatcher}
 use Rattle.rules.proofs.Kept.Parts.{Ring, ring-of, next-most, valid-with-total, valid-with-attached, dispatcher-valid}
 use Rattle.rules.proofs.Kept.Outcomes.{Keeps, keeps-guard, keeps-live, keeps-kind, plain-not-shared, room-left}
 
@@ -70,33 +70,33 @@ unfolding put-consumer put-dispatcher with-consumers with-dispatchers
 put-either-way s c d = refl
 
 -- a live consumer's permits changed, and with them a dispatcher
-pub valid-charge : (s : State) (i : ℕ) (c : Consumer) (n : ℕ) (d : Dispatcher) → Valid (put-dispatcher s d) → consumer-of s i ≡ some c
-    → least-permits ≤ n → n ≤ most-permits → Valid (put-dispatcher (put-consumer s (with-permits c n)) d)
+pub valid-charge : (s : State) (i : ℕ) (c : Consumer) (n : ℕ) (d : Dispatcher) → Sound (put-dispatcher s d) → consumer-of s i ≡ some c
+    → least-permits ≤ n → n ≤ most-permits → Sound (put-dispatcher (put-consumer s (with-permits c n)) d)
 unfolding consumer-of put-dispatcher with-dispatchers with-permits
 valid-charge s i c n d v e h k =
-    subst Valid (put-either-way s (with-permits c n) d)
-    (valid-replace-consumer (put-dispatcher s d) i c (with-permits c n) v e refl
+    subst Sound (put-either-way s (with-permits c n) d)
+    (sound-replace-consumer (put-dispatcher s d) i c (with-permits c n) v e refl
     (valid-with-permits (put-dispatcher s d) c (consumer-valid (put-dispatcher s d) i c v e) n h k))
 
 -- ---- flow
 
 -- any flow
-pub flow-keeps : (s : State) (i grant : ℕ) → Valid s → Keeps Valid s (flow s i grant)
+pub flow-keeps : (s : State) (i grant : ℕ) → Sound s → Keeps Sound s (flow s i grant)
 unfolding flow with-permits with-total
 flow-keeps s i grant v =
-    keeps-live Valid s v i _ (λ c e.
+    keeps-live Sound s v i _ (λ c e.
     let w : Valid-consumer s c = consumer-valid s i c v e in
     let d : Dispatcher = dispatcher s (c .pair) in
-    keeps-guard Valid s v _ 9 _ (λ t.
+    keeps-guard Sound s v _ 9 _ (λ t.
     let most : c .permits + grant ≤ most-permits = ltb-false most-permits (c .permits + grant) t in
     let least : least-permits ≤ c .permits + grant = omega (arith, w .permits-from) in
-    keeps-kind Valid s v (c .kind) _ _
-    (λ k. valid-replace-consumer s i c (with-permits c (c .permits + grant)) v e refl (valid-with-permits s c w (c .permits + grant) least most))
-    (λ k. keeps-guard Valid s v _ 9 _ (λ u.
+    keeps-kind Sound s v (c .kind) _ _
+    (λ k. sound-replace-consumer s i c (with-permits c (c .permits + grant)) v e refl (valid-with-permits s c w (c .permits + grant) least most))
+    (λ k. keeps-guard Sound s v _ 9 _ (λ u.
     let x : Valid-dispatcher s d = dispatcher-valid s (c .pair) v (w .topic-byte) (w .subscription-byte) in
     let d′ : Dispatcher = with-total d (d .total-available-permits + grant) in
     valid-charge s i c (c .permits + grant) d′
-    (valid-own-dispatcher s c d′ v w k (dispatcher-pair s (c .pair)) refl
+    (sound-own-dispatcher s c d′ v w k (dispatcher-pair s (c .pair)) refl
     (valid-with-total s d x (d .total-available-permits + grant) (omega (arith, x .total-from)) (ltb-false most-total (d .total-available-permits + grant) u)))
     e least most))))
 
@@ -116,12 +116,12 @@ target-in-ledger l start = omega arith
 target-in-ledger l (to-id i) = let h = first-in-ledger i 0 l in omega arith
 
 -- any seek
-pub seek-keeps : (s : State) (i : ℕ) (target : Target) → Valid s → Keeps Valid s (seek s i target)
+pub seek-keeps : (s : State) (i : ℕ) (target : Target) → Sound s → Keeps Sound s (seek s i target)
 unfolding seek with-reading
 seek-keeps s i target v =
-    keeps-live Valid s v i _ (λ c e.
+    keeps-live Sound s v i _ (λ c e.
     let k : ℕ = target-position (ledger-of s (c .pair .topic)) target in
-    valid-replace-consumer s i c (with-reading c k []) v e refl
+    sound-replace-consumer s i c (with-reading c k []) v e refl
     (valid-with-reading s c (consumer-valid s i c v e) k [] (target-in-ledger (ledger-of s (c .pair .topic)) target) (omega arith)
     (λ a m. absurd (List·Memᴰ·not-nil m))))
 
@@ -185,7 +185,7 @@ new-consumer-valid s i kind p h k g r =
       shared-in-ring = r;
     }
 
-module _ (s : State) (i : ℕ) (p : Pair) (v : Valid s) (word : i < 2 ^ 64) (topic : p .topic < 256) (subscription : p .subscription < 256)
+module _ (s : State) (i : ℕ) (p : Pair) (v : Sound s) (word : i < 2 ^ 64) (topic : p .topic < 256) (subscription : p .subscription < 256)
     (pairs : is-some (dispatcher-of s p) ≡ false → length (s .dispatchers) < 8)
     (ring : member i (dispatcher s p .attached) ≡ false → length (dispatcher s p .attached) < 32) where
   -- the pair of the dispatcher that is joined
@@ -193,9 +193,9 @@ module _ (s : State) (i : ℕ) (p : Pair) (v : Valid s) (word : i < 2 ^ 64) (top
   its-pair = joined-pair s i (dispatcher s p) ∙ dispatcher-pair s p
 
   -- a dispatcher that is joined
-  pub joined-keeps : Valid (put-dispatcher s (joined i (dispatcher s p)))
+  pub joined-keeps : Sound (put-dispatcher s (joined i (dispatcher s p)))
   joined-keeps =
-      valid-put-dispatcher s (joined i (dispatcher s p)) v
+      sound-put-dispatcher s (joined i (dispatcher s p)) v
       (λ f. pairs (rw its-pair at f))
       (λ c m r. joined-others s i (dispatcher s p) (c .id) (subst (λ (q : Pair). List·Memᴰ (c .id) (dispatcher s q .attached)) its-pair r))
       (joined-valid s i (dispatcher s p) word ring (dispatcher-valid s p v topic subscription))
@@ -208,28 +208,28 @@ module _ (s : State) (i : ℕ) (p : Pair) (v : Valid s) (word : i < 2 ^ 64) (top
 
   -- a new shared consumer with it
   pub new-shared-keeps : (is-some (consumer-of s i) ≡ false → length (s .consumers) < 32)
-      → Valid (put-dispatcher (put-consumer s (new-consumer i shared p)) (joined i (dispatcher s p)))
+      → Sound (put-dispatcher (put-consumer s (new-consumer i shared p)) (joined i (dispatcher s p)))
   unfolding consumer-of put-dispatcher with-dispatchers new-consumer
   new-shared-keeps room =
-      subst Valid (put-either-way s (new-consumer i shared p) (joined i (dispatcher s p)))
-      (valid-put-consumer (put-dispatcher s (joined i (dispatcher s p))) (new-consumer i shared p) joined-keeps room
+      subst Sound (put-either-way s (new-consumer i shared p) (joined i (dispatcher s p)))
+      (sound-put-consumer (put-dispatcher s (joined i (dispatcher s p))) (new-consumer i shared p) joined-keeps room
       (new-consumer-valid (put-dispatcher s (joined i (dispatcher s p))) i shared p word topic subscription (λ z. its-ring)))
 
 -- any subscribe
-pub subscribe-keeps : (s : State) (i : ℕ) (kind : Kind) (p : Pair) → Valid s → fits (Subscribe i kind p) ≡ true → Keeps Valid s (subscribe s i kind p)
+pub subscribe-keeps : (s : State) (i : ℕ) (kind : Kind) (p : Pair) → Sound s → fits (Subscribe i kind p) ≡ true → Keeps Sound s (subscribe s i kind p)
 unfolding fits subscribe new-consumer
 subscribe-keeps s i kind p v f =
     let width = says-and _ _ (says-and _ _ (says-word i) (says-byte (p .topic))) (says-byte (p .subscription)) .gives f in
     by-test (is-some (consumer-of s i) && s .live-id-subscribe-is-noop)
     (λ x. rw x v)
     (λ x. rw x
-    (keeps-guard Valid s v _ 12 _ (λ t.
+    (keeps-guard Sound s v _ 12 _ (λ t.
     let room = room-left (is-some (consumer-of s i)) 32 (length (s .consumers)) t in
-    keeps-kind Valid s v kind _ _
+    keeps-kind Sound s v kind _ _
     (λ k.
-    valid-put-consumer s (new-consumer i kind p) v room
+    sound-put-consumer s (new-consumer i kind p) v room
     (new-consumer-valid s i kind p (width .0 .0) (width .0 .1) (width .1) (λ z. absurd (plain-not-shared (sym k ∙ z)))))
-    (λ k. keeps-guard Valid s v _ 13 _ (λ u. keeps-guard Valid s v _ 14 _ (λ w.
+    (λ k. keeps-guard Sound s v _ 13 _ (λ u. keeps-guard Sound s v _ 14 _ (λ w.
     rw k
     (new-shared-keeps s i p v (width .0 .0) (width .0 .1) (width .1)
     (room-left (is-some (dispatcher-of s p)) 8 (length (s .dispatchers)) u)

@@ -1,4 +1,4 @@
--- A state with one thing changed is valid where the new thing is: a consumer put or left out, a dispatcher put.
+-- A state with one thing changed is sound where the new thing is: a consumer put or left out, a dispatcher put.
 -- What else the rules say of a state follows from the old one, since consumers look only at how long their ledger is
 -- and at their dispatcher's ring, and dispatchers only at their ledger.
 use Prim.Native.Nat.{ℕ, _≤_, _<_}
@@ -14,7 +14,7 @@ use Rattle.rules.specs.Table.{put, keep, Every, is-some, or-else}
 use Rattle.rules.specs.State.{Pair, same-pair, Consumer, Dispatcher, State, new-dispatcher, by-id, by-pair, topic-of, consumer-of, dispatcher-of, ledger-of, dispatcher, insert, with-consumers, with-dispatchers, put-consumer, put-dispatcher}
 use Rattle.rules.specs.State.Kind.{shared}
 use Rattle.rules.specs.Commands.{without-consumer}
-use Rattle.rules.specs.Valid.{Ascending, Valid-consumer, Valid-dispatcher, Valid}
+use Rattle.rules.specs.Valid.{Ascending, Valid-consumer, Valid-dispatcher, Sound}
 use Rattle.rules.proofs.Table.{by-test, length-keep}
 use Rattle.rules.proofs.State.{decides-pairs, dispatcher-put, consumer-id}
 use Rattle.rules.proofs.Kept.Every.{kept-was, found-in, every-put, length-put, distinct-put, every-insert, ascending-insert, ascending-keep, length-insert}
@@ -57,19 +57,17 @@ move-dispatcher s t d e v =
 -- ---- what was found is valid
 
 -- a live consumer
-pub consumer-valid : (s : State) (i : ℕ) (c : Consumer) → Valid s → consumer-of s i ≡ some c → Valid-consumer s c
+pub consumer-valid : (s : State) (i : ℕ) (c : Consumer) → Sound s → consumer-of s i ≡ some c → Valid-consumer s c
 unfolding consumer-of
 consumer-valid s i c v e = v .each-consumer c (found-in by-id i (s .consumers) c e)
 
 -- ---- one thing changed
 
 -- other consumers, each valid
-valid-with-consumers : (s : State) (l : List Consumer) → Valid s → length l ≤ 32 → Ascending l → Every (Valid-consumer s) l → Valid (with-consumers s l)
+sound-with-consumers : (s : State) (l : List Consumer) → Sound s → length l ≤ 32 → Ascending l → Every (Valid-consumer s) l → Sound (with-consumers s l)
 unfolding with-consumers ledger-of topic-of dispatcher dispatcher-of
-valid-with-consumers s l v count ascending each =
+sound-with-consumers s l v count ascending each =
     record {
-      E-from = v .E-from;
-      E-to = v .E-to;
       topic-count = v .topic-count;
       topics-distinct = v .topics-distinct;
       each-topic = v .each-topic;
@@ -82,43 +80,41 @@ valid-with-consumers s l v count ascending each =
     }
 
 -- a consumer put in place, or added where there is room
-pub valid-put-consumer : (s : State) (c : Consumer) → Valid s → (is-some (consumer-of s (c .id)) ≡ false → length (s .consumers) < 32)
-    → Valid-consumer s c → Valid (put-consumer s c)
+pub sound-put-consumer : (s : State) (c : Consumer) → Sound s → (is-some (consumer-of s (c .id)) ≡ false → length (s .consumers) < 32)
+    → Valid-consumer s c → Sound (put-consumer s c)
 unfolding consumer-of put-consumer
-valid-put-consumer s c v room w =
-    valid-with-consumers s (insert c (s .consumers)) v
+sound-put-consumer s c v room w =
+    sound-with-consumers s (insert c (s .consumers)) v
     (length-insert c (s .consumers) 32 (v .consumers-ascending) (v .consumer-count) room)
     (ascending-insert c (s .consumers) (v .consumers-ascending))
     (every-insert c (s .consumers) w (v .each-consumer))
 
 -- a live consumer's record replaced
-pub valid-replace-consumer : (s : State) (i : ℕ) (c new : Consumer) → Valid s → consumer-of s i ≡ some c → new .id ≡ c .id
-    → Valid-consumer s new → Valid (put-consumer s new)
+pub sound-replace-consumer : (s : State) (i : ℕ) (c new : Consumer) → Sound s → consumer-of s i ≡ some c → new .id ≡ c .id
+    → Valid-consumer s new → Sound (put-consumer s new)
 unfolding is-some
-valid-replace-consumer s i c new v e n w =
-    valid-put-consumer s new v
+sound-replace-consumer s i c new v e n w =
+    sound-put-consumer s new v
     (λ f. let g : consumer-of s (new .id) ≡ some c = ap (consumer-of s) (n ∙ sym (consumer-id s i c e)) ∙ e in absurd (true≢false (rw g at f)))
     w
 
 -- a consumer left out
-pub valid-without-consumer : (s : State) (i : ℕ) → Valid s → Valid (without-consumer s i)
+pub sound-without-consumer : (s : State) (i : ℕ) → Sound s → Sound (without-consumer s i)
 unfolding without-consumer
-valid-without-consumer s i v =
+sound-without-consumer s i v =
     let other : Consumer → Bool = λ (c : Consumer). not (eqb i (c .id)) in
-    valid-with-consumers s (keep other (s .consumers)) v
+    sound-with-consumers s (keep other (s .consumers)) v
     (le-trans (length-keep other (s .consumers)) (v .consumer-count))
     (ascending-keep other (s .consumers) (v .consumers-ascending))
     (λ c m. v .each-consumer c (kept-was other (s .consumers) c m))
 
 -- a dispatcher put in place, or added where there is room, that keeps in its ring whoever is live there
-pub valid-put-dispatcher : (s : State) (d : Dispatcher) → Valid s → (is-some (dispatcher-of s (d .pair)) ≡ false → length (s .dispatchers) < 8)
+pub sound-put-dispatcher : (s : State) (d : Dispatcher) → Sound s → (is-some (dispatcher-of s (d .pair)) ≡ false → length (s .dispatchers) < 8)
     → ((c : Consumer) → List·Memᴰ c (s .consumers) → List·Memᴰ (c .id) (dispatcher s (d .pair) .attached) → List·Memᴰ (c .id) (d .attached))
-    → Valid-dispatcher s d → Valid (put-dispatcher s d)
+    → Valid-dispatcher s d → Sound (put-dispatcher s d)
 unfolding dispatcher-of put-dispatcher with-dispatchers ledger-of topic-of
-valid-put-dispatcher s d v room stays w =
+sound-put-dispatcher s d v room stays w =
     record {
-      E-from = v .E-from;
-      E-to = v .E-to;
       topic-count = v .topic-count;
       topics-distinct = v .topics-distinct;
       each-topic = v .each-topic;
@@ -152,7 +148,7 @@ dispatcher-cases P s p new found = go (dispatcher-of s p) refl
     go (some d) e = found d e
 
 -- a dispatcher that is found is valid
-pub found-valid : (s : State) (p : Pair) (d : Dispatcher) → Valid s → dispatcher-of s p ≡ some d → Valid-dispatcher s d
+pub found-valid : (s : State) (p : Pair) (d : Dispatcher) → Sound s → dispatcher-of s p ≡ some d → Valid-dispatcher s d
 unfolding dispatcher-of
 found-valid s p d v e = v .each-dispatcher d (found-in by-pair p (s .dispatchers) d e)
 
@@ -164,22 +160,22 @@ ring-exists s p i =
     (λ e m. absurd (List·Memᴰ·not-nil m)) (λ d e m. rw e)
 
 -- and so it is valid
-pub ring-valid : (s : State) (p : Pair) (i : ℕ) → Valid s → List·Memᴰ i (dispatcher s p .attached) → Valid-dispatcher s (dispatcher s p)
+pub ring-valid : (s : State) (p : Pair) (i : ℕ) → Sound s → List·Memᴰ i (dispatcher s p .attached) → Valid-dispatcher s (dispatcher s p)
 unfolding new-dispatcher
 ring-valid s p i v =
     dispatcher-cases (λ (d : Dispatcher). List·Memᴰ i (d .attached) → Valid-dispatcher s d) s p
     (λ e m. absurd (List·Memᴰ·not-nil m)) (λ d e m. found-valid s p d v e)
 
 -- an existing dispatcher's record replaced, its ring kept
-pub valid-replace-dispatcher : (s : State) (p : Pair) (d : Dispatcher) (i : ℕ) → Valid s → d .pair ≡ p → List·Memᴰ i (dispatcher s p .attached)
-    → d .attached ≡ dispatcher s p .attached → Valid-dispatcher s d → Valid (put-dispatcher s d)
-valid-replace-dispatcher s p d i v e m r w =
-    valid-put-dispatcher s d v
+pub sound-replace-dispatcher : (s : State) (p : Pair) (d : Dispatcher) (i : ℕ) → Sound s → d .pair ≡ p → List·Memᴰ i (dispatcher s p .attached)
+    → d .attached ≡ dispatcher s p .attached → Valid-dispatcher s d → Sound (put-dispatcher s d)
+sound-replace-dispatcher s p d i v e m r w =
+    sound-put-dispatcher s d v
     (λ f. absurd (true≢false (sym (ring-exists s p i m) ∙ (ap (λ (q : Pair). is-some (dispatcher-of s q)) (sym e) ∙ f))))
     (λ c k n. subst (λ (l : List ℕ). List·Memᴰ (c .id) l) (ap (λ (q : Pair). dispatcher s q .attached) e ∙ sym r) n)
     w
 
 -- the record of a live shared consumer's dispatcher replaced, its ring kept
-pub valid-own-dispatcher : (s : State) (c : Consumer) (d : Dispatcher) → Valid s → Valid-consumer s c → c .kind ≡ shared
-    → d .pair ≡ c .pair → d .attached ≡ dispatcher s (c .pair) .attached → Valid-dispatcher s d → Valid (put-dispatcher s d)
-valid-own-dispatcher s c d v w k e r x = valid-replace-dispatcher s (c .pair) d (c .id) v e (w .shared-in-ring k) r x
+pub sound-own-dispatcher : (s : State) (c : Consumer) (d : Dispatcher) → Sound s → Valid-consumer s c → c .kind ≡ shared
+    → d .pair ≡ c .pair → d .attached ≡ dispatcher s (c .pair) .attached → Valid-dispatcher s d → Sound (put-dispatcher s d)
+sound-own-dispatcher s c d v w k e r x = sound-replace-dispatcher s (c .pair) d (c .id) v e (w .shared-in-ring k) r x

@@ -13,7 +13,7 @@ use Rattle.rules.specs.Table.{Every, Distinct, count}
 use Rattle.rules.specs.State.{StoredMessage, Pair, Mark, Held, Dispatcher, State, Id, no-bits, new-mark, new-dispatcher, ledger-of, dispatcher}
 use Rattle.rules.specs.Ledger.{message-at}
 use Rattle.rules.specs.Dispatcher.{with-attached, with-next, with-cursor, with-mark-delete, with-total, with-places, with-marks}
-use Rattle.rules.specs.Valid.{Valid-ring, Valid-places, Valid-mark, Valid-marks, Ascending-ids, Valid-outside, Valid-dispatcher, Valid}
+use Rattle.rules.specs.Valid.{Valid-ring, Valid-places, Valid-mark, Valid-marks, Ascending-ids, Valid-outside, Valid-dispatcher, Sound}
 use Rattle.rules.proofs.Table.{count-append}
 use Rattle.rules.proofs.Kept.Counts.{element-counted, counted-element, distinct-counts, counts-distinct}
 use Rattle.rules.proofs.Kept.Frame.{dispatcher-cases, found-valid}
@@ -245,5 +245,5 @@ valid-new-dispatcher s p h k =
     }
 
 -- the dispatcher of a pair is valid, found or new
-pub dispatcher-valid : (s : State) (p : Pair) → Valid s → p .topic < 256 → p .subscription < 256 → Valid-dispatcher s (dispatcher s p)
+pub dispatcher-valid : (s : State) (p : Pair) → Sound s → p .topic < 256 → p .subscription < 256 → Valid-dispatcher s (dispatcher s p)
 dispatcher-valid s p v h k = dispatcher-cases (Valid-dispatcher s) s p (λ e. valid-new-dispatcher s p h k) (λ d e. found-valid s p d v e)

@@ -1,4 +1,4 @@
--- A turn of a plain consumer keeps a state valid.
+-- A turn of a plain consumer keeps a state sound.
 use Prim.Native.Nat.{ℕ, suc, _-_, _≤_, _<_}
 use mathlib.Core.Path.{_≡_, refl, sym, _∙_, ap, subst}
 use mathlib.Core.Bool.{Bool, true, false, true≢false}
@@ -17,18 +17,18 @@ use Rattle.rules.specs.State.{StoredMessage, Kind, by-kind, Consumer, St
 use Rattle.rules.specs.State.Kind.{plain, shared}
 use Rattle.rules.specs.Commands.{with-permits, with-reading}
 use Rattle.rules.specs.Push.{send-plain, send-plain-next, plain-turn-of, plain-turn}
-use Rattle.rules.specs.Valid.{Valid-consumer, Valid}
+use Rattle.rules.specs.Valid.{Valid-consumer, Sound}
 use Rattle.rules.proofs.Says.{every-tail}
 use Rattle.rules.proofs.Table.{by-test}
 use Rattle.rules.proofs.State.{consumer-id}
-use Rattle.rules.proofs.Kept.Frame.{consumer-valid, valid-put-consumer}
+use Rattle.rules.proofs.Kept.Frame.{consumer-valid, sound-put-consumer}
 use Rattle.rules.proofs.Kept.Consumers.{valid-with-permits, valid-with-reading}
 use Rattle.rules.proofs.Kept.Turns.{Turned}
 use Rattle.rules.proofs.Kept.Records.{Ranged, message-valid-at, empty-below}
 
 -- an entry of its topic goes to the consumer, with another cursor or fewer nacked
-send-plain-keeps : (s : State) (c : Consumer) (k : ℕ) → Valid s → Valid-consumer s c → is-some (consumer-of s (c .id)) ≡ true → zero-permits < c .permits
-    → k < length (ledger-of s (c .pair .topic)) → Turned Valid Ranged (send-plain s c k)
+send-plain-keeps : (s : State) (c : Consumer) (k : ℕ) → Sound s → Valid-consumer s c → is-some (consumer-of s (c .id)) ≡ true → zero-permits < c .permits
+    → k < length (ledger-of s (c .pair .topic)) → Turned Sound Ranged (send-plain s c k)
 unfolding send-plain with-permits bits-empty
 send-plain-keeps s c k v w live ready h =
     let from : least-permits ≤ c .permits - 1 = omega arith in
@@ -44,12 +44,12 @@ send-plain-keeps s c k v w live ready h =
         permits-from = from;
         permits-to = to;
       },
-      valid-put-consumer s (with-permits c (c .permits - 1)) v (λ f. absurd (true≢false (sym live ∙ f))) (valid-with-permits s c w (c .permits - 1) from to),
+      sound-put-consumer s (with-permits c (c .permits - 1)) v (λ f. absurd (true≢false (sym live ∙ f))) (valid-with-permits s c w (c .permits - 1) from to),
     )
 
 -- nacked, then ledger
-send-plain-next-keeps : (s : State) (c : Consumer) (nacked : List ℕ) → Valid s → consumer-of s (c .id) ≡ some c → zero-permits < c .permits → c .nacked ≡ nacked
-    → Turned Valid Ranged (send-plain-next s c nacked)
+send-plain-next-keeps : (s : State) (c : Consumer) (nacked : List ℕ) → Sound s → consumer-of s (c .id) ≡ some c → zero-permits < c .permits → c .nacked ≡ nacked
+    → Turned Sound Ranged (send-plain-next s c nacked)
 unfolding send-plain-next with-reading is-some
 send-plain-next-keeps s c [] v live ready e =
     let l : List StoredMessage = ledger-of s (c .pair .topic) in
@@ -76,11 +76,11 @@ served-ready plain b e = e
 served-ready shared b e = absurd (true≢false (sym e))
 
 -- one turn of a plain consumer
-pub plain-turn-keeps : (i : ℕ) (s : State) → Valid s → Turned Valid Ranged (plain-turn i s)
+pub plain-turn-keeps : (i : ℕ) (s : State) → Sound s → Turned Sound Ranged (plain-turn i s)
 unfolding plain-turn plain-turn-of above-zero
 plain-turn-keeps i s v = go (consumer-of s i) refl
   where
-    go : (o : Option Consumer) → consumer-of s i ≡ o → Turned Valid Ranged (plain-turn-of s o)
+    go : (o : Option Consumer) → consumer-of s i ≡ o → Turned Sound Ranged (plain-turn-of s o)
     go none e = v
     go (some c) e =
         by-test (by-kind (c .kind) (ltb zero-permits (c .permits)) false)

@@ -16,7 +16,7 @@ use Rattle.rules.specs.State.{StoredMessage, Mark, State, ledger-of}
 use Rattle.rules.specs.Ledger.{message-at, no-message}
 use Rattle.rules.specs.Dispatcher.{cost}
 use Rattle.rules.specs.Outcome.{Dispatch}
-use Rattle.rules.specs.Valid.{Valid-message, Valid-mark, Valid}
+use Rattle.rules.specs.Valid.{Valid-message, Valid-mark, Sound}
 use Rattle.rules.proofs.Says.{every-head, every-tail}
 use Rattle.rules.proofs.Table.{by-test, never-both}
 use Rattle.rules.proofs.Kept.Append.{each-ledger}
@@ -34,7 +34,7 @@ pub record Ranged (x : Dispatch) : Type 0 where
   pub permits-to : x .permits ≤ most-permits
 
 -- a message of a ledger is valid
-pub message-valid-at : (s : State) (n k : ℕ) → Valid s → k < length (ledger-of s n) → Valid-message (message-at (ledger-of s n) k)
+pub message-valid-at : (s : State) (n k : ℕ) → Sound s → k < length (ledger-of s n) → Valid-message (message-at (ledger-of s n) k)
 unfolding message-at
 message-valid-at s n k v h =
     each-in (ledger-of s n) k (each-ledger (Every Valid-message) s (λ a m. absurd (List·Memᴰ·not-nil m)) (λ t m. v .each-topic t m .each-message) n) h

@@ -1,4 +1,4 @@
--- A redeliver keeps a state valid: what the sender holds moves to the queue, each position at most once as before.
+-- A redeliver keeps a state sound: what the sender holds moves to the queue, each position at most once as before.
 use Prim.Native.Nat.{ℕ, _<_}
 use mathlib.Core.Path.{_≡_, refl, _∙_}
 use mathlib.Core.Bool.{true, not, and-eq-true-iff}
@@ -15,13 +15,13 @@ use Rattle.rules.specs.Ledger.{position-of, holds-id, message-at}
 use Rattle.rules.specs.Dispatcher.{with-places, with-marks, is-hold, mark-at}
 use Rattle.rules.specs.Groups.{Group}
 use Rattle.rules.specs.Commands.{with-reading, raised, redeliver-id, redeliver-groups, found-positions, redeliver-plain, redeliver}
-use Rattle.rules.specs.Valid.{Valid-consumer, Valid-dispatcher, Valid}
+use Rattle.rules.specs.Valid.{Valid-consumer, Valid-dispatcher, Sound}
 use Rattle.rules.proofs.Says.{every-cons}
 use Rattle.rules.proofs.Table.{by-test, count-append, count-other, count-parted, any-count}
 use Rattle.rules.proofs.State.{dispatcher-pair}
 use Rattle.rules.proofs.Kept.Every.{every-append, kept-was}
 use Rattle.rules.proofs.Kept.Counts.{count-one}
-use Rattle.rules.proofs.Kept.Frame.{consumer-valid, valid-replace-consumer, valid-own-dispatcher}
+use Rattle.rules.proofs.Kept.Frame.{consumer-valid, sound-replace-consumer, sound-own-dispatcher}
 use Rattle.rules.proofs.Kept.Parts.{positions, Places, places-of, fewer-places, valid-with-places, valid-with-marks, dispatcher-valid}
 use Rattle.rules.proofs.Kept.Outcomes.{Keeps, keeps-guard, keeps-live, keeps-groups, keeps-kind}
 use Rattle.rules.proofs.Kept.Consumers.{valid-with-reading}
@@ -108,30 +108,30 @@ found-in-ledger ledger (g ∷ gs) =
     (λ t. rw t (found-in-ledger ledger gs))
 
 -- found entries join nacked
-redeliver-plain-keeps : (s : State) (i : ℕ) (c : Consumer) (gs : List Group) → Valid s → consumer-of s i ≡ some c → Keeps Valid s (redeliver-plain s c gs)
+redeliver-plain-keeps : (s : State) (i : ℕ) (c : Consumer) (gs : List Group) → Sound s → consumer-of s i ≡ some c → Keeps Sound s (redeliver-plain s c gs)
 unfolding redeliver-plain with-reading
 redeliver-plain-keeps s i c gs v e =
     let w : Valid-consumer s c = consumer-valid s i c v e in
     let l : List StoredMessage = ledger-of s (c .pair .topic) in
     let nacked : List ℕ = c .nacked ++ found-positions l gs in
-    keeps-guard Valid s v _ 11 _ (λ t.
-    valid-replace-consumer s i c (with-reading c (c .cursor) nacked) v e refl
+    keeps-guard Sound s v _ 11 _ (λ t.
+    sound-replace-consumer s i c (with-reading c (c .cursor) nacked) v e refl
     (valid-with-reading s c w (c .cursor) nacked (w .cursor-in-ledger) (ltb-false 64 (length nacked) t)
     (every-append {P = λ (k : ℕ). k < length l} (c .nacked) (found-positions l gs) (w .nacked-in-ledger) (found-in-ledger l gs))))
 
 -- ---- the redeliver
 
 -- any redeliver
-pub redeliver-keeps : (s : State) (i : ℕ) (list : List ℕ) → Valid s → Keeps Valid s (redeliver s i list)
+pub redeliver-keeps : (s : State) (i : ℕ) (list : List ℕ) → Sound s → Keeps Sound s (redeliver s i list)
 unfolding redeliver
 redeliver-keeps s i list v =
-    keeps-live Valid s v i _ (λ c e.
+    keeps-live Sound s v i _ (λ c e.
     let w : Valid-consumer s c = consumer-valid s i c v e in
-    keeps-groups Valid s v list _ (λ gs g.
-    keeps-kind Valid s v (c .kind) _ _
+    keeps-groups Sound s v list _ (λ gs g.
+    keeps-kind Sound s v (c .kind) _ _
     (λ k. redeliver-plain-keeps s i c gs v e)
     (λ k.
     let d : Dispatcher = dispatcher s (c .pair) in
     let l : List StoredMessage = ledger-of s (c .pair .topic) in
     let r = redeliver-groups-valid s l i d gs (dispatcher-valid s (c .pair) v (w .topic-byte) (w .subscription-byte)) in
-    valid-own-dispatcher s c (redeliver-groups l i d gs) v w k (r .same-pair ∙ dispatcher-pair s (c .pair)) (r .same-ring) (r .still-valid))))
+    sound-own-dispatcher s c (redeliver-groups l i d gs) v w k (r .same-pair ∙ dispatcher-pair s (c .pair)) (r .same-ring) (r .still-valid))))

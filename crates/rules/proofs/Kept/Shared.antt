@@ -1,4 +1,4 @@
--- A turn of a dispatcher keeps a state valid. It happens only with the chosen consumer's permits and the dispatcher's
+-- A turn of a dispatcher keeps a state sound. It happens only with the chosen consumer's permits and the dispatcher's
 -- total above zero, and an entry costs 256 at most, so that neither leaves its range.
 use Prim.Native.Nat.{ℕ, zero, suc, _+_, _-_, _≤_, _<_}
 use mathlib.Core.Path.{_≡_, refl, _∙_}
@@ -17,12 +17,12 @@ use Rattle.rules.specs.State.{StoredMessage, Pair, Consumer, Held, Dispa
 use Rattle.rules.specs.Ledger.{message-at}
 use Rattle.rules.specs.Dispatcher.{with-next, with-cursor, with-total, with-places, mark-at, dispatch-gate-open, cost}
 use Rattle.rules.specs.Push.{Choice, choose, slot-after, dispatch-of, hand-out, hand-out-next, serve-choice, shared-turn}
-use Rattle.rules.specs.Valid.{Valid-message, Valid-consumer, Valid-mark, Valid-dispatcher, Valid}
+use Rattle.rules.specs.Valid.{Valid-message, Valid-consumer, Valid-mark, Valid-dispatcher, Sound}
 use Rattle.rules.proofs.Table.{by-test, count-append, count-other}
 use Rattle.rules.proofs.State.{dispatcher-pair}
 use Rattle.rules.proofs.Kept.Every.{every-snoc}
 use Rattle.rules.proofs.Kept.Counts.{count-one}
-use Rattle.rules.proofs.Kept.Frame.{ring-valid, consumer-valid, valid-replace-dispatcher}
+use Rattle.rules.proofs.Kept.Frame.{ring-valid, consumer-valid, sound-replace-dispatcher}
 use Rattle.rules.proofs.Kept.Parts.{ring-of, next-most, positions, Places, places-of, fewer-places, valid-with-next, valid-with-cursor, valid-with-places, valid-with-total}
 use Rattle.rules.proofs.Kept.Consumers.{valid-charge}
 use Rattle.rules.proofs.Kept.Turns.{Turned}
@@ -58,7 +58,7 @@ places-more ring cursor held queue i k p m h e =
 
 -- what a turn of a dispatcher needs: the consumer chosen, and a dispatcher of the pair, whose ring is as it was
 record Serving (s : State) (p : Pair) (c : Consumer) (d : Dispatcher) : Type 0 where
-  pub valid-state : Valid s
+  pub sound-state : Sound s
   pub live : consumer-of s (c .id) ≡ some c
   pub ready : zero-permits < c .permits
   pub its-pair : d .pair ≡ p
@@ -72,7 +72,7 @@ serving-changed : (s : State) (p : Pair) (c : Consumer) (d new : Dispatcher) →
     → new .total-available-permits ≡ d .total-available-permits → Valid-dispatcher s new → Serving s p c new
 serving-changed s p c d new v pair ring total x =
     record {
-      valid-state = v .valid-state;
+      sound-state = v .sound-state;
       live = v .live;
       ready = v .ready;
       its-pair = pair ∙ v .its-pair;
@@ -84,16 +84,16 @@ serving-changed s p c d new v pair ring total x =
 
 -- an entry that is nowhere below the cursor goes to the consumer
 hand-out-keeps : (s : State) (p : Pair) (c : Consumer) (d : Dispatcher) (k : ℕ) → Serving s p c d → k < d .cursor
-    → count k (positions (d .in-flight)) + count k (d .redelivery) ≡ 0 → Turned Valid Ranged (hand-out s c d k)
+    → count k (positions (d .in-flight)) + count k (d .redelivery) ≡ 0 → Turned Sound Ranged (hand-out s c d k)
 unfolding hand-out dispatch-of mark-at with-places with-total word-count
 hand-out-keeps s p c d k v h e =
     let l : List StoredMessage = ledger-of s (d .pair .topic) in
     let m : StoredMessage = message-at l k in
     let price : ℕ = cost (m .batch-size) (mark-at d k .acked .unacked) in
     let x : Valid-dispatcher s d = v .valid in
-    let w : Valid-consumer s c = consumer-valid s (c .id) c (v .valid-state) (v .live) in
+    let w : Valid-consumer s c = consumer-valid s (c .id) c (v .sound-state) (v .live) in
     let in-ledger : k < length l = omega (arith, x .cursor-in-ledger) in
-    let message : Valid-message m = message-valid-at s (d .pair .topic) k (v .valid-state) in-ledger in
+    let message : Valid-message m = message-valid-at s (d .pair .topic) k (v .sound-state) in-ledger in
     let mark : Valid-mark m (mark-at d k) = x .entry-marks .each-mark k in-ledger in
     let range = cost-range m (mark-at d k) message mark in
     let ready : zero-permits < c .permits = v .ready in
@@ -115,7 +115,7 @@ hand-out-keeps s p c d k v h e =
         permits-to = to;
       },
       valid-charge s (c .id) c (c .permits - price) d₂
-          (valid-replace-dispatcher s p d₂ (c .id) (v .valid-state) (v .its-pair) (rw (← (v .its-ring)) (v .in-ring)) (v .its-ring)
+          (sound-replace-dispatcher s p d₂ (c .id) (v .sound-state) (v .its-pair) (rw (← (v .its-ring)) (v .in-ring)) (v .its-ring)
           (valid-with-total s d₁
           (valid-with-places s d x (d .redelivery) held (places-more (d .attached) (d .cursor) (d .in-flight) (d .redelivery) (c .id) k (places-of d (x .places)) (v .in-ring) h e))
           (d .total-available-permits - price)
@@ -129,7 +129,7 @@ hand-out-keeps s p c d k v h e =
 
 -- the next entry, of the queue or of the ledger
 hand-out-next-keeps : (s : State) (p : Pair) (c : Consumer) (d : Dispatcher) (queue : List ℕ) → Serving s p c d → d .redelivery ≡ queue
-    → Turned Valid Ranged (hand-out-next s c d queue)
+    → Turned Sound Ranged (hand-out-next s c d queue)
 unfolding hand-out-next with-cursor with-places count
 hand-out-next-keeps s p c d [] v e =
     let n : ℕ = d .cursor in
@@ -141,7 +141,7 @@ hand-out-next-keeps s p c d [] v e =
     (valid-with-cursor s d x (suc n) (omega arith) (ltb-true n (length (ledger-of s (d .pair .topic))) t)))
     (omega arith)
     (none-at (places-of d (x .places)))))
-    (λ t. rw t (valid-replace-dispatcher s p d (c .id) (v .valid-state) (v .its-pair) (rw (← (v .its-ring)) (v .in-ring)) (v .its-ring) x))
+    (λ t. rw t (sound-replace-dispatcher s p d (c .id) (v .sound-state) (v .its-pair) (rw (← (v .its-ring)) (v .in-ring)) (v .its-ring) x))
   where
     -- nothing stands at the cursor
     none-at : Places (d .attached) (d .cursor) (d .in-flight) (d .redelivery) → count (d .cursor) (positions (d .in-flight)) + count (d .cursor) (d .redelivery) ≡ 0
@@ -159,8 +159,8 @@ hand-out-next-keeps s p c d (k ∷ queue) v e =
     (omega arith)
 
 -- a choice served
-serve-choice-keeps : (s : State) (p : Pair) (o : Option Choice) → Valid s → Valid-dispatcher s (dispatcher s p) → zero-permits < dispatcher s p .total-available-permits
-    → If-chosen s (dispatcher s p .attached) o → Turned Valid Ranged (serve-choice s (dispatcher s p) o)
+serve-choice-keeps : (s : State) (p : Pair) (o : Option Choice) → Sound s → Valid-dispatcher s (dispatcher s p) → zero-permits < dispatcher s p .total-available-permits
+    → If-chosen s (dispatcher s p .attached) o → Turned Sound Ranged (serve-choice s (dispatcher s p) o)
 unfolding serve-choice with-next
 serve-choice-keeps s p none v x gate h = v
 serve-choice-keeps s p (some choice) v x gate h =
@@ -168,7 +168,7 @@ serve-choice-keeps s p (some choice) v x gate h =
     let n : ℕ = slot-after (choice .slot) (d .attached) in
     hand-out-next-keeps s p (choice .consumer) (with-next d n) (d .redelivery)
     (record {
-      valid-state = v;
+      sound-state = v;
       live = h .live;
       ready = h .ready;
       its-pair = dispatcher-pair s p;
@@ -191,7 +191,7 @@ neither true b e = absurd (true≢false e)
 neither false b e = (refl, not-false b e)
 
 -- one turn of a dispatcher
-pub shared-turn-keeps : (p : Pair) (s : State) → Valid s → Turned Valid Ranged (shared-turn p s)
+pub shared-turn-keeps : (p : Pair) (s : State) → Sound s → Turned Sound Ranged (shared-turn p s)
 unfolding shared-turn dispatch-gate-open above-zero
 shared-turn-keeps p s v =
     let d : Dispatcher = dispatcher s p in

@@ -7,7 +7,7 @@ use lib.IntN.{ℤ, pos}
 use lib.ListN.{replicate}
 use Rattle.bits.specs.declared.UnackedBits.{UnackedBits}
 use Rattle.rules.specs.Permits.{zero-permits}
-use Rattle.rules.specs.State.{Id, StoredMessage, Topic, Kind, Consumer, Mark, Held, Dispatcher, State, no-bits, new-mark, new-dispatcher}
+use Rattle.rules.specs.State.{Id, StoredMessage, Topic, Kind, Consumer, Mark, Held, Dispatcher, State, state-with, no-bits, new-mark, new-dispatcher}
 use Rattle.rules.specs.State.Kind.{plain, shared}
 use Rattle.rules.specs.Dispatcher.{of-parts}
 use Rattle.rules.specs.Valid.{valid}
@@ -35,15 +35,7 @@ topic-1 messages = record { number = 1; messages = messages }
 
 -- E and some topics
 abbrev pub with-ledgers : ℕ → List Topic → State
-with-ledgers e topics =
-    record {
-      entries = e;
-      leak-shared-permits-on-churn = false;
-      live-id-subscribe-is-noop = false;
-      topics = topics;
-      consumers = [];
-      dispatchers = [];
-    }
+with-ledgers e topics = state-with e false false topics [] []
 
 -- topics of one entry, numbered from n down to 1
 abbrev pub topics-to : ℕ → List Topic

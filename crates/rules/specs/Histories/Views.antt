@@ -9,7 +9,7 @@ use Rattle.bits.specs.Bits.{bits-cardinality}
 use Rattle.bits.specs.Four.{words}
 use Rattle.rules.specs.Permits.{zero-permits, reading}
 use Rattle.rules.specs.State.{Id, StoredMessage, Topic, Pair, Kind, by-kind, Consumer, Mark, Held, Dispatcher, State, unacknowledged, consumer-of}
-use Rattle.rules.specs.State.{dispatcher, new-dispatcher}
+use Rattle.rules.specs.State.{dispatcher, new-dispatcher, state-with}
 use Rattle.rules.specs.State.Kind.{plain, shared}
 use Rattle.rules.specs.Dispatcher.{of-parts, with-attached, mark-at, balance-check}
 use Rattle.rules.specs.Valid.{valid}
@@ -191,15 +191,7 @@ checked p s = pos (bit-of (valid s)) ∷ reading (balance-check s (dispatcher s 
 
 -- a state of E = 32 with these tables
 abbrev pub spelt-with : Bool → Bool → List Topic → List Consumer → List Dispatcher → State
-spelt-with leak noop topics consumers dispatchers =
-    record {
-      entries = 32;
-      leak-shared-permits-on-churn = leak;
-      live-id-subscribe-is-noop = noop;
-      topics = topics;
-      consumers = consumers;
-      dispatchers = dispatchers;
-    }
+spelt-with leak noop topics consumers dispatchers = state-with 32 leak noop topics consumers dispatchers
 
 -- a live consumer with these permits
 abbrev pub spelt-consumer : ℕ → Pair → Kind → ℕ → Consumer

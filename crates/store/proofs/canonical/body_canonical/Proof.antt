@@ -3,7 +3,7 @@ use mathlib.Core.Path.{_≡_, sym, _∙_}
 use Prim.Native.Nat.{_+_, _*_}
 use native.Mathlib.Omega.{arith}
 use borrow.Author.Needs.{needs}
-use Rattle.layout.proofs.Check.{check-body}
+use Rattle.layout.proofs.Body.{check-body}
 use Rattle.store.proofs.Spelt.{fails, passes, blank-is, answered-no, answered-yes}
 use Rattle.store.proofs.canonical.body_canonical.Statement.{statement}
 use Rattle.store.proofs.canonical.body_canonical.Tie as tie
