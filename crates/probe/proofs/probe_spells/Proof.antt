@@ -8,15 +8,12 @@ use Rattle.probe.proofs.probe_spells.Reads as reads
 use Rattle.probe.proofs.probe_spells.Lts as lts
 use Rattle.store.proofs.check.spells.Reads as spells-reads
 
--- src/lib.rt:11:8
 spells-requires : tie.Need-spells-requires
 spells-requires c κs = search needs
 
--- src/lib.rt:7:1
 returns : tie.Need-returns
 returns c = ap bit (sym (c .if1 .taken) ∙ c .before .spells .ensures)
 
--- src/lib.rt:7:1
 returns-2 : tie.Need-returns-2
 returns-2 c = ap bit (sym (c .if1 .left) ∙ c .before .spells .ensures)
 

@@ -9,6 +9,16 @@ use Rattle.ten_calls.proofs.grant_and_push.Lts as lts
 use Rattle.broker.proofs.broker_flow.Reads as broker-flow-reads
 use Rattle.broker.proofs.broker_push.Reads as broker-push-reads
 
+-- the places: what stands before each, by name
+abbrev broker-push-before-slice-known6 : tie.After-slice-known6 → tie.After-broker-push
+broker-push-before-slice-known6 c = c .before .before .before .before
+
+abbrev broker-flow2-before-slice-known6 : tie.After-slice-known6 → tie.After-broker-flow2
+broker-flow2-before-slice-known6 c = broker-push-before-slice-known6 c .before .before .before .before .before
+
+abbrev broker-flow-before-slice-known6 : tie.After-slice-known6 → tie.After-broker-flow
+broker-flow-before-slice-known6 c = broker-flow2-before-slice-known6 c .before .before .before .before
+
 broker-flow-requires : tie.Need-broker-flow-requires
 broker-flow-requires c κs = search needs
 
@@ -27,9 +37,9 @@ same-length-2 c = search needs
 returns : tie.Need-returns
 unfolding granting pushing
 returns c =
-    let one = c .before .before .before .before .before .before .before .before .before .before .before .before .before .broker-flow .ensures .1 in
-    let two = c .before .before .before .before .before .before .before .before .before .broker-flow2 .ensures .1 in
-    let push = c .before .before .before .before .broker-push .ensures .1 in (
+    let one = broker-flow-before-slice-known6 c .broker-flow .ensures .1 in
+    let two = broker-flow2-before-slice-known6 c .broker-flow2 .ensures .1 in
+    let push = broker-push-before-slice-known6 c .broker-push .ensures .1 in (
       ran-on _ _ _ _ _ one (ran-on _ _ _ _ _ two (ran-last _ _ _ (push .0))),
       pushed-into _ _ _ _ _ (ran-on _ _ _ _ _ one (ran-last _ _ _ two)) (push .1),
     )

@@ -12,6 +12,16 @@ use Rattle.broker.proofs.broker_close.Reads as broker-close-reads
 use Rattle.broker.proofs.broker_redeliver.Reads as broker-redeliver-reads
 use Rattle.broker.proofs.broker_seek.Reads as broker-seek-reads
 
+-- the places: what stands before each, by name
+abbrev broker-seek-before-slice-known5 : tie.After-slice-known5 → tie.After-broker-seek
+broker-seek-before-slice-known5 c = c .before .before .before .before .before .before
+
+abbrev broker-redeliver-before-slice-known5 : tie.After-slice-known5 → tie.After-broker-redeliver
+broker-redeliver-before-slice-known5 c = broker-seek-before-slice-known5 c .before .before .before .before
+
+abbrev broker-ack-before-slice-known5 : tie.After-slice-known5 → tie.After-broker-ack
+broker-ack-before-slice-known5 c = broker-redeliver-before-slice-known5 c .before .before .before .before
+
 broker-ack-requires : tie.Need-broker-ack-requires
 broker-ack-requires c κs = search needs
 
@@ -30,9 +40,9 @@ same-length c = search needs
 returns : tie.Need-returns
 unfolding leaving target-from
 returns c =
-    ran-on _ _ _ _ _ (c .before .before .before .before .before .before .before .before .before .before .before .before .before .before .broker-ack .ensures .1)
-    (ran-on _ _ _ _ _ (c .before .before .before .before .before .before .before .before .before .before .broker-redeliver .ensures .1)
-    (ran-on _ _ _ _ _ (c .before .before .before .before .before .before .broker-seek .ensures .1) (ran-last _ _ _ (c .before .before .broker-close .ensures .1))))
+    ran-on _ _ _ _ _ (broker-ack-before-slice-known5 c .broker-ack .ensures .1)
+    (ran-on _ _ _ _ _ (broker-redeliver-before-slice-known5 c .broker-redeliver .ensures .1)
+    (ran-on _ _ _ _ _ (broker-seek-before-slice-known5 c .broker-seek .ensures .1) (ran-last _ _ _ (c .before .before .broker-close .ensures .1))))
 
 pub leave-spec : {M : Type 1} → statement M
 leave-spec =

@@ -11,6 +11,16 @@ use Rattle.broker.proofs.broker_append.Reads as broker-append-reads
 use Rattle.broker.proofs.broker_open.Reads as broker-open-reads
 use Rattle.broker.proofs.broker_subscribe.Reads as broker-subscribe-reads
 
+-- the places: what stands before each, by name
+abbrev broker-subscribe-before-slice-known5 : tie.After-slice-known5 → tie.After-broker-subscribe
+broker-subscribe-before-slice-known5 c = c .before .before .before .before .before .before
+
+abbrev broker-append-before-slice-known5 : tie.After-slice-known5 → tie.After-broker-append
+broker-append-before-slice-known5 c = broker-subscribe-before-slice-known5 c .before .before .before .before
+
+abbrev broker-open-before-slice-known5 : tie.After-slice-known5 → tie.After-broker-open
+broker-open-before-slice-known5 c = broker-append-before-slice-known5 c .before .before .before .before
+
 broker-open-requires : tie.Need-broker-open-requires
 broker-open-requires c κs = search needs
 
@@ -29,9 +39,9 @@ same-length c = search needs
 returns : tie.Need-returns
 unfolding subscribing subscription kind-from
 returns c =
-    ran-from _ _ _ _ (c .before .before .before .before .before .before .before .before .before .before .before .before .before .before .broker-open .ensures .1)
-    (ran-on _ _ _ _ _ (c .before .before .before .before .before .before .before .before .before .before .broker-append .ensures .1)
-    (ran-on _ _ _ _ _ (c .before .before .before .before .before .before .broker-subscribe .ensures .1) (ran-last _ _ _ (c .before .before .broker-subscribe2 .ensures .1))))
+    ran-from _ _ _ _ (broker-open-before-slice-known5 c .broker-open .ensures .1)
+    (ran-on _ _ _ _ _ (broker-append-before-slice-known5 c .broker-append .ensures .1)
+    (ran-on _ _ _ _ _ (broker-subscribe-before-slice-known5 c .broker-subscribe .ensures .1) (ran-last _ _ _ (c .before .before .broker-subscribe2 .ensures .1))))
 
 pub open-and-subscribe-spec : {M : Type 1} → statement M
 open-and-subscribe-spec =

@@ -15,6 +15,22 @@ use Rattle.ten_calls.proofs.open_and_subscribe.Reads as open-and-subscr
 use Rattle.ten_calls.proofs.grant_and_push.Reads as grant-and-push-reads
 use Rattle.ten_calls.proofs.leave.Reads as leave-reads
 
+-- the places: what stands before each, by name
+abbrev grant-and-push-before-slice-known6 : tie.After-slice-known6 → tie.After-grant-and-push
+grant-and-push-before-slice-known6 c = c .before .before .before .before .before .before .before .before
+
+abbrev open-and-subscribe-before-slice-known6 : tie.After-slice-known6 → tie.After-open-and-subscribe
+open-and-subscribe-before-slice-known6 c = grant-and-push-before-slice-known6 c .before .before .before .before .before
+
+abbrev shared-slice-known2-before-slice-known6 : tie.After-slice-known6 → tie.After-shared-slice-known2
+shared-slice-known2-before-slice-known6 c = open-and-subscribe-before-slice-known6 c .before .before
+
+abbrev shared-slice-known-before-slice-known6 : tie.After-slice-known6 → tie.After-shared-slice-known
+shared-slice-known-before-slice-known6 c = shared-slice-known2-before-slice-known6 c .before
+
+abbrev entry-before-slice-known6 : tie.After-slice-known6 → tie.Start
+entry-before-slice-known6 c = shared-slice-known-before-slice-known6 c .before .before .before
+
 open-and-subscribe-requires : tie.Need-open-and-subscribe-requires
 open-and-subscribe-requires c κs = search needs
 
@@ -32,23 +48,23 @@ same-length-2 c = search needs
 
 returns : tie.Need-returns
 returns c =
-    let a = c .before .before .before .before .before .before .before .before .before .before .before .before .before .before .before .before .before .before .before .args in
+    let a = entry-before-slice-known6 c .args in
     let m : StoredMessage = message-of (a .ledger) (a .entry) (a .handle) (a .batch) in
     let e =
     all-ten _ _ _ _ m (a .first) (a .second) (a .grant) (length (a .list .now) / 13) (a .acked .now) (a .back .now)
-    (c .before .before .before .before .before .before .before .before .before .before .before .before .before .open-and-subscribe .ensures) (c .before .before .before .before .before .before .before .before .grant-and-push .ensures .0) (c .before .before .leave .ensures) in
-    let f = c .before .before .before .before .before .before .before .before .before .before .before .before .before .before .before .before .before .before .before .fits in
+    (open-and-subscribe-before-slice-known6 c .open-and-subscribe .ensures) (grant-and-push-before-slice-known6 c .grant-and-push .ensures .0) (c .before .before .leave .ensures) in
+    let f = entry-before-slice-known6 c .fits in
     let w =
     all-fit m (a .first) (a .second) (a .grant) (a .acked .now) (a .back .now) (a .list .now)
     (f .ledger .fits) (f .entry .fits) (f .handle .fits) (f .batch .fits) (f .first .fits) (f .second .fits) (f .grant .fits)
-    (few-records (length (a .list .now)) (c .before .before .before .before .before .before .before .before .before .before .before .before .before .before .before .before .before .before .before .good .1 .0 .0))
-    (all-words (a .acked .now) (λ k. c .before .before .before .before .before .before .before .before .before .before .before .before .before .before .before .before .shared-slice-known .given k .fits))
-    (all-words (a .back .now) (λ k. c .before .before .before .before .before .before .before .before .before .before .before .before .before .before .before .shared-slice-known2 .given k .fits)) in (
+    (few-records (length (a .list .now)) (entry-before-slice-known6 c .good .1 .0 .0))
+    (all-words (a .acked .now) (λ k. shared-slice-known-before-slice-known6 c .shared-slice-known .given k .fits))
+    (all-words (a .back .now) (λ k. shared-slice-known2-before-slice-known6 c .shared-slice-known2 .given k .fits)) in (
       e,
       (
-        list-of-ten _ _ _ _ m (a .first) (a .second) (a .grant) (c .before .before .before .before .before .before .before .before .before .before .before .before .before .open-and-subscribe .ensures) (c .before .before .before .before .before .before .before .before .grant-and-push .ensures .1),
+        list-of-ten _ _ _ _ m (a .first) (a .second) (a .grant) (open-and-subscribe-before-slice-known6 c .open-and-subscribe .ensures) (grant-and-push-before-slice-known6 c .grant-and-push .ensures .1),
         ten-accounted (a .store .now) _ m (a .first) (a .second) (a .grant) (a .acked .now) (a .back .now) (a .list .now)
-            (c .before .before .before .before .before .before .before .before .before .before .before .before .before .before .before .before .before .before .before .pre .0) (c .before .before .before .before .before .before .before .before .before .before .before .before .before .before .before .before .before .before .before .pre .1) w e,
+            (entry-before-slice-known6 c .pre .0) (entry-before-slice-known6 c .pre .1) w e,
       ),
     )
 

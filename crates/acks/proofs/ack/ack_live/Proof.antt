@@ -14,11 +14,21 @@ use borrow.Author.Needs.{needs}
 use Rattle.acks.proofs.ack.ack_live.Statement.{statement}
 use Rattle.acks.proofs.ack.ack_live.Tie as tie
 
+-- the places: what stands before each, by name
+abbrev entry-before-is-shared-arg : tie.After-is-shared-arg → tie.Start
+entry-before-is-shared-arg c = c .before .before .before
+
+abbrev entry-before-else1 : tie.Else1 → tie.Start
+entry-before-else1 c = entry-before-is-shared-arg (c .before .before)
+
+abbrev entry-before-ack-shared-arg : tie.After-ack-shared-arg → tie.Start
+entry-before-ack-shared-arg c = entry-before-is-shared-arg (c .before .before .before)
+
 is-shared-requires : tie.Need-is-shared-requires
-is-shared-requires c κs = live-in (c .before .before .before .pre .0)
+is-shared-requires c κs = live-in (entry-before-is-shared-arg c .pre .0)
 
 ack-shared-requires : tie.Need-ack-shared-requires
-ack-shared-requires c κs = let p = c .before .before .before .before .before .before .pre in (p .0, p .1, p .2, flag-shared _ (sym (c .before .before .is-shared .ensures) ∙ c .before .if1 .taken))
+ack-shared-requires c κs = let p = entry-before-ack-shared-arg c .pre in (p .0, p .1, p .2, flag-shared _ (sym (c .before .before .is-shared .ensures) ∙ c .before .if1 .taken))
 
 same-length : tie.Need-same-length
 same-length c = search needs
@@ -31,8 +41,8 @@ same-length-2 c = search needs
 
 returns-2 : tie.Need-returns-2
 returns-2 c =
-    let a = c .before .before .before .before .before .args in
-    let p = c .before .before .before .before .before .pre in
+    let a = entry-before-else1 c .args in
+    let p = entry-before-else1 c .pre in
     let h = p .0 in
     let s = decode (a .store .now) in
     let k = flag-plain _ (sym (c .before .is-shared .ensures) ∙ c .if1 .left) in

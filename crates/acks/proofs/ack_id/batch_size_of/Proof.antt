@@ -12,6 +12,10 @@ use borrow.Author.Needs.{needs}
 use Rattle.acks.proofs.ack_id.batch_size_of.Statement.{statement}
 use Rattle.acks.proofs.ack_id.batch_size_of.Tie as tie
 
+-- the places: what stands before each, by name
+abbrev entry-before-batch-size : tie.After-batch-size → tie.Start
+entry-before-batch-size c = c .before .before .before
+
 find-topic-requires : tie.Need-find-topic-requires
 find-topic-requires c κs = search needs
 
@@ -25,8 +29,8 @@ batch-size-requires c κs =
 
 returns : tie.Need-returns
 returns c =
-    let a = c .before .before .before .args in
-    let f = ledger-there (decode (a .store .now)) (c .before .find-topic .result) (a .topic) (a .k) (c .before .find-topic .ensures) (c .before .before .before .pre .1) in
+    let a = entry-before-batch-size c .args in
+    let f = ledger-there (decode (a .store .now)) (c .before .find-topic .result) (a .topic) (a .k) (c .before .find-topic .ensures) (entry-before-batch-size c .pre .1) in
     c .batch-size .ensures ∙ ap (λ (m : List StoredMessage). message-at m (a .k) .batch-size) (sym (f .1))
 
 pub batch-size-of-spec : {M : Type 1} → statement M

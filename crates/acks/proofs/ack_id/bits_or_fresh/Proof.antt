@@ -5,6 +5,10 @@ use borrow.Author.Needs.{needs}
 use Rattle.acks.proofs.ack_id.bits_or_fresh.Statement.{statement}
 use Rattle.acks.proofs.ack_id.bits_or_fresh.Tie as tie
 
+-- the places: what stands before each, by name
+abbrev entry-before-fresh-unacked-bits : tie.After-fresh-unacked-bits → tie.Start
+entry-before-fresh-unacked-bits c = c .before .before .before
+
 bits-empty-requires : tie.Need-bits-empty-requires
 bits-empty-requires c κs = search needs
 
@@ -13,7 +17,7 @@ fresh-unacked-bits-requires c κs = search needs
 
 returns : tie.Need-returns
 returns c =
-    let a = c .before .before .before .args in
+    let a = entry-before-fresh-unacked-bits c .args in
     bits-fresh (a .bits) (c .fresh-unacked-bits .result) (a .batch) (sym (c .before .before .bits-empty .ensures) ∙ c .before .if1 .taken) (c .fresh-unacked-bits .ensures)
 
 returns-2 : tie.Need-returns-2

@@ -15,6 +15,10 @@ use borrow.Author.Needs.{needs}
 use Rattle.acks.proofs.outside_ids.passes_64.Statement.{statement}
 use Rattle.acks.proofs.outside_ids.passes_64.Tie as tie
 
+-- the places: what stands before each, by name
+abbrev entry-before-new-ids : tie.After-new-ids → tie.Start
+entry-before-new-ids c = c .before .before .before .before
+
 outside-count-requires : tie.Need-outside-count-requires
 outside-count-requires c κs = search needs
 
@@ -23,17 +27,17 @@ new-ids-requires c κs = search needs
 
 add-result : tie.Need-add-result
 add-result c =
-    let a = c .before .before .before .before .args in
+    let a = entry-before-new-ids c .args in
     let f = count-few (ledger-of (decode (a .store .now)) (a .topic)) (dispatcher-nth (decode (a .store .now)) (a .d) .outside) (groups-from (a .list .now) 0) in
-    let m = stands-few (a .list .now) 0 (c .before .before .before .before .pre .1) in
-    let o = c .before .before .before .before .pre .0 .lists-fit .outside-fits in
+    let m = stands-few (a .list .now) 0 (entry-before-new-ids c .pre .1) in
+    let o = entry-before-new-ids c .pre .0 .lists-fit .outside-fits in
     let r = c .new-ids .ensures in
     let n = c .before .outside-count .ensures in
     omega arith
 
 returns : tie.Need-returns
 returns c =
-    let a = c .before .before .before .before .args in
+    let a = entry-before-new-ids c .args in
     let r = c .new-ids .ensures in
     let n = c .before .outside-count .ensures in
     let w = count-after (ledger-of (decode (a .store .now)) (a .topic)) (dispatcher-nth (decode (a .store .now)) (a .d)) (groups-from (a .list .now) 0) in

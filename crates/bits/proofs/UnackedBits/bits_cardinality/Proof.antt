@@ -4,6 +4,13 @@ use borrow.Author.Needs.{needs}
 use Rattle.bits.proofs.UnackedBits.bits_cardinality.Statement.{statement}
 use Rattle.bits.proofs.UnackedBits.bits_cardinality.Tie as tie
 
+-- the places: what stands before each, by name
+abbrev set-bits-before-set-bits4 : tie.After-set-bits4 → tie.After-set-bits
+set-bits-before-set-bits4 c = c .before .before .before
+
+abbrev entry-before-set-bits4 : tie.After-set-bits4 → tie.Start
+entry-before-set-bits4 c = set-bits-before-set-bits4 c .before
+
 set-bits-requires : tie.Need-set-bits-requires
 set-bits-requires c κs = search needs
 
@@ -27,7 +34,7 @@ add-result-3 c = search needs
 
 returns : tie.Need-returns
 returns c =
-    four-cardinality (c .before .before .before .before .args .self) (c .before .before .before .set-bits .ensures .0)
+    four-cardinality (entry-before-set-bits4 c .args .self) (set-bits-before-set-bits4 c .set-bits .ensures .0)
     (c .before .before .set-bits2 .ensures .0) (c .before .set-bits3 .ensures .0) (c .set-bits4 .ensures .0)
 
 pub bits-cardinality-spec : {M : Type 1} → statement M

@@ -10,6 +10,13 @@ use borrow.Author.Needs.{needs}
 use Rattle.bits.proofs.UnackedBits.fresh_unacked_bits.Statement.{statement}
 use Rattle.bits.proofs.UnackedBits.fresh_unacked_bits.Tie as tie
 
+-- the places: what stands before each, by name
+abbrev low-bits-before-low-bits4 : tie.After-low-bits4 → tie.After-low-bits
+low-bits-before-low-bits4 c = c .before .before .before
+
+abbrev entry-before-low-bits4 : tie.After-low-bits4 → tie.Start
+entry-before-low-bits4 c = low-bits-before-low-bits4 c .before
+
 -- a word of as many ones as word q has room for is word q of the fresh list
 at-place : (n q : ℕ) → q < 4 → {r : ℕ} → r ≡ 2 ^ min (n - 64 * q) 64 - 1 → r ≡ getD (fresh-unacked-bits 4 n) q 0
 at-place n q h e = e ∙ sym (fresh-word 4 n q h)
@@ -28,8 +35,8 @@ low-bits-requires-4 c κs = search needs
 
 returns : tie.Need-returns
 returns c =
-    let n : ℕ = c .before .before .before .before .args .batch-size in
-    is-four _ (fresh-unacked-bits 4 n) (at-place n 0 (lit< tt) (c .before .before .before .low-bits .ensures))
+    let n : ℕ = entry-before-low-bits4 c .args .batch-size in
+    is-four _ (fresh-unacked-bits 4 n) (at-place n 0 (lit< tt) (low-bits-before-low-bits4 c .low-bits .ensures))
     (at-place n 1 (lit< tt) (c .before .before .low-bits2 .ensures)) (at-place n 2 (lit< tt) (c .before .low-bits3 .ensures))
     (at-place n 3 (lit< tt) (c .low-bits4 .ensures))
 

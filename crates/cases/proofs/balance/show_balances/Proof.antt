@@ -7,8 +7,12 @@ use Rattle.layout.proofs.Store.{spells-canon}
 use Rattle.cases.proofs.balance.show_balances.Statement.{statement}
 use Rattle.cases.proofs.balance.show_balances.Tie as tie
 
+-- the places: what stands before each, by name
+abbrev entry-before-then1 : tie.Then1 → tie.Start
+entry-before-then1 c = c .before .before .before
+
 -- the words spell a state
-spelt : (c : tie.Then1) → spells (c .before .before .before .args .store .now) ≡ true
+spelt : (c : tie.Then1) → spells (entry-before-then1 c .args .store .now) ≡ true
 spelt c = sym (c .before .spells .ensures) ∙ c .if1 .taken
 
 spells-requires : tie.Need-spells-requires

@@ -17,11 +17,18 @@ Inv-loop store e n d₀ d = d ≤ n
 abbrev μ-loop : tie.MeasureT-loop
 μ-loop store e n d₀ d = n - d
 
+-- the places: what stands before each, by name
+abbrev word-before-in-loop : tie.In-loop Inv-loop μ-loop → tie.After-word Inv-loop μ-loop
+word-before-in-loop c = c .before .before .before
+
+abbrev entry-before-in-loop : tie.In-loop Inv-loop μ-loop → tie.Start Inv-loop μ-loop
+entry-before-in-loop c = word-before-in-loop c .before .before
+
 -- the slot of a turn lies in the table
-here : (c : tie.In-loop Inv-loop μ-loop) → Dispatcher-in (c .before .before .before .before .before .args .e) (c .before .before .before .before .before .args .store .now) (c .before .loop .d)
+here : (c : tie.In-loop Inv-loop μ-loop) → Dispatcher-in (entry-before-in-loop c .args .e) (entry-before-in-loop c .args .store .now) (c .before .loop .d)
 here c =
-    let p = c .before .before .before .before .before .pre in
-    let n : c .before .before .before .word .result ≡ length (decode (c .before .before .before .before .before .args .store .now) .dispatchers) = c .before .before .before .word .ensures ∙ read-dispatcher-count (p .0) in
+    let p = entry-before-in-loop c .pre in
+    let n : word-before-in-loop c .word .result ≡ length (decode (entry-before-in-loop c .args .store .now) .dispatchers) = word-before-in-loop c .word .ensures ∙ read-dispatcher-count (p .0) in
     dispatcher-in (p .0) (c .before .loop .d) (omega arith)
 
 mul-word : tie.Need-mul-word Inv-loop μ-loop
@@ -40,7 +47,7 @@ loop-holds : tie.Need-loop-holds Inv-loop μ-loop
 loop-holds c = search needs
 
 balance-check-requires : tie.Need-balance-check-requires Inv-loop μ-loop
-balance-check-requires c κs = (here c, c .before .before .before .before .before .pre .1)
+balance-check-requires c κs = (here c, entry-before-in-loop c .pre .1)
 
 total-available-permits-requires : tie.Need-total-available-permits-requires Inv-loop μ-loop
 total-available-permits-requires c κs = here (c .before)

@@ -6,11 +6,9 @@ use Rattle.cases.proofs.line.blanks.Tie as tie
 use Rattle.cases.proofs.line.blanks.Reads as reads
 use Rattle.cases.proofs.line.blanks.Lts as lts
 
--- src/line.rt:68:1
 returns : tie.Need-returns
 returns c = rw (lt-ltb 32 (c .before .args .b) (c .if1 .taken))
 
--- src/line.rt:68:1
 returns-2 : tie.Need-returns-2
 returns-2 c = rw (le-ltb 32 (c .before .args .b) (c .if1 .left))
 

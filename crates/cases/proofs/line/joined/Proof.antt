@@ -9,33 +9,30 @@ use Rattle.cases.proofs.line.joined.Reads as reads
 use Rattle.cases.proofs.line.joined.Lts as lts
 use Rattle.cases.proofs.line.with_digit.Reads as with-digit-reads
 
--- src/line.rt:79:9
+-- the places: what stands before each, by name
+abbrev entry-before-with-digit : tie.After-with-digit → tie.Start
+entry-before-with-digit c = c .before .before .before
+
 returns : tie.Need-returns
 unfolding with-byte
 returns c = rw (lt-ltb (c .before .args .b) 48 (c .if1 .taken))
 
--- src/line.rt:82:33
 cast-with-digit : tie.Need-cast-with-digit
 cast-with-digit c = search needs
 
--- src/line.rt:82:9
 with-digit-requires : tie.Need-with-digit-requires
 with-digit-requires c κs = search needs
 
--- src/line.rt:82:9
 returns-2 : tie.Need-returns-2
 unfolding with-byte
-returns-2 c = rw (le-ltb (c .before .before .before .args .b) 48 (c .before .before .if1 .left), lt-ltb (c .before .before .before .args .b) 58 (c .before .if2 .taken)) (c .with-digit .ensures)
+returns-2 c = rw (le-ltb (entry-before-with-digit c .args .b) 48 (c .before .before .if1 .left), lt-ltb (entry-before-with-digit c .args .b) 58 (c .before .if2 .taken)) (c .with-digit .ensures)
 
--- src/line.rt:84:5
 mul-result : tie.Need-mul-result
 mul-result c = search needs
 
--- src/line.rt:84:5
 add-result : tie.Need-add-result
 add-result c = search needs
 
--- src/line.rt:75:1
 returns-3 : tie.Need-returns-3
 unfolding with-byte
 returns-3 c = rw (le-ltb (c .before .before .args .b) 48 (c .before .if1 .left), le-ltb (c .before .before .args .b) 58 (c .if2 .left))

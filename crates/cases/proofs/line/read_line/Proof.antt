@@ -22,52 +22,49 @@ Inv-loop line₀ n₀ line n = (n ≤ length line) × (length line ≡ length li
 abbrev μ-loop : tie.MeasureT-loop
 μ-loop line₀ n₀ line n = length line₀ - n
 
--- src/line.rt:16:5
+-- the places: what stands before each, by name
+abbrev at-loop-before-then1 : tie.Then1 Inv-loop μ-loop → tie.At-loop Inv-loop μ-loop
+at-loop-before-then1 c = c .before .before .before
+
+abbrev at-loop-before-else1 : tie.Else1 Inv-loop μ-loop → tie.At-loop Inv-loop μ-loop
+at-loop-before-else1 c = c .before .before .before
+
 loop-holds : tie.Need-loop-holds Inv-loop μ-loop
 loop-holds c = search needs
 
--- src/line.rt:17:13
 next-byte-requires : tie.Need-next-byte-requires Inv-loop μ-loop
 next-byte-requires c κs = search needs
 
--- src/line.rt:21:9
 slice-write-line : tie.Need-slice-write-line Inv-loop μ-loop
 slice-write-line c = search needs
 
--- src/line.rt:22:9
 add-n : tie.Need-add-n Inv-loop μ-loop
 add-n c = search needs
 
--- src/line.rt:16:5
 loop-less : tie.Need-loop-less Inv-loop μ-loop
 loop-less c = search needs
 
--- src/line.rt:16:5
 loop-again : tie.Need-loop-again Inv-loop μ-loop
 loop-again c =
-    let l = c .before .before .before .loop .line in
-    let n = c .before .before .before .loop .n in
+    let l = at-loop-before-else1 c .loop .line in
+    let n = at-loop-before-else1 c .loop .n in
     let e = length-set l n (c .before .next-byte .result) in
     let t = c .before .before .loop-test .taken in
-    let h = c .before .before .before .loop .inv .1 in
+    let h = at-loop-before-else1 c .loop .inv .1 in
     let g : n + 1 ≤ length (set l n (c .before .next-byte .result)) = omega (arith, e, t, h) in
     (g, e ∙ h)
 
--- src/line.rt:12:1
 same-length : tie.Need-same-length Inv-loop μ-loop
 same-length c = search needs
 
--- src/line.rt:12:1
 returns : tie.Need-returns Inv-loop μ-loop
 returns c = counted (c .before .loop .n) (c .before .loop .line) (c .before .loop .inv .0)
 
--- src/line.rt:12:1
 same-length-2 : tie.Need-same-length-2 Inv-loop μ-loop
 same-length-2 c = search needs
 
--- src/line.rt:12:1
 returns-2 : tie.Need-returns-2 Inv-loop μ-loop
-returns-2 c = counted (c .before .before .before .loop .n) (c .before .before .before .loop .line) (c .before .before .before .loop .inv .0)
+returns-2 c = counted (at-loop-before-then1 c .loop .n) (at-loop-before-then1 c .loop .line) (at-loop-before-then1 c .loop .inv .0)
 
 pub read-line-spec : {M : Type 1} → statement M
 read-line-spec =

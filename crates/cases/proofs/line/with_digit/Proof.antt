@@ -7,24 +7,19 @@ use Rattle.cases.proofs.line.with_digit.Tie as tie
 use Rattle.cases.proofs.line.with_digit.Reads as reads
 use Rattle.cases.proofs.line.with_digit.Lts as lts
 
--- src/line.rt:92:16
 sub-if1 : tie.Need-sub-if1
 sub-if1 c = search needs
 
--- src/line.rt:93:9
 returns : tie.Need-returns
 unfolding with-digit
 returns c = omega arith
 
--- src/line.rt:95:5
 mul-result : tie.Need-mul-result
 mul-result c = search needs
 
--- src/line.rt:95:5
 add-result : tie.Need-add-result
 add-result c = search needs
 
--- src/line.rt:88:1
 returns-2 : tie.Need-returns-2
 unfolding with-digit
 returns-2 c = omega arith

@@ -20,76 +20,84 @@ Inv-loop line words₀ n₀ i₀ words n i = (n ≤ length words) × (i ≤ leng
 abbrev μ-loop : tie.MeasureT-loop
 μ-loop line words₀ n₀ i₀ words n i = length line - i
 
--- src/line.rt:46:5
+-- the places: what stands before each, by name
+abbrev entry-before-then1 : tie.Then1 Inv-loop μ-loop → tie.Start Inv-loop μ-loop
+entry-before-then1 c = c .before .before .before .before .before
+
+abbrev entry-before-then2 : tie.Then2 Inv-loop μ-loop → tie.Start Inv-loop μ-loop
+entry-before-then2 c = c .before .before .before .before .before
+
+abbrev entry-before-else2 : tie.Else2 Inv-loop μ-loop → tie.Start Inv-loop μ-loop
+entry-before-else2 c = c .before .before .before .before .before
+
+abbrev else1-before-blanks : tie.After-blanks Inv-loop μ-loop → tie.Else1 Inv-loop μ-loop
+else1-before-blanks c = c .before .before .before .before
+
+abbrev in-loop-before-blanks : tie.After-blanks Inv-loop μ-loop → tie.In-loop Inv-loop μ-loop
+in-loop-before-blanks c = else1-before-blanks c .before
+
+abbrev at-loop-before-blanks : tie.After-blanks Inv-loop μ-loop → tie.At-loop Inv-loop μ-loop
+at-loop-before-blanks c = in-loop-before-blanks c .before
+
+abbrev entry-before-blanks : tie.After-blanks Inv-loop μ-loop → tie.Start Inv-loop μ-loop
+entry-before-blanks c = at-loop-before-blanks c .before .before .before
+
 loop-holds : tie.Need-loop-holds Inv-loop μ-loop
 loop-holds c = (omega arith, omega arith, refl, reading-starts (c .before .before .args .line .now) (c .before .before .args .words .now))
 
--- src/line.rt:48:13
 same-length : tie.Need-same-length Inv-loop μ-loop
 same-length c = search needs
 
--- src/line.rt:48:13
 returns : tie.Need-returns Inv-loop μ-loop
 returns c =
-    let a = c .before .before .before .before .before .args in
+    let a = entry-before-then1 c .args in
     let l = c .before .before .loop in
-    let zeros = c .before .before .before .before .before .pre in (
+    let zeros = entry-before-then1 c .pre in (
       count-full (a .line .now) (a .words .now) (l .words) (l .n) (l .i) zeros (l .inv .3) (l .inv .2) (l .inv .0) (c .if1 .taken),
       words-full (a .line .now) (a .words .now) (l .words) (l .n) (l .i) zeros (l .inv .3) (c .if1 .taken),
     )
 
--- src/line.rt:50:17
 shared-slice-read-b : tie.Need-shared-slice-read-b Inv-loop μ-loop
 shared-slice-read-b c = search needs
 
--- src/line.rt:51:27
 mul-joined : tie.Need-mul-joined Inv-loop μ-loop
 mul-joined c = search needs
 
--- src/line.rt:51:27
 slice-read-joined : tie.Need-slice-read-joined Inv-loop μ-loop
 slice-read-joined c = search needs
 
--- src/line.rt:51:20
 joined-requires : tie.Need-joined-requires Inv-loop μ-loop
 joined-requires c κs = search needs
 
--- src/line.rt:51:9
 mul-words : tie.Need-mul-words Inv-loop μ-loop
 mul-words c = search needs
 
--- src/line.rt:51:9
 slice-write-words : tie.Need-slice-write-words Inv-loop μ-loop
 slice-write-words c = search needs
 
--- src/line.rt:52:14
 blanks-requires : tie.Need-blanks-requires Inv-loop μ-loop
 blanks-requires c κs = search needs
 
--- src/line.rt:52:9
 add-n : tie.Need-add-n Inv-loop μ-loop
 add-n c =
     let e = c .blanks .ensures in
-    let s = ends-small (getD (c .before .before .before .before .before .before .before .before .before .args .line .now) (c .before .before .before .before .before .before .loop .i) 0) in
+    let s = ends-small (getD (entry-before-blanks c .args .line .now) (at-loop-before-blanks c .loop .i) 0) in
     record { fits = omega (arith, e, s) }
 
--- src/line.rt:53:9
 add-i : tie.Need-add-i Inv-loop μ-loop
 add-i c = search needs
 
--- src/line.rt:46:5
 loop-less : tie.Need-loop-less Inv-loop μ-loop
 loop-less c = search needs
 
--- src/line.rt:46:5
 loop-again : tie.Need-loop-again Inv-loop μ-loop
 loop-again c =
-    let line = c .before .before .before .before .before .before .before .before .before .args .line .now in
-    let start = c .before .before .before .before .before .before .before .before .before .args .words .now in
-    let l = c .before .before .before .before .before .before .loop in
+    let line = entry-before-blanks c .args .line .now in
+    let start = entry-before-blanks c .args .words .now in
+    let l = at-loop-before-blanks c .loop in
     let b = getD line (l .i) 0 in
-    let room : l .n < length (l .words) = c .before .before .before .before .if1 .left in
-    let more : l .i < length line = c .before .before .before .before .before .loop-test .taken in
+    let room : l .n < length (l .words) = else1-before-blanks c .if1 .left in
+    let more : l .i < length line = in-loop-before-blanks c .loop-test .taken in
     let joined : c .before .joined .result ≡ with-byte (getD (l .words) (l .n) 0) b = c .before .joined .ensures in
     let ended : c .blanks .result ≡ ends b = c .blanks .ensures in
     let kept = length-set (l .words) (l .n) (c .before .joined .result) in
@@ -103,35 +111,30 @@ loop-again c =
           (subst (λ (k : ℕ). Reading line start (set (l .words) (l .n) (with-byte (getD (l .words) (l .n) 0) b)) (l .n + ends b) k) (sym (add-one (l .i))) next)),
     )
 
--- src/line.rt:56:16
 add-result : tie.Need-add-result Inv-loop μ-loop
 add-result c = search needs
 
--- src/line.rt:56:9
 same-length-2 : tie.Need-same-length-2 Inv-loop μ-loop
 same-length-2 c = search needs
 
--- src/line.rt:56:9
 returns-2 : tie.Need-returns-2 Inv-loop μ-loop
 returns-2 c =
-    let a = c .before .before .before .before .before .args in
+    let a = entry-before-then2 c .args in
     let l = c .before .before .loop in
-    let zeros = c .before .before .before .before .before .pre in
+    let zeros = entry-before-then2 c .pre in
     let end = c .before .loop-test .left in (
       count-ended (a .line .now) (a .words .now) (l .words) (l .n) (l .i) zeros (l .inv .3) (l .inv .2) end (c .if2 .taken),
       line-ended (a .line .now) (a .words .now) (l .words) (l .n) (l .i) zeros (l .inv .3) end,
     )
 
--- src/line.rt:40:1
 same-length-3 : tie.Need-same-length-3 Inv-loop μ-loop
 same-length-3 c = search needs
 
--- src/line.rt:40:1
 returns-3 : tie.Need-returns-3 Inv-loop μ-loop
 returns-3 c =
-    let a = c .before .before .before .before .before .args in
+    let a = entry-before-else2 c .args in
     let l = c .before .before .loop in
-    let zeros = c .before .before .before .before .before .pre in
+    let zeros = entry-before-else2 c .pre in
     let end = c .before .loop-test .left in (
       count-full (a .line .now) (a .words .now) (l .words) (l .n) (l .i) zeros (l .inv .3) (l .inv .2) (l .inv .0) (c .if2 .left),
       line-ended (a .line .now) (a .words .now) (l .words) (l .n) (l .i) zeros (l .inv .3) end,

@@ -8,53 +8,46 @@ use Rattle.cases.proofs.replay.push_into.Tie as tie
 use Rattle.cases.proofs.replay.push_into.Reads as reads
 use Rattle.cases.proofs.replay.push_into.Lts as lts
 
--- src/replay.rt:76:45
+-- the places: what stands before each, by name
+abbrev entry-before-broker-push-arg2 : tie.After-broker-push-arg2 → tie.Start
+entry-before-broker-push-arg2 c = c .before .before .before .before
+
 slice-relend-prefix-broker-push : tie.Need-slice-relend-prefix-broker-push
 slice-relend-prefix-broker-push c = search needs
 
--- src/replay.rt:76:45
 slice-aggregate-broker-push : tie.Need-slice-aggregate-broker-push
 slice-aggregate-broker-push c =
-    let k = c .before .before .before .before .args .room in
-    let xs = c .before .before .before .before .args .list .now in
+    let k = entry-before-broker-push-arg2 c .args .room in
+    let xs = entry-before-broker-push-arg2 c .args .list .now in
     let e = length-take k xs in
-    let h = c .before .before .before .before .pre in
+    let h = entry-before-broker-push-arg2 c .pre in
     let g : k ≡ length (take k xs) = omega (arith, e, h) in
     g
 
--- src/replay.rt:76:9
 broker-push-requires : tie.Need-broker-push-requires
 broker-push-requires c κs = search needs
 
--- src/replay.rt:77:5
 show-outcome-requires : tie.Need-show-outcome-requires
 show-outcome-requires c κs = search needs
 
--- src/replay.rt:79:9
 show-records-requires : tie.Need-show-records-requires
 show-records-requires c κs = search needs
 
--- src/replay.rt:73:1
 same-length : tie.Need-same-length
 same-length c = search needs
 
--- src/replay.rt:73:1
 same-length-2 : tie.Need-same-length-2
 same-length-2 c = search needs
 
--- src/replay.rt:73:1
 returns : tie.Need-returns
 returns c = search needs
 
--- src/replay.rt:73:1
 same-length-3 : tie.Need-same-length-3
 same-length-3 c = search needs
 
--- src/replay.rt:73:1
 same-length-4 : tie.Need-same-length-4
 same-length-4 c = search needs
 
--- src/replay.rt:73:1
 returns-2 : tie.Need-returns-2
 returns-2 c = search needs
 

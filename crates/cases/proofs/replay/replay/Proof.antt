@@ -14,35 +14,27 @@ Inv-loop store₀ turns₀ store turns = 8192 ≡ length store
 abbrev μ-loop : tie.MeasureT-loop
 μ-loop store₀ turns₀ store turns = turns
 
--- src/replay.rt:27:5
 loop-holds : tie.Need-loop-holds Inv-loop μ-loop
 loop-holds c = search needs
 
--- src/replay.rt:27:36
 slice-aggregate-replay-line : tie.Need-slice-aggregate-replay-line Inv-loop μ-loop
 slice-aggregate-replay-line c = search needs
 
--- src/replay.rt:27:24
 replay-line-requires : tie.Need-replay-line-requires Inv-loop μ-loop
 replay-line-requires c κs = search needs
 
--- src/replay.rt:28:9
 sub-turns : tie.Need-sub-turns Inv-loop μ-loop
 sub-turns c = search needs
 
--- src/replay.rt:27:5
 loop-less : tie.Need-loop-less Inv-loop μ-loop
 loop-less c = search needs
 
--- src/replay.rt:27:5
 loop-again : tie.Need-loop-again Inv-loop μ-loop
 loop-again c = search needs
 
--- src/replay.rt:24:1
 returns : tie.Need-returns Inv-loop μ-loop
 returns c = search needs
 
--- src/replay.rt:24:1
 returns-2 : tie.Need-returns-2 Inv-loop μ-loop
 returns-2 c = search needs
 

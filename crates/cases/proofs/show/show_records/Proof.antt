@@ -16,39 +16,30 @@ Inv-loop list count at₀ left₀ at left = at ≤ length list
 abbrev μ-loop : tie.MeasureT-loop
 μ-loop list count at₀ left₀ at left = left
 
--- src/show.rt:65:5
 loop-holds : tie.Need-loop-holds Inv-loop μ-loop
 loop-holds c = search needs
 
--- src/show.rt:66:12
 sub-if1 : tie.Need-sub-if1 Inv-loop μ-loop
 sub-if1 c = search needs
 
--- src/show.rt:67:13
 returns : tie.Need-returns Inv-loop μ-loop
 returns c = search needs
 
--- src/show.rt:69:9
 show-record-requires : tie.Need-show-record-requires Inv-loop μ-loop
 show-record-requires c κs = search needs
 
--- src/show.rt:70:9
 add-at : tie.Need-add-at Inv-loop μ-loop
 add-at c = search needs
 
--- src/show.rt:71:9
 sub-left : tie.Need-sub-left Inv-loop μ-loop
 sub-left c = search needs
 
--- src/show.rt:65:5
 loop-less : tie.Need-loop-less Inv-loop μ-loop
 loop-less c = search needs
 
--- src/show.rt:65:5
 loop-again : tie.Need-loop-again Inv-loop μ-loop
 loop-again c = search needs
 
--- src/show.rt:62:1
 returns-2 : tie.Need-returns-2 Inv-loop μ-loop
 returns-2 c = search needs
 

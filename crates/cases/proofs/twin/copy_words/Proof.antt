@@ -17,35 +17,35 @@ Inv-loop from to₀ i₀ to i = (length to ≡ length to₀) × (i ≤ length to
 abbrev μ-loop : tie.MeasureT-loop
 μ-loop from to₀ i₀ to i = length to₀ - i
 
--- src/twin.rt:24:5
+-- the places: what stands before each, by name
+abbrev entry-before-after-loop : tie.After-loop Inv-loop μ-loop → tie.Start Inv-loop μ-loop
+entry-before-after-loop c = c .before .before .before .before
+
+abbrev entry-before-word-or-zero : tie.After-word-or-zero Inv-loop μ-loop → tie.Start Inv-loop μ-loop
+entry-before-word-or-zero c = c .before .before .before .before .before
+
 loop-holds : tie.Need-loop-holds Inv-loop μ-loop
 loop-holds c = (refl, omega arith, copied-start (c .before .before .args .from .now) (c .before .before .args .to .now))
 
--- src/twin.rt:25:17
 word-or-zero-requires : tie.Need-word-or-zero-requires Inv-loop μ-loop
 word-or-zero-requires c κs = search needs
 
--- src/twin.rt:25:9
 mul-to : tie.Need-mul-to Inv-loop μ-loop
 mul-to c = search needs
 
--- src/twin.rt:25:9
 slice-write-to : tie.Need-slice-write-to Inv-loop μ-loop
 slice-write-to c = search needs
 
--- src/twin.rt:26:9
 add-i : tie.Need-add-i Inv-loop μ-loop
 add-i c = search needs
 
--- src/twin.rt:24:5
 loop-less : tie.Need-loop-less Inv-loop μ-loop
 loop-less c = search needs
 
--- src/twin.rt:24:5
 loop-again : tie.Need-loop-again Inv-loop μ-loop
 loop-again c =
-    let from = c .before .before .before .before .before .args .from .now in
-    let start = c .before .before .before .before .before .args .to .now in
+    let from = entry-before-word-or-zero c .args .from .now in
+    let start = entry-before-word-or-zero c .args .to .now in
     let to = c .before .before .loop .to in
     let i = c .before .before .loop .i in
     let lt = c .before .loop-test .taken in
@@ -58,15 +58,13 @@ loop-again c =
           ∙ copied-next from start i below ∙ ap (λ (k : ℕ). copied from start k) (sym (add-one i)),
     )
 
--- src/twin.rt:20:1
 same-length : tie.Need-same-length Inv-loop μ-loop
 same-length c = search needs
 
--- src/twin.rt:20:1
 returns : tie.Need-returns Inv-loop μ-loop
 returns c =
-    let from = c .before .before .before .before .args .from .now in
-    let start = c .before .before .before .before .args .to .now in
+    let from = entry-before-after-loop c .args .from .now in
+    let start = entry-before-after-loop c .args .to .now in
     let i = c .before .loop .i in
     let end = c .loop-test .left in
     let long = c .before .loop .inv .0 in

@@ -8,42 +8,46 @@ use Rattle.cases.proofs.Twins.{answer-lent, after-lent, flat-lent, list
 use Rattle.cases.proofs.twin.push_twin.Statement.{statement}
 use Rattle.cases.proofs.twin.push_twin.Tie as tie
 
--- src/twin.rt:74:23
+-- the places: what stands before each, by name
+abbrev entry-before-push-listed-arg2 : tie.After-push-listed-arg2 → tie.Start
+entry-before-push-listed-arg2 c = c .before .before .before .before
+
+abbrev push-listed-before-slice-known4 : tie.After-slice-known4 → tie.After-push-listed
+push-listed-before-slice-known4 c = c .before .before .before .before
+
+abbrev entry-before-slice-known4 : tie.After-slice-known4 → tie.Start
+entry-before-slice-known4 c = entry-before-push-listed-arg2 (push-listed-before-slice-known4 c .before)
+
 slice-relend-prefix-push-listed : tie.Need-slice-relend-prefix-push-listed
 slice-relend-prefix-push-listed c = search needs
 
--- src/twin.rt:74:23
 slice-aggregate-push-listed : tie.Need-slice-aggregate-push-listed
 slice-aggregate-push-listed c =
-    let k = c .before .before .before .before .args .room in
-    let xs = c .before .before .before .before .args .flat .now in
+    let k = entry-before-push-listed-arg2 c .args .room in
+    let xs = entry-before-push-listed-arg2 c .args .flat .now in
     let e = length-take k xs in
-    let h = c .before .before .before .before .pre in
+    let h = entry-before-push-listed-arg2 c .pre in
     let g : k ≡ length (take k xs) = omega (arith, e, h) in
     g
 
--- src/twin.rt:74:5
 push-listed-requires : tie.Need-push-listed-requires
 push-listed-requires c κs = search needs
 
--- src/twin.rt:71:1
 same-length : tie.Need-same-length
 same-length c = search needs
 
--- src/twin.rt:71:1
 same-length-2 : tie.Need-same-length-2
 same-length-2 c = search needs
 
--- src/twin.rt:71:1
 returns : tie.Need-returns
 unfolding no-dispatches
 returns c =
-    let start = c .before .before .before .before .before .before .before .before .before in
+    let start = entry-before-slice-known4 c in
     let ws = start .args .twin .now in
     let flat = start .args .flat .now in
     let words = start .args .room in
     let h = start .pre in
-    let called = c .before .before .before .before .push-listed .ensures in (
+    let called = push-listed-before-slice-known4 c .push-listed .ensures in (
       answer-lent ws flat words h (called .0),
       (
         after-lent ws flat words h (called .1 .0),

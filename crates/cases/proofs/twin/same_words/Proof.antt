@@ -18,65 +18,76 @@ Inv-loop a b i₀ i = (length a ≡ length b) × (same-words a b ≡ same-left a
 abbrev μ-loop : tie.MeasureT-loop
 μ-loop a b i₀ i = length a - i
 
--- src/twin.rt:26:9
+-- the places: what stands before each, by name
+abbrev entry-before-after-loop : tie.After-loop Inv-loop μ-loop → tie.Start Inv-loop μ-loop
+entry-before-after-loop c = c .before .before .before
+
+abbrev in-loop-before-then2 : tie.Then2 Inv-loop μ-loop → tie.In-loop Inv-loop μ-loop
+in-loop-before-then2 c = c .before .before .before
+
+abbrev at-loop-before-then2 : tie.Then2 Inv-loop μ-loop → tie.At-loop Inv-loop μ-loop
+at-loop-before-then2 c = in-loop-before-then2 c .before
+
+abbrev entry-before-then2 : tie.Then2 Inv-loop μ-loop → tie.Start Inv-loop μ-loop
+entry-before-then2 c = at-loop-before-then2 c .before .before
+
+abbrev in-loop-before-else2 : tie.Else2 Inv-loop μ-loop → tie.In-loop Inv-loop μ-loop
+in-loop-before-else2 c = c .before .before .before
+
+abbrev at-loop-before-else2 : tie.Else2 Inv-loop μ-loop → tie.At-loop Inv-loop μ-loop
+at-loop-before-else2 c = in-loop-before-else2 c .before
+
+abbrev entry-before-else2 : tie.Else2 Inv-loop μ-loop → tie.Start Inv-loop μ-loop
+entry-before-else2 c = at-loop-before-else2 c .before .before
+
 returns : tie.Need-returns Inv-loop μ-loop
 returns c = sym (lengths-differ (c .before .args .a .now) (c .before .args .b .now) (c .if1 .taken))
 
--- src/twin.rt:29:5
 loop-holds : tie.Need-loop-holds Inv-loop μ-loop
 loop-holds c = (c .if1 .left, refl)
 
--- src/twin.rt:30:12
 mul-if2 : tie.Need-mul-if2 Inv-loop μ-loop
 mul-if2 c = search needs
 
--- src/twin.rt:30:12
 shared-slice-read-if2 : tie.Need-shared-slice-read-if2 Inv-loop μ-loop
 shared-slice-read-if2 c = search needs
 
--- src/twin.rt:30:20
 mul-if2-2 : tie.Need-mul-if2-2 Inv-loop μ-loop
 mul-if2-2 c = search needs
 
--- src/twin.rt:30:20
 shared-slice-read-if2-2 : tie.Need-shared-slice-read-if2-2 Inv-loop μ-loop
 shared-slice-read-if2-2 c = search needs
 
--- src/twin.rt:31:13
 returns-2 : tie.Need-returns-2 Inv-loop μ-loop
 returns-2 c =
-    let a = c .before .before .before .before .before .before .args .a .now in
-    let b = c .before .before .before .before .before .before .args .b .now in
-    let i = c .before .before .before .before .loop .i in
-    let lt = c .before .before .before .loop-test .taken in
-    let le = c .before .before .before .before .loop .inv .0 in
+    let a = entry-before-then2 c .args .a .now in
+    let b = entry-before-then2 c .args .b .now in
+    let i = at-loop-before-then2 c .loop .i in
+    let lt = in-loop-before-then2 c .loop-test .taken in
+    let le = at-loop-before-then2 c .loop .inv .0 in
     let differ = ne-eqb (getD a i 0) (getD b i 0) (c .if2 .taken) in
-    sym (c .before .before .before .before .loop .inv .1 ∙ same-next a b i lt (omega (arith, lt, le)) ∙ rw differ)
+    sym (at-loop-before-then2 c .loop .inv .1 ∙ same-next a b i lt (omega (arith, lt, le)) ∙ rw differ)
 
--- src/twin.rt:33:9
 add-i : tie.Need-add-i Inv-loop μ-loop
 add-i c = search needs
 
--- src/twin.rt:29:5
 loop-less : tie.Need-loop-less Inv-loop μ-loop
 loop-less c = search needs
 
--- src/twin.rt:29:5
 loop-again : tie.Need-loop-again Inv-loop μ-loop
 loop-again c =
-    let a = c .before .before .before .before .before .before .args .a .now in
-    let b = c .before .before .before .before .before .before .args .b .now in
-    let i = c .before .before .before .before .loop .i in
-    let lt = c .before .before .before .loop-test .taken in
-    let le = c .before .before .before .before .loop .inv .0 in
+    let a = entry-before-else2 c .args .a .now in
+    let b = entry-before-else2 c .args .b .now in
+    let i = at-loop-before-else2 c .loop .i in
+    let lt = in-loop-before-else2 c .loop-test .taken in
+    let le = at-loop-before-else2 c .loop .inv .0 in
     let same = eq-eqb (getD a i 0) (getD b i 0) (c .if2 .left) in
-    (le, c .before .before .before .before .loop .inv .1 ∙ same-next a b i lt (omega (arith, lt, le)) ∙ rw (same, add-one i))
+    (le, at-loop-before-else2 c .loop .inv .1 ∙ same-next a b i lt (omega (arith, lt, le)) ∙ rw (same, add-one i))
 
--- src/twin.rt:24:1
 returns-3 : tie.Need-returns-3 Inv-loop μ-loop
 returns-3 c =
-    let a = c .before .before .before .args .a .now in
-    let b = c .before .before .before .args .b .now in
+    let a = entry-before-after-loop c .args .a .now in
+    let b = entry-before-after-loop c .args .b .now in
     let i = c .before .loop .i in
     let le = c .before .loop .inv .0 in
     let end = c .loop-test .left in

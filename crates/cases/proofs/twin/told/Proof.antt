@@ -9,17 +9,14 @@ use Rattle.cases.proofs.twin.told.Tie as tie
 use Rattle.cases.proofs.twin.told.Reads as reads
 use Rattle.cases.proofs.twin.told.Lts as lts
 
--- src/twin.rt:69:9
 returns : tie.Need-returns
 unfolding told
 returns c = (rw (lt-ltb 0 (c .before .args .answer % 256) (c .if1 .taken)), omega arith)
 
--- src/twin.rt:72:9
 returns-2 : tie.Need-returns-2
 unfolding told
 returns-2 c = (rw (le-ltb 0 (c .before .before .args .answer % 256) (c .before .if1 .left)) (omega arith), omega arith)
 
--- src/twin.rt:65:1
 returns-3 : tie.Need-returns-3
 unfolding told
 returns-3 c = (rw (le-ltb 0 (c .before .before .args .answer % 256) (c .before .if1 .left)) (omega arith), omega arith)

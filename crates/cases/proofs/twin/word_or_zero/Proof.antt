@@ -7,19 +7,15 @@ use Rattle.cases.proofs.twin.word_or_zero.Tie as tie
 use Rattle.cases.proofs.twin.word_or_zero.Reads as reads
 use Rattle.cases.proofs.twin.word_or_zero.Lts as lts
 
--- src/twin.rt:19:16
 mul-result : tie.Need-mul-result
 mul-result c = search needs
 
--- src/twin.rt:19:16
 shared-slice-read-result : tie.Need-shared-slice-read-result
 shared-slice-read-result c = search needs
 
--- src/twin.rt:19:9
 returns : tie.Need-returns
 returns c = search needs
 
--- src/twin.rt:15:1
 returns-2 : tie.Need-returns-2
 returns-2 c = sym (List·getD-eq-default (c .before .args .words .now) 0 (c .if1 .left))
 

@@ -9,6 +9,49 @@ use Rattle.commands.proofs.Appends.{append-large, append-refused, appen
 use Rattle.commands.proofs.append.append.Statement.{statement}
 use Rattle.commands.proofs.append.append.Tie as tie
 
+-- the places: what stands before each, by name
+abbrev entry-before-find-topic-arg : tie.After-find-topic-arg → tie.Start
+entry-before-find-topic-arg c = c .before .before .before .before .before
+
+abbrev entries-before-refusal-of-append-arg : tie.After-refusal-of-append-arg → tie.After-entries
+entries-before-refusal-of-append-arg c = c .before .before .before
+
+abbrev entry-before-refusal-of-append-arg : tie.After-refusal-of-append-arg → tie.Start
+entry-before-refusal-of-append-arg c = entry-before-find-topic-arg (c .before .before)
+
+abbrev find-topic-before-then2 : tie.Then2 → tie.After-find-topic
+find-topic-before-then2 c = c .before .before .before
+
+abbrev else1-before-then2 : tie.Then2 → tie.Else1
+else1-before-then2 c = find-topic-before-then2 c .before .before .before .before
+
+abbrev entry-before-then2 : tie.Then2 → tie.Start
+entry-before-then2 c = entry-before-refusal-of-append-arg (c .before .before)
+
+abbrev find-topic-before-append-entry-arg : tie.After-append-entry-arg → tie.After-find-topic
+find-topic-before-append-entry-arg c = c .before .before .before .before
+
+abbrev entries-before-append-entry-arg : tie.After-append-entry-arg → tie.After-entries
+entries-before-append-entry-arg c = find-topic-before-append-entry-arg c .before .before
+
+abbrev entry-before-append-entry-arg : tie.After-append-entry-arg → tie.Start
+entry-before-append-entry-arg c = entry-before-find-topic-arg (find-topic-before-append-entry-arg c .before)
+
+abbrev else2-before-slice-known2 : tie.After-slice-known2 → tie.Else2
+else2-before-slice-known2 c = c .before .before .before .before
+
+abbrev refusal-of-append-before-slice-known2 : tie.After-slice-known2 → tie.After-refusal-of-append
+refusal-of-append-before-slice-known2 c = else2-before-slice-known2 c .before
+
+abbrev find-topic-before-slice-known2 : tie.After-slice-known2 → tie.After-find-topic
+find-topic-before-slice-known2 c = refusal-of-append-before-slice-known2 c .before .before
+
+abbrev else1-before-slice-known2 : tie.After-slice-known2 → tie.Else1
+else1-before-slice-known2 c = find-topic-before-slice-known2 c .before .before .before .before
+
+abbrev entry-before-slice-known2 : tie.After-slice-known2 → tie.Start
+entry-before-slice-known2 c = else1-before-slice-known2 c .before .before
+
 returns : tie.Need-returns
 returns c =
     let a = c .before .before .args in
@@ -18,29 +61,29 @@ entries-requires : tie.Need-entries-requires
 entries-requires c κs = search needs
 
 find-topic-requires : tie.Need-find-topic-requires
-find-topic-requires c κs = canon-of (c .before .entries .result) (c .before .before .before .before .before .args .store .now) (c .before .before .before .before .before .pre) (c .before .entries .ensures)
+find-topic-requires c κs = canon-of (c .before .entries .result) (entry-before-find-topic-arg c .args .store .now) (entry-before-find-topic-arg c .pre) (c .before .entries .ensures)
 
 refusal-of-append-requires : tie.Need-refusal-of-append-requires
-refusal-of-append-requires c κs = canon-of (c .before .before .before .entries .result) (c .before .before .before .before .before .before .before .args .store .now) (c .before .before .before .before .before .before .before .pre) (c .before .before .before .entries .ensures)
+refusal-of-append-requires c κs = canon-of (entries-before-refusal-of-append-arg c .entries .result) (entry-before-refusal-of-append-arg c .args .store .now) (entry-before-refusal-of-append-arg c .pre) (entries-before-refusal-of-append-arg c .entries .ensures)
 
 same-length : tie.Need-same-length
 same-length c = search needs
 
 returns-2 : tie.Need-returns-2
 returns-2 c =
-    let a = c .before .before .before .before .before .before .before .before .before .args in
-    let h = c .before .before .before .before .before .before .before .before .before .pre in
-    let small = c .before .before .before .before .before .before .before .if1 .left in
+    let a = entry-before-then2 c .args in
+    let h = entry-before-then2 c .pre in
+    let small = else1-before-then2 c .if1 .left in
     refused-with (a .store .now) _ h
-    (append-refused (decode (a .store .now)) (c .before .before .before .find-topic .result) (a .topic) (c .before .before .before .find-topic .ensures) (message-of (a .ledger) (a .entry) (a .handle) (a .batch)) (c .before .refusal-of-append .result)
+    (append-refused (decode (a .store .now)) (find-topic-before-then2 c .find-topic .result) (a .topic) (find-topic-before-then2 c .find-topic .ensures) (message-of (a .ledger) (a .entry) (a .handle) (a .batch)) (c .before .refusal-of-append .result)
     (valid-now (a .store .now) h .E-from) (omega arith) (c .before .refusal-of-append .ensures) (c .if2 .taken))
 
 append-entry-requires : tie.Need-append-entry-requires
 append-entry-requires c κs =
     record {
-      spelt = c .before .before .before .before .before .before .before .before .before .before .pre;
-      E = c .before .before .before .before .before .before .entries .ensures;
-      found = c .before .before .before .before .find-topic .ensures;
+      spelt = entry-before-append-entry-arg c .pre;
+      E = entries-before-append-entry-arg c .entries .ensures;
+      found = find-topic-before-append-entry-arg c .find-topic .ensures;
       free = sym (c .before .before .refusal-of-append .ensures) ∙ c .before .if2 .left;
     }
 
@@ -49,12 +92,12 @@ same-length-2 c = search needs
 
 returns-3 : tie.Need-returns-3
 returns-3 c =
-    let a = c .before .before .before .before .before .before .before .before .before .before .before .before .before .args in
-    let h = c .before .before .before .before .before .before .before .before .before .before .before .before .before .pre in
-    let small = c .before .before .before .before .before .before .before .before .before .before .before .if1 .left in
+    let a = entry-before-slice-known2 c .args in
+    let h = entry-before-slice-known2 c .pre in
+    let small = else1-before-slice-known2 c .if1 .left in
     done-with-nothing (a .store .now) _ h
-    (append-done (decode (a .store .now)) (c .before .before .before .before .before .before .before .find-topic .result) (a .topic) (c .before .before .before .before .before .before .before .find-topic .ensures) (message-of (a .ledger) (a .entry) (a .handle) (a .batch))
-    (valid-now (a .store .now) h .E-from) (omega arith) (sym (c .before .before .before .before .before .refusal-of-append .ensures) ∙ c .before .before .before .before .if2 .left))
+    (append-done (decode (a .store .now)) (find-topic-before-slice-known2 c .find-topic .result) (a .topic) (find-topic-before-slice-known2 c .find-topic .ensures) (message-of (a .ledger) (a .entry) (a .handle) (a .batch))
+    (valid-now (a .store .now) h .E-from) (omega arith) (sym (refusal-of-append-before-slice-known2 c .refusal-of-append .ensures) ∙ else2-before-slice-known2 c .if2 .left))
     (c .before .before .append-entry .ensures)
 
 pub append-spec : {M : Type 1} → statement M

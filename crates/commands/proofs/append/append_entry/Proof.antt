@@ -8,6 +8,31 @@ use Rattle.commands.proofs.Appends.{slot-below, made-in, messaged-in, a
 use Rattle.commands.proofs.append.append_entry.Statement.{statement}
 use Rattle.commands.proofs.append.append_entry.Tie as tie
 
+-- the places: what stands before each, by name
+abbrev make-topic-before-append-message-arg : tie.After-append-message-arg → tie.After-make-topic
+make-topic-before-append-message-arg c = c .before .before .before
+
+abbrev entry-before-append-message-arg : tie.After-append-message-arg → tie.Start
+entry-before-append-message-arg c = make-topic-before-append-message-arg c .before .before .before
+
+abbrev append-message-before-new-entries-arg : tie.After-new-entries-arg → tie.After-append-message
+append-message-before-new-entries-arg c = c .before .before .before
+
+abbrev make-topic-before-new-entries-arg : tie.After-new-entries-arg → tie.After-make-topic
+make-topic-before-new-entries-arg c = make-topic-before-append-message-arg (append-message-before-new-entries-arg c .before)
+
+abbrev entry-before-new-entries-arg : tie.After-new-entries-arg → tie.Start
+entry-before-new-entries-arg c = entry-before-append-message-arg (append-message-before-new-entries-arg c .before)
+
+abbrev append-message-before-slice-known4 : tie.After-slice-known4 → tie.After-append-message
+append-message-before-slice-known4 c = append-message-before-new-entries-arg (c .before .before .before)
+
+abbrev make-topic-before-slice-known4 : tie.After-slice-known4 → tie.After-make-topic
+make-topic-before-slice-known4 c = make-topic-before-append-message-arg (append-message-before-slice-known4 c .before)
+
+abbrev entry-before-slice-known4 : tie.After-slice-known4 → tie.Start
+entry-before-slice-known4 c = entry-before-append-message-arg (append-message-before-slice-known4 c .before)
+
 -- the store is spelt as it should be
 canon : (c : tie.Start) → Canon-store (c .args .e) (c .args .store .now)
 canon c = canon-of (c .args .e) (c .args .store .now) (c .pre .spelt) (c .pre .E)
@@ -21,26 +46,26 @@ make-topic-requires c κs =
 
 append-message-requires : tie.Need-append-message-requires
 append-message-requires c κs =
-    let a = c .before .before .before .before .before .before .args in
-    let p = c .before .before .before .before .before .before .pre in
-    made-in (a .t) (a .topic) (canon (c .before .before .before .before .before .before)) (p .found) (id-of (a .ledger) (a .entry)) (p .free) (c .before .before .before .make-topic .ensures)
+    let a = entry-before-append-message-arg c .args in
+    let p = entry-before-append-message-arg c .pre in
+    made-in (a .t) (a .topic) (canon (entry-before-append-message-arg c)) (p .found) (id-of (a .ledger) (a .entry)) (p .free) (make-topic-before-append-message-arg c .make-topic .ensures)
 
 new-entries-requires : tie.Need-new-entries-requires
 new-entries-requires c κs =
-    let a = c .before .before .before .before .before .before .before .before .before .before .args in
-    let p = c .before .before .before .before .before .before .before .before .before .before .pre in
-    messaged-in (a .t) (a .topic) (canon (c .before .before .before .before .before .before .before .before .before .before)) (p .found) (id-of (a .ledger) (a .entry)) (p .free) (c .before .before .before .before .before .before .before .make-topic .ensures)
-    (message-of (a .ledger) (a .entry) (a .handle) (a .batch)) (c .before .before .before .append-message .ensures) (valid-now (a .store .now) (p .spelt))
+    let a = entry-before-new-entries-arg c .args in
+    let p = entry-before-new-entries-arg c .pre in
+    messaged-in (a .t) (a .topic) (canon (entry-before-new-entries-arg c)) (p .found) (id-of (a .ledger) (a .entry)) (p .free) (make-topic-before-new-entries-arg c .make-topic .ensures)
+    (message-of (a .ledger) (a .entry) (a .handle) (a .batch)) (append-message-before-new-entries-arg c .append-message .ensures) (valid-now (a .store .now) (p .spelt))
 
 same-length : tie.Need-same-length
 same-length c = search needs
 
 returns : tie.Need-returns
 returns c =
-    let a = c .before .before .before .before .before .before .before .before .before .before .before .before .before .args in
-    let p = c .before .before .before .before .before .before .before .before .before .before .before .before .before .pre in
-    appended-all (a .t) (a .topic) (canon (c .before .before .before .before .before .before .before .before .before .before .before .before .before)) (p .found) (id-of (a .ledger) (a .entry)) (p .free) (c .before .before .before .before .before .before .before .before .before .before .make-topic .ensures)
-    (message-of (a .ledger) (a .entry) (a .handle) (a .batch)) (c .before .before .before .before .before .before .append-message .ensures) (c .before .before .new-entries .ensures)
+    let a = entry-before-slice-known4 c .args in
+    let p = entry-before-slice-known4 c .pre in
+    appended-all (a .t) (a .topic) (canon (entry-before-slice-known4 c)) (p .found) (id-of (a .ledger) (a .entry)) (p .free) (make-topic-before-slice-known4 c .make-topic .ensures)
+    (message-of (a .ledger) (a .entry) (a .handle) (a .batch)) (append-message-before-slice-known4 c .append-message .ensures) (c .before .before .new-entries .ensures)
 
 pub append-entry-spec : {M : Type 1} → statement M
 append-entry-spec =

@@ -10,9 +10,28 @@ use borrow.Author.Needs.{needs}
 use Rattle.commands.proofs.consumer.clear_nacked.Statement.{statement}
 use Rattle.commands.proofs.consumer.clear_nacked.Tie as tie
 
+-- the places: what stands before each, by name
+abbrev entry-before-word : tie.After-word → tie.Start
+entry-before-word c = c .before .before .before .before
+
+abbrev consumer-at-before-clear-words-arg : tie.After-clear-words-arg → tie.After-consumer-at
+consumer-at-before-clear-words-arg c = c .before .before .before
+
+abbrev entry-before-clear-words-arg : tie.After-clear-words-arg → tie.Start
+entry-before-clear-words-arg c = entry-before-word (c .before)
+
+abbrev word-before-slice-known2 : tie.After-slice-known2 → tie.After-word
+word-before-slice-known2 c = c .before .before .before .before
+
+abbrev consumer-at-before-slice-known2 : tie.After-slice-known2 → tie.After-consumer-at
+consumer-at-before-slice-known2 c = word-before-slice-known2 c .before .before
+
+abbrev entry-before-slice-known2 : tie.After-slice-known2 → tie.Start
+entry-before-slice-known2 c = entry-before-word (word-before-slice-known2 c)
+
 -- the count is the number of nacked positions
-counted : (c : tie.After-word) → c .word .result ≡ length (consumer-nth (decode (c .before .before .before .before .args .store .now)) (c .before .before .before .before .args .i) .nacked)
-counted c = c .word .ensures ∙ rw (c .before .before .consumer-at .ensures) (read-nacked-count (c .before .before .before .before .pre .canon) (c .before .before .before .before .args .i) (c .before .before .before .before .pre .there))
+counted : (c : tie.After-word) → c .word .result ≡ length (consumer-nth (decode (entry-before-word c .args .store .now)) (entry-before-word c .args .i) .nacked)
+counted c = c .word .ensures ∙ rw (c .before .before .consumer-at .ensures, entry-before-word) (read-nacked-count (entry-before-word c .pre .canon) (entry-before-word c .args .i) (entry-before-word c .pre .there))
 
 consumer-at-requires : tie.Need-consumer-at-requires
 consumer-at-requires c κs = search needs
@@ -32,18 +51,18 @@ add-clear-words-2 c = search needs
 add-clear-words-3 : tie.Need-add-clear-words-3
 add-clear-words-3 c =
     let n = counted (c .before) in
-    let f = c .before .before .before .before .before .pre .nacked-fit in
-    let i = c .before .before .before .before .before .pre .inside in
-    let a = c .before .before .before .consumer-at .ensures in
+    let f = entry-before-clear-words-arg c .pre .nacked-fit in
+    let i = entry-before-clear-words-arg c .pre .inside in
+    let a = consumer-at-before-clear-words-arg c .consumer-at .ensures in
     omega arith
 
 clear-words-requires : tie.Need-clear-words-requires
 clear-words-requires c κs =
     let n = counted (c .before) in
-    let f = c .before .before .before .before .before .pre .nacked-fit in
-    let i = c .before .before .before .before .before .pre .inside in
-    let a = c .before .before .before .consumer-at .ensures in
-    let l = c .before .before .before .before .before .pre .canon .long in
+    let f = entry-before-clear-words-arg c .pre .nacked-fit in
+    let i = entry-before-clear-words-arg c .pre .inside in
+    let a = consumer-at-before-clear-words-arg c .consumer-at .ensures in
+    let l = entry-before-clear-words-arg c .pre .canon .long in
     (omega arith, omega arith)
 
 add-store : tie.Need-add-store
@@ -59,7 +78,7 @@ same-length : tie.Need-same-length
 same-length c = search needs
 
 returns : tie.Need-returns
-returns c = cleared-nacked (c .before .before .before .before .before .before .before .before .args .i) (c .before .before .before .before .before .before .consumer-at .result) (c .before .before .before .before .word .result) (c .before .before .before .before .before .before .before .before .pre) (c .before .before .before .before .before .before .consumer-at .ensures) (counted (c .before .before .before .before)) (c .before .before .clear-words .ensures)
+returns c = cleared-nacked (entry-before-slice-known2 c .args .i) (consumer-at-before-slice-known2 c .consumer-at .result) (word-before-slice-known2 c .word .result) (entry-before-slice-known2 c .pre) (consumer-at-before-slice-known2 c .consumer-at .ensures) (counted (word-before-slice-known2 c)) (c .before .before .clear-words .ensures)
 
 pub clear-nacked-spec : {M : Type 1} → statement M
 clear-nacked-spec =

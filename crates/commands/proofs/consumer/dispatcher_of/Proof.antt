@@ -11,6 +11,13 @@ use borrow.Author.Needs.{needs}
 use Rattle.commands.proofs.consumer.dispatcher_of.Statement.{statement}
 use Rattle.commands.proofs.consumer.dispatcher_of.Tie as tie
 
+-- the places: what stands before each, by name
+abbrev consumer-at-before-find-dispatcher : tie.After-find-dispatcher → tie.After-consumer-at
+consumer-at-before-find-dispatcher c = c .before .before .before
+
+abbrev entry-before-find-dispatcher : tie.After-find-dispatcher → tie.Start
+entry-before-find-dispatcher c = consumer-at-before-find-dispatcher c .before .before
+
 -- the pair of two numbers
 abbrev pair-of : ℕ → ℕ → Pair
 pair-of topic subscription = record { topic = topic; subscription = subscription }
@@ -41,12 +48,12 @@ find-dispatcher-requires c κs = search needs
 
 returns : tie.Need-returns
 returns c =
-    let ws = c .before .before .before .before .before .args .store .now in
-    let p = c .before .before .before .before .before .pre in
-    let at = c .before .before .before .consumer-at .result in
-    let pair : pair-of (getD ws (at + 1) 0) (getD ws (at + 2) 0) ≡ consumer-nth (decode ws) (c .before .before .before .before .before .args .i) .pair =
-    rw (c .before .before .before .consumer-at .ensures)
-    (ap₂ pair-of (read-consumer-topic (p .canon) (c .before .before .before .before .before .args .i) (p .there)) (read-consumer-subscription (p .canon) (c .before .before .before .before .before .args .i) (p .there))) in
+    let ws = entry-before-find-dispatcher c .args .store .now in
+    let p = entry-before-find-dispatcher c .pre in
+    let at = consumer-at-before-find-dispatcher c .consumer-at .result in
+    let pair : pair-of (getD ws (at + 1) 0) (getD ws (at + 2) 0) ≡ consumer-nth (decode ws) (entry-before-find-dispatcher c .args .i) .pair =
+    rw (consumer-at-before-find-dispatcher c .consumer-at .ensures, entry-before-find-dispatcher)
+    (ap₂ pair-of (read-consumer-topic (p .canon) (entry-before-find-dispatcher c .args .i) (p .there)) (read-consumer-subscription (p .canon) (entry-before-find-dispatcher c .args .i) (p .there))) in
     c .find-dispatcher .ensures ∙ ap (λ (q : Pair). slot by-pair q (decode ws .dispatchers)) pair
 
 pub dispatcher-of-spec : {M : Type 1} → statement M

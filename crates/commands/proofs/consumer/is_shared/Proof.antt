@@ -8,6 +8,10 @@ use borrow.Author.Needs.{needs}
 use Rattle.commands.proofs.consumer.is_shared.Statement.{statement}
 use Rattle.commands.proofs.consumer.is_shared.Tie as tie
 
+-- the places: what stands before each, by name
+abbrev entry-before-shared-slice-known2 : tie.After-shared-slice-known2 → tie.Start
+entry-before-shared-slice-known2 c = c .before .before .before
+
 consumer-at-requires : tie.Need-consumer-at-requires
 consumer-at-requires c κs = search needs
 
@@ -23,7 +27,7 @@ shared-slice-read-result c = search needs
 returns : tie.Need-returns
 returns c =
     rw (c .before .consumer-at .ensures)
-    (ap (λ (w : ℕ). eqb w 1) (read-consumer-kind (c .before .before .before .pre .canon) (c .before .before .before .args .i) (c .before .before .before .pre .there)) ∙ bit-set _)
+    (ap (λ (w : ℕ). eqb w 1) (read-consumer-kind (entry-before-shared-slice-known2 c .pre .canon) (entry-before-shared-slice-known2 c .args .i) (entry-before-shared-slice-known2 c .pre .there)) ∙ bit-set _)
 
 pub is-shared-spec : {M : Type 1} → statement M
 is-shared-spec =

@@ -29,95 +29,108 @@ Inv-loop store e d n first sum₀ j₀ sum j =
 abbrev μ-loop : tie.MeasureT-loop
 μ-loop store e d n first sum₀ j₀ sum j = n - j
 
--- src/balance.rt:56:9
+-- the places: what stands before each, by name
+abbrev ring-count-before-in-loop : tie.In-loop Inv-loop μ-loop → tie.After-ring-count Inv-loop μ-loop
+ring-count-before-in-loop c = c .before .before .before
+
+abbrev entry-before-in-loop : tie.In-loop Inv-loop μ-loop → tie.Start Inv-loop μ-loop
+entry-before-in-loop c = ring-count-before-in-loop c .before .before
+
+abbrev ring-count-before-after-loop : tie.After-loop Inv-loop μ-loop → tie.After-ring-count Inv-loop μ-loop
+ring-count-before-after-loop c = c .before .before .before
+
+abbrev entry-before-after-loop : tie.After-loop Inv-loop μ-loop → tie.Start Inv-loop μ-loop
+entry-before-after-loop c = ring-count-before-after-loop c .before .before
+
+abbrev entry-before-shared-slice-known2 : tie.After-shared-slice-known2 Inv-loop μ-loop → tie.Start Inv-loop μ-loop
+entry-before-shared-slice-known2 c = entry-before-in-loop (c .before)
+
+abbrev at-loop-before-add-permits : tie.After-add-permits Inv-loop μ-loop → tie.At-loop Inv-loop μ-loop
+at-loop-before-add-permits c = c .before .before .before
+
+abbrev dispatcher-at-before-add-permits : tie.After-add-permits Inv-loop μ-loop → tie.After-dispatcher-at Inv-loop μ-loop
+dispatcher-at-before-add-permits c = at-loop-before-add-permits c .before
+
+abbrev entry-before-add-permits : tie.After-add-permits Inv-loop μ-loop → tie.Start Inv-loop μ-loop
+entry-before-add-permits c = entry-before-shared-slice-known2 (c .before)
+
 ring-count-requires : tie.Need-ring-count-requires Inv-loop μ-loop
 ring-count-requires c κs = search needs
 
--- src/balance.rt:57:17
 dispatcher-at-requires : tie.Need-dispatcher-at-requires Inv-loop μ-loop
 dispatcher-at-requires c κs = search needs
 
--- src/balance.rt:57:17
 add-first : tie.Need-add-first Inv-loop μ-loop
 add-first c = search needs
 
--- src/balance.rt:60:5
 loop-holds : tie.Need-loop-holds Inv-loop μ-loop
 unfolding balance-check
 loop-holds c = (search needs, refl, record { from = omega arith; to = omega arith })
 
 -- the place of a turn is one of the ring's, of which there are at most 32
-here : (c : tie.In-loop Inv-loop μ-loop) → c .before .loop .j < length (dispatcher-nth (decode (c .before .before .before .before .before .args .store .now)) (c .before .before .before .before .before .args .d) .attached)
-here c = let n = c .before .before .before .ring-count .ensures in omega arith
+here : (c : tie.In-loop Inv-loop μ-loop) → c .before .loop .j < length (dispatcher-nth (decode (entry-before-in-loop c .args .store .now)) (entry-before-in-loop c .args .d) .attached)
+here c = let n = ring-count-before-in-loop c .ring-count .ensures in omega arith
 
 few : (c : tie.In-loop Inv-loop μ-loop) → c .before .loop .j < 32
-few c = let h = here c in let f = c .before .before .before .before .before .pre .0 .lists-fit .ring-fits in omega arith
+few c = let h = here c in let f = entry-before-in-loop c .pre .0 .lists-fit .ring-fits in omega arith
 
 -- its word lies in the store
-inside : (c : tie.In-loop Inv-loop μ-loop) → c .before .before .dispatcher-at .result + 12 + c .before .loop .j + 1 ≤ length (c .before .before .before .before .before .args .store .now)
+inside : (c : tie.In-loop Inv-loop μ-loop) → c .before .before .dispatcher-at .result + 12 + c .before .loop .j + 1 ≤ length (entry-before-in-loop c .args .store .now)
 inside c =
     let h = few c in
     let a = c .before .before .dispatcher-at .ensures in
-    let i = c .before .before .before .before .before .pre .0 .inside in
-    let l = c .before .before .before .before .before .pre .0 .canon .long in
+    let i = entry-before-in-loop c .pre .0 .inside in
+    let l = entry-before-in-loop c .pre .0 .canon .long in
     omega arith
 
 -- the consumer of a turn is the ring's
 added : (c : tie.After-add-permits Inv-loop μ-loop) → c .add-permits .result
-    ≡ add-permits (dispatcher-nth (decode (c .before .before .before .before .before .before .before .args .store .now)) (c .before .before .before .before .before .before .before .args .d) .pair) (c .before .before .before .loop .sum) (consumer-of (decode (c .before .before .before .before .before .before .before .args .store .now)) (getD (dispatcher-nth (decode (c .before .before .before .before .before .before .before .args .store .now)) (c .before .before .before .before .before .before .before .args .d) .attached) (c .before .before .before .loop .j) 0))
+    ≡ add-permits (dispatcher-nth (decode (entry-before-add-permits c .args .store .now)) (entry-before-add-permits c .args .d) .pair) (at-loop-before-add-permits c .loop .sum) (consumer-of (decode (entry-before-add-permits c .args .store .now)) (getD (dispatcher-nth (decode (entry-before-add-permits c .args .store .now)) (entry-before-add-permits c .args .d) .attached) (at-loop-before-add-permits c .loop .j) 0))
 added c =
-    let ws = c .before .before .before .before .before .before .before .args .store .now in
-    let d = c .before .before .before .before .before .before .before .args .d in
+    let ws = entry-before-add-permits c .args .store .now in
+    let d = entry-before-add-permits c .args .d in
     c .add-permits .ensures
-    ∙ ap (λ (x : ℕ). add-permits (dispatcher-nth (decode ws) d .pair) (c .before .before .before .loop .sum) (consumer-of (decode ws) x))
-    (ring-here d (c .before .before .before .before .dispatcher-at .result) (c .before .before .before .before .before .before .before .pre .0) (c .before .before .before .before .dispatcher-at .ensures) (c .before .before .before .loop .j) (here (c .before .before)))
+    ∙ ap (λ (x : ℕ). add-permits (dispatcher-nth (decode ws) d .pair) (at-loop-before-add-permits c .loop .sum) (consumer-of (decode ws) x))
+    (ring-here d (dispatcher-at-before-add-permits c .dispatcher-at .result) (entry-before-add-permits c .pre .0) (dispatcher-at-before-add-permits c .dispatcher-at .ensures) (at-loop-before-add-permits c .loop .j) (here (c .before .before)))
 
--- src/balance.rt:61:46
 add-add-permits : tie.Need-add-add-permits Inv-loop μ-loop
 add-add-permits c = let k = inside c in omega arith
 
--- src/balance.rt:61:40
 mul-add-permits : tie.Need-mul-add-permits Inv-loop μ-loop
-mul-add-permits c = let k = few c in let a = c .before .before .dispatcher-at .ensures in let t = c .before .before .before .before .before .pre .0 .canon .E-to in let f = c .before .before .before .before .before .pre .0 .few in search needs
+mul-add-permits c = let k = few c in let a = c .before .before .dispatcher-at .ensures in let t = entry-before-in-loop c .pre .0 .canon .E-to in let f = entry-before-in-loop c .pre .0 .few in search needs
 
--- src/balance.rt:61:40
 shared-slice-read-add-permits : tie.Need-shared-slice-read-add-permits Inv-loop μ-loop
 shared-slice-read-add-permits c = let k = inside (c .before) in omega arith
 
--- src/balance.rt:61:9
 add-permits-requires : tie.Need-add-permits-requires Inv-loop μ-loop
 add-permits-requires c κs =
     let f = few (c .before) in
     let x = c .before .before .loop .inv .2 .from in
     let y = c .before .before .loop .inv .2 .to in
-    (c .before .before .before .before .before .before .pre .0, c .before .before .before .before .before .before .pre .1, omega arith, omega arith)
+    (entry-before-shared-slice-known2 c .pre .0, entry-before-shared-slice-known2 c .pre .1, omega arith, omega arith)
 
--- src/balance.rt:62:9
 add-j : tie.Need-add-j Inv-loop μ-loop
 add-j c = search needs
 
--- src/balance.rt:60:5
 loop-less : tie.Need-loop-less Inv-loop μ-loop
 loop-less c = search needs
 
--- src/balance.rt:60:5
 loop-again : tie.Need-loop-again Inv-loop μ-loop
 loop-again c =
-    let s = decode (c .before .before .before .before .before .before .before .args .store .now) in
-    let d = dispatcher-nth s (c .before .before .before .before .before .before .before .args .d) in
-    let j = c .before .before .before .loop .j in
+    let s = decode (entry-before-add-permits c .args .store .now) in
+    let d = dispatcher-nth s (entry-before-add-permits c .args .d) in
+    let j = at-loop-before-add-permits c .loop .j in
     let id = getD (d .attached) j 0 in (
       search needs,
-      rw (added c) (sym (sum-on s (d .pair) (c .before .before .before .loop .sum) (d .attached) j (here (c .before .before))) ∙ c .before .before .before .loop .inv .1),
-      rw (added c) (range-on (d .pair) (c .before .before .before .loop .sum) j (consumer-of s id) (λ x q. found-range s id x (valid-now (c .before .before .before .before .before .before .before .args .store .now) (c .before .before .before .before .before .before .before .pre .1)) q) (few (c .before .before)) (c .before .before .before .loop .inv .2)),
+      rw (added c) (sym (sum-on s (d .pair) (at-loop-before-add-permits c .loop .sum) (d .attached) j (here (c .before .before))) ∙ at-loop-before-add-permits c .loop .inv .1),
+      rw (added c) (range-on (d .pair) (at-loop-before-add-permits c .loop .sum) j (consumer-of s id) (λ x q. found-range s id x (valid-now (entry-before-add-permits c .args .store .now) (entry-before-add-permits c .pre .1)) q) (few (c .before .before)) (at-loop-before-add-permits c .loop .inv .2)),
     )
 
--- src/balance.rt:52:1
 returns : tie.Need-returns Inv-loop μ-loop
 returns c =
-    let s = decode (c .before .before .before .before .before .args .store .now) in
-    let d = dispatcher-nth s (c .before .before .before .before .before .args .d) in
-    let n = c .before .before .before .ring-count .ensures in
+    let s = decode (entry-before-after-loop c .args .store .now) in
+    let d = dispatcher-nth s (entry-before-after-loop c .args .d) in
+    let n = ring-count-before-after-loop c .ring-count .ensures in
     sum-end s (d .pair) (c .before .loop .sum) (d .attached) (c .before .loop .j) (omega arith) ∙ c .before .loop .inv .1
 
 pub balance-check-spec : {M : Type 1} → statement M

@@ -14,35 +14,42 @@ use Rattle.dispatcher.proofs.head.load_head.Reads as load-head-reads
 use Rattle.dispatcher.proofs.head.save_head.Reads as save-head-reads
 use Rattle.heads.proofs.advance_from.Reads as advance-from-reads
 
--- src/completion.rt:76:9
+-- the places: what stands before each, by name
+abbrev advance-from-before-slice-known2 : tie.After-slice-known2 → tie.After-advance-from
+advance-from-before-slice-known2 c = c .before .before .before
+
+abbrev first-incomplete-before-slice-known2 : tie.After-slice-known2 → tie.After-first-incomplete
+first-incomplete-before-slice-known2 c = advance-from-before-slice-known2 c .before .before
+
+abbrev load-head-before-slice-known2 : tie.After-slice-known2 → tie.After-load-head
+load-head-before-slice-known2 c = first-incomplete-before-slice-known2 c .before .before
+
+abbrev entry-before-slice-known2 : tie.After-slice-known2 → tie.Start
+entry-before-slice-known2 c = load-head-before-slice-known2 c .before .before .before
+
 load-head-requires : tie.Need-load-head-requires
 load-head-requires c κs = search needs
 
--- src/completion.rt:77:9
 first-incomplete-requires : tie.Need-first-incomplete-requires
 first-incomplete-requires c κs = search needs
 
--- src/completion.rt:78:28
 advance-from-requires : tie.Need-advance-from-requires
 advance-from-requires c κs = search needs
 
--- src/completion.rt:78:5
 save-head-requires : tie.Need-save-head-requires
 save-head-requires c κs = search needs
 
--- src/completion.rt:72:1
 same-length : tie.Need-same-length
 same-length c = search needs
 
--- src/completion.rt:72:1
 returns : tie.Need-returns
 returns c =
-    let ws = c .before .before .before .before .before .before .before .before .before .before .args .store .now in
-    let d = c .before .before .before .before .before .before .before .before .before .before .args .d in
+    let ws = entry-before-slice-known2 c .args .store .now in
+    let d = entry-before-slice-known2 c .args .d in
     c .before .before .save-head .ensures
     ∙ ap (λ (y : Dispatcher). put ws (set-dispatcher (decode ws) d y))
-    (advanced-there (dispatcher-nth (decode ws) d) (c .before .before .before .before .before .before .before .load-head .result) (c .before .before .before .advance-from .result) (c .before .before .before .before .before .first-incomplete .result)
-    (c .before .before .before .before .before .before .before .load-head .ensures) (c .before .before .before .before .before .first-incomplete .ensures) (c .before .before .before .advance-from .ensures))
+    (advanced-there (dispatcher-nth (decode ws) d) (load-head-before-slice-known2 c .load-head .result) (advance-from-before-slice-known2 c .advance-from .result) (first-incomplete-before-slice-known2 c .first-incomplete .result)
+    (load-head-before-slice-known2 c .load-head .ensures) (first-incomplete-before-slice-known2 c .first-incomplete .ensures) (advance-from-before-slice-known2 c .advance-from .ensures))
 
 pub advance-mark-delete-spec : {M : Type 1} → statement M
 advance-mark-delete-spec =

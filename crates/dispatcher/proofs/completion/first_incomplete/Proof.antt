@@ -24,54 +24,71 @@ Inv-loop store e d from n k₀ k = from + leading-complete (drop from (dispatche
 abbrev μ-loop : tie.MeasureT-loop
 μ-loop store e d from n k₀ k = n - k
 
--- src/completion.rt:59:9
+-- the places: what stands before each, by name
+abbrev entry-before-in-loop : tie.In-loop Inv-loop μ-loop → tie.Start Inv-loop μ-loop
+entry-before-in-loop c = c .before .before .before .before
+
+abbrev entry-before-after-loop : tie.After-loop Inv-loop μ-loop → tie.Start Inv-loop μ-loop
+entry-before-after-loop c = c .before .before .before .before
+
+abbrev at-loop-before-then1 : tie.Then1 Inv-loop μ-loop → tie.At-loop Inv-loop μ-loop
+at-loop-before-then1 c = c .before .before .before
+
+abbrev mark-count-before-then1 : tie.Then1 Inv-loop μ-loop → tie.After-mark-count Inv-loop μ-loop
+mark-count-before-then1 c = at-loop-before-then1 c .before
+
+abbrev entry-before-then1 : tie.Then1 Inv-loop μ-loop → tie.Start Inv-loop μ-loop
+entry-before-then1 c = entry-before-in-loop (c .before .before)
+
+abbrev at-loop-before-else1 : tie.Else1 Inv-loop μ-loop → tie.At-loop Inv-loop μ-loop
+at-loop-before-else1 c = c .before .before .before
+
+abbrev mark-count-before-else1 : tie.Else1 Inv-loop μ-loop → tie.After-mark-count Inv-loop μ-loop
+mark-count-before-else1 c = at-loop-before-else1 c .before
+
+abbrev entry-before-else1 : tie.Else1 Inv-loop μ-loop → tie.Start Inv-loop μ-loop
+entry-before-else1 c = entry-before-in-loop (c .before .before)
+
 mark-count-requires : tie.Need-mark-count-requires Inv-loop μ-loop
 mark-count-requires c κs = search needs
 
--- src/completion.rt:61:5
 loop-holds : tie.Need-loop-holds Inv-loop μ-loop
 loop-holds c = refl
 
--- src/completion.rt:62:13
 is-complete-requires : tie.Need-is-complete-requires Inv-loop μ-loop
-is-complete-requires c κs = (c .before .before .before .before .pre, let n = c .before .before .mark-count .ensures in omega arith)
+is-complete-requires c κs = (entry-before-in-loop c .pre, let n = c .before .before .mark-count .ensures in omega arith)
 
 -- the entry is not complete
-incomplete : (c : tie.Then1 Inv-loop μ-loop) → getD (dispatcher-nth (decode (c .before .before .before .before .before .before .args .store .now)) (c .before .before .before .before .before .before .args .d) .marks) (c .before .before .before .loop .k) new-mark .acked .complete ≡ false
+incomplete : (c : tie.Then1 Inv-loop μ-loop) → getD (dispatcher-nth (decode (entry-before-then1 c .args .store .now)) (entry-before-then1 c .args .d) .marks) (at-loop-before-then1 c .loop .k) new-mark .acked .complete ≡ false
 unfolding complete-at mark-at
 incomplete c = sym (c .before .is-complete .ensures) ∙ not-true _ (c .if1 .taken)
 
 -- or it is
-complete : (c : tie.Else1 Inv-loop μ-loop) → getD (dispatcher-nth (decode (c .before .before .before .before .before .before .args .store .now)) (c .before .before .before .before .before .before .args .d) .marks) (c .before .before .before .loop .k) new-mark .acked .complete ≡ true
+complete : (c : tie.Else1 Inv-loop μ-loop) → getD (dispatcher-nth (decode (entry-before-else1 c .args .store .now)) (entry-before-else1 c .args .d) .marks) (at-loop-before-else1 c .loop .k) new-mark .acked .complete ≡ true
 unfolding complete-at mark-at
 complete c = sym (c .before .is-complete .ensures) ∙ not-false _ (c .if1 .left)
 
--- src/completion.rt:63:13
 returns : tie.Need-returns Inv-loop μ-loop
 returns c =
-    let n = c .before .before .before .before .mark-count .ensures in
-    leads-not (dispatcher-nth (decode (c .before .before .before .before .before .before .args .store .now)) (c .before .before .before .before .before .before .args .d) .marks) (c .before .before .before .loop .k) (omega arith) (incomplete c)
-    ∙ sym (c .before .before .before .loop .inv)
+    let n = mark-count-before-then1 c .mark-count .ensures in
+    leads-not (dispatcher-nth (decode (entry-before-then1 c .args .store .now)) (entry-before-then1 c .args .d) .marks) (at-loop-before-then1 c .loop .k) (omega arith) (incomplete c)
+    ∙ sym (at-loop-before-then1 c .loop .inv)
 
--- src/completion.rt:65:9
 add-k : tie.Need-add-k Inv-loop μ-loop
 add-k c = search needs
 
--- src/completion.rt:61:5
 loop-less : tie.Need-loop-less Inv-loop μ-loop
 loop-less c = search needs
 
--- src/completion.rt:61:5
 loop-again : tie.Need-loop-again Inv-loop μ-loop
 loop-again c =
-    let n = c .before .before .before .before .mark-count .ensures in
-    c .before .before .before .loop .inv ∙ leads-on (dispatcher-nth (decode (c .before .before .before .before .before .before .args .store .now)) (c .before .before .before .before .before .before .args .d) .marks) (c .before .before .before .loop .k) (omega arith) (complete c)
+    let n = mark-count-before-else1 c .mark-count .ensures in
+    at-loop-before-else1 c .loop .inv ∙ leads-on (dispatcher-nth (decode (entry-before-else1 c .args .store .now)) (entry-before-else1 c .args .d) .marks) (at-loop-before-else1 c .loop .k) (omega arith) (complete c)
 
--- src/completion.rt:55:1
 returns-2 : tie.Need-returns-2 Inv-loop μ-loop
 returns-2 c =
     let n = c .before .before .mark-count .ensures in
-    leads-past (dispatcher-nth (decode (c .before .before .before .before .args .store .now)) (c .before .before .before .before .args .d) .marks) (c .before .loop .k) (omega arith) ∙ sym (c .before .loop .inv)
+    leads-past (dispatcher-nth (decode (entry-before-after-loop c .args .store .now)) (entry-before-after-loop c .args .d) .marks) (c .before .loop .k) (omega arith) ∙ sym (c .before .loop .inv)
 
 pub first-incomplete-spec : {M : Type 1} → statement M
 first-incomplete-spec =

@@ -16,95 +16,92 @@ use Rattle.store.proofs.offsets.dispatcher_at.Reads as dispatcher-at-reads
 use Rattle.store.proofs.stretch.clear_words.Reads as clear-words-reads
 use Rattle.store.proofs.stretch.word.Reads as word-reads
 
+-- the places: what stands before each, by name
+abbrev entry-before-word : tie.After-word → tie.Start
+entry-before-word c = c .before .before .before .before
+
+abbrev entry-before-clear-words-arg : tie.After-clear-words-arg → tie.Start
+entry-before-clear-words-arg c = entry-before-word (c .before)
+
+abbrev word-before-slice-known2 : tie.After-slice-known2 → tie.After-word
+word-before-slice-known2 c = c .before .before .before .before
+
+abbrev dispatcher-at-before-slice-known2 : tie.After-slice-known2 → tie.After-dispatcher-at
+dispatcher-at-before-slice-known2 c = word-before-slice-known2 c .before .before
+
+abbrev entry-before-slice-known2 : tie.After-slice-known2 → tie.Start
+entry-before-slice-known2 c = entry-before-word (word-before-slice-known2 c)
+
 -- the count is the number of entries in flight
-counted : (c : tie.After-word) → c .word .result ≡ length (dispatcher-nth (decode (c .before .before .before .before .args .store .now)) (c .before .before .before .before .args .d) .in-flight)
-counted c = c .word .ensures ∙ flight-counted (c .before .before .before .before .args .d) (c .before .before .dispatcher-at .result) (c .before .before .before .before .pre .0) (c .before .before .dispatcher-at .ensures)
+counted : (c : tie.After-word) → c .word .result ≡ length (dispatcher-nth (decode (entry-before-word c .args .store .now)) (entry-before-word c .args .d) .in-flight)
+counted c = c .word .ensures ∙ flight-counted (entry-before-word c .args .d) (c .before .before .dispatcher-at .result) (entry-before-word c .pre .0) (c .before .before .dispatcher-at .ensures)
 
 -- they stand inside the store
-inside : (c : tie.After-word) → c .before .before .dispatcher-at .result + 175 + c .before .before .before .before .args .e + c .word .result * 2 ≤ length (c .before .before .before .before .args .store .now)
+inside : (c : tie.After-word) → c .before .before .dispatcher-at .result + 175 + entry-before-word c .args .e + c .word .result * 2 ≤ length (entry-before-word c .args .store .now)
 inside c =
     let n = counted c in
-    let f = c .before .before .before .before .pre .0 .lists-fit .flight-fits in
+    let f = entry-before-word c .pre .0 .lists-fit .flight-fits in
     let a = c .before .before .dispatcher-at .ensures in
-    let i = c .before .before .before .before .pre .0 .inside in
-    let l = c .before .before .before .before .pre .0 .canon .long in
+    let i = entry-before-word c .pre .0 .inside in
+    let l = entry-before-word c .pre .0 .canon .long in
     omega arith
 
--- src/flight.rt:131:9
 dispatcher-at-requires : tie.Need-dispatcher-at-requires
 dispatcher-at-requires c κs = search needs
 
--- src/flight.rt:132:29
 add-word : tie.Need-add-word
 add-word c = search needs
 
--- src/flight.rt:132:29
 add-word-2 : tie.Need-add-word-2
 add-word-2 c = search needs
 
--- src/flight.rt:132:9
 word-requires : tie.Need-word-requires
 word-requires c κs = search needs
 
--- src/flight.rt:133:24
 add-clear-words : tie.Need-add-clear-words
 add-clear-words c = search needs
 
--- src/flight.rt:133:24
 add-clear-words-2 : tie.Need-add-clear-words-2
 add-clear-words-2 c = search needs
 
--- src/flight.rt:133:39
 mul-clear-words : tie.Need-mul-clear-words
 mul-clear-words c = search needs
 
--- src/flight.rt:133:24
 add-clear-words-3 : tie.Need-add-clear-words-3
 add-clear-words-3 c = search needs
 
--- src/flight.rt:133:46
 add-clear-words-4 : tie.Need-add-clear-words-4
 add-clear-words-4 c = search needs
 
--- src/flight.rt:133:46
 add-clear-words-5 : tie.Need-add-clear-words-5
 add-clear-words-5 c = search needs
 
--- src/flight.rt:133:61
 mul-clear-words-2 : tie.Need-mul-clear-words-2
 mul-clear-words-2 c = let k = inside (c .before) in omega arith
 
--- src/flight.rt:133:46
 add-clear-words-6 : tie.Need-add-clear-words-6
 add-clear-words-6 c = let k = inside (c .before) in omega arith
 
--- src/flight.rt:133:5
 clear-words-requires : tie.Need-clear-words-requires
-clear-words-requires c κs = let k = inside (c .before) in let n = counted (c .before) in let l = c .before .before .before .before .before .pre .1 in (omega arith, omega arith)
+clear-words-requires c κs = let k = inside (c .before) in let n = counted (c .before) in let l = entry-before-clear-words-arg c .pre .1 in (omega arith, omega arith)
 
--- src/flight.rt:134:11
 add-store : tie.Need-add-store
 add-store c = search needs
 
--- src/flight.rt:134:11
 add-store-2 : tie.Need-add-store-2
 add-store-2 c = search needs
 
--- src/flight.rt:134:5
 mul-store : tie.Need-mul-store
 mul-store c = search needs
 
--- src/flight.rt:134:5
 slice-write-store : tie.Need-slice-write-store
 slice-write-store c = search needs
 
--- src/flight.rt:127:1
 same-length : tie.Need-same-length
 same-length c = search needs
 
--- src/flight.rt:127:1
 returns : tie.Need-returns
-returns c = kept-flight (c .before .before .before .before .before .before .before .before .args .d) (c .before .before .before .before .before .before .dispatcher-at .result) (c .before .before .before .before .before .before .before .before .pre .0) (c .before .before .before .before .before .before .dispatcher-at .ensures) (c .before .before .before .before .before .before .before .before .args .n) (c .before .before .before .before .word .result) (c .before .before .before .before .before .before .before .before .pre .1) (counted (c .before .before .before .before)) (c .before .before .clear-words .ensures)
+returns c = kept-flight (entry-before-slice-known2 c .args .d) (dispatcher-at-before-slice-known2 c .dispatcher-at .result) (entry-before-slice-known2 c .pre .0) (dispatcher-at-before-slice-known2 c .dispatcher-at .ensures) (entry-before-slice-known2 c .args .n) (word-before-slice-known2 c .word .result) (entry-before-slice-known2 c .pre .1) (counted (word-before-slice-known2 c)) (c .before .before .clear-words .ensures)
 
 pub keep-flight-spec : {M : Type 1} → statement M
 keep-flight-spec =

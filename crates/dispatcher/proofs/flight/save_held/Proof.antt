@@ -8,51 +8,39 @@ use Rattle.dispatcher.proofs.flight.save_held.Reads as reads
 use Rattle.dispatcher.proofs.flight.save_held.Lts as lts
 use Rattle.store.proofs.offsets.dispatcher_at.Reads as dispatcher-at-reads
 
--- src/flight.rt:121:14
 dispatcher-at-requires : tie.Need-dispatcher-at-requires
 dispatcher-at-requires c κs = search needs
 
--- src/flight.rt:121:14
 add-at : tie.Need-add-at
 add-at c = search needs
 
--- src/flight.rt:121:14
 add-at-2 : tie.Need-add-at-2
 add-at-2 c = search needs
 
--- src/flight.rt:121:46
 mul-at : tie.Need-mul-at
 mul-at c = search needs
 
--- src/flight.rt:121:14
 add-at-3 : tie.Need-add-at-3
 add-at-3 c = search needs
 
--- src/flight.rt:122:5
 mul-store : tie.Need-mul-store
 mul-store c = search needs
 
--- src/flight.rt:122:5
 slice-write-store : tie.Need-slice-write-store
 slice-write-store c = search needs
 
--- src/flight.rt:123:11
 add-store : tie.Need-add-store
 add-store c = search needs
 
--- src/flight.rt:123:5
 mul-store-2 : tie.Need-mul-store-2
 mul-store-2 c = search needs
 
--- src/flight.rt:123:5
 slice-write-store-2 : tie.Need-slice-write-store-2
 slice-write-store-2 c = simp length-set (search needs)
 
--- src/flight.rt:117:1
 same-length : tie.Need-same-length
 same-length c = search needs
 
--- src/flight.rt:117:1
 returns : tie.Need-returns
 returns c = held-written (c .before .before .args .d) (c .dispatcher-at .result) (c .before .before .pre .0) (c .dispatcher-at .ensures) (c .before .before .args .j) (c .before .before .args .held .holder) (c .before .before .args .held .position) (c .before .before .pre .1)
 

@@ -8,49 +8,48 @@ use Rattle.dispatcher.proofs.head.load_head.Lts as lts
 use Rattle.store.proofs.offsets.dispatcher_at.Reads as dispatcher-at-reads
 use Rattle.store.proofs.stretch.word.Reads as word-reads
 
--- src/head.rt:79:9
+-- the places: what stands before each, by name
+abbrev word-before-shared-slice-known2 : tie.After-shared-slice-known2 → tie.After-word
+word-before-shared-slice-known2 c = c .before .before .before
+
+abbrev dispatcher-at-before-shared-slice-known2 : tie.After-shared-slice-known2 → tie.After-dispatcher-at
+dispatcher-at-before-shared-slice-known2 c = word-before-shared-slice-known2 c .before
+
+abbrev entry-before-shared-slice-known2 : tie.After-shared-slice-known2 → tie.Start
+entry-before-shared-slice-known2 c = dispatcher-at-before-shared-slice-known2 c .before .before
+
 dispatcher-at-requires : tie.Need-dispatcher-at-requires
 dispatcher-at-requires c κs = search needs
 
--- src/head.rt:81:27
 add-word : tie.Need-add-word
 add-word c = search needs
 
--- src/head.rt:81:15
 word-requires : tie.Need-word-requires
 word-requires c κs = search needs
 
--- src/head.rt:82:29
 add-word-2 : tie.Need-add-word-2
 add-word-2 c = search needs
 
--- src/head.rt:82:17
 word-requires-2 : tie.Need-word-requires-2
 word-requires-2 c κs = search needs
 
--- src/head.rt:83:34
 add-word-3 : tie.Need-add-word-3
 add-word-3 c = search needs
 
--- src/head.rt:83:22
 word-requires-3 : tie.Need-word-requires-3
 word-requires-3 c κs = search needs
 
--- src/head.rt:84:40
 add-t11 : tie.Need-add-t11
 add-t11 c = search needs
 
--- src/head.rt:84:34
 mul-t12 : tie.Need-mul-t12
 mul-t12 c = search needs
 
--- src/head.rt:84:34
 shared-slice-read-t14 : tie.Need-shared-slice-read-t14
 shared-slice-read-t14 c = search needs
 
--- src/head.rt:75:1
 returns : tie.Need-returns
-returns c = rw (c .before .before .before .word .ensures, c .before .before .word2 .ensures, c .before .word3 .ensures) (head-here (c .before .before .before .before .before .before .args .d) (c .before .before .before .before .dispatcher-at .result) (c .before .before .before .before .before .before .pre) (c .before .before .before .before .dispatcher-at .ensures))
+returns c = rw (word-before-shared-slice-known2 c .word .ensures, c .before .before .word2 .ensures, c .before .word3 .ensures, word-before-shared-slice-known2) (head-here (entry-before-shared-slice-known2 c .args .d) (dispatcher-at-before-shared-slice-known2 c .dispatcher-at .result) (entry-before-shared-slice-known2 c .pre) (dispatcher-at-before-shared-slice-known2 c .dispatcher-at .ensures))
 
 pub load-head-spec : {M : Type 1} → statement M
 load-head-spec =

@@ -8,63 +8,48 @@ use Rattle.dispatcher.proofs.head.save_head.Reads as reads
 use Rattle.dispatcher.proofs.head.save_head.Lts as lts
 use Rattle.store.proofs.offsets.dispatcher_at.Reads as dispatcher-at-reads
 
--- src/head.rt:93:9
 dispatcher-at-requires : tie.Need-dispatcher-at-requires
 dispatcher-at-requires c κs = search needs
 
--- src/head.rt:94:11
 add-store : tie.Need-add-store
 add-store c = search needs
 
--- src/head.rt:94:5
 mul-store : tie.Need-mul-store
 mul-store c = search needs
 
--- src/head.rt:94:5
 slice-write-store : tie.Need-slice-write-store
 slice-write-store c = search needs
 
--- src/head.rt:95:11
 add-store-2 : tie.Need-add-store-2
 add-store-2 c = search needs
 
--- src/head.rt:95:5
 mul-store-2 : tie.Need-mul-store-2
 mul-store-2 c = search needs
 
--- src/head.rt:95:5
 slice-write-store-2 : tie.Need-slice-write-store-2
 slice-write-store-2 c = simp length-set (search needs)
 
--- src/head.rt:96:11
 add-store-3 : tie.Need-add-store-3
 add-store-3 c = search needs
 
--- src/head.rt:96:5
 mul-store-3 : tie.Need-mul-store-3
 mul-store-3 c = search needs
 
--- src/head.rt:96:5
 slice-write-store-3 : tie.Need-slice-write-store-3
 slice-write-store-3 c = simp length-set (search needs)
 
--- src/head.rt:97:11
 add-store-4 : tie.Need-add-store-4
 add-store-4 c = search needs
 
--- src/head.rt:97:5
 mul-store-4 : tie.Need-mul-store-4
 mul-store-4 c = search needs
 
--- src/head.rt:97:5
 slice-write-store-4 : tie.Need-slice-write-store-4
 slice-write-store-4 c = simp length-set (search needs)
 
--- src/head.rt:89:1
 same-length : tie.Need-same-length
 same-length c = search needs
 
--- src/head.rt:89:1
 returns : tie.Need-returns
 returns c = headed (c .before .before .args .d) (c .dispatcher-at .result) (c .before .before .pre) (c .dispatcher-at .ensures) (c .before .before .args .head)
 

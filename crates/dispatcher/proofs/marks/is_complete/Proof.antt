@@ -7,41 +7,36 @@ use Rattle.dispatcher.proofs.marks.is_complete.Reads as reads
 use Rattle.dispatcher.proofs.marks.is_complete.Lts as lts
 use Rattle.store.proofs.offsets.dispatcher_at.Reads as dispatcher-at-reads
 
--- src/marks.rt:97:9
+-- the places: what stands before each, by name
+abbrev entry-before-shared-slice-known2 : tie.After-shared-slice-known2 → tie.Start
+entry-before-shared-slice-known2 c = c .before .before .before
+
 dispatcher-at-requires : tie.Need-dispatcher-at-requires
 dispatcher-at-requires c κs = search needs
 
--- src/marks.rt:98:11
 add-result : tie.Need-add-result
 add-result c = search needs
 
--- src/marks.rt:98:22
 mul-result : tie.Need-mul-result
 mul-result c = search needs
 
--- src/marks.rt:98:11
 add-result-2 : tie.Need-add-result-2
 add-result-2 c = search needs
 
--- src/marks.rt:98:30
 mul-result-2 : tie.Need-mul-result-2
 mul-result-2 c = search needs
 
--- src/marks.rt:98:11
 add-result-3 : tie.Need-add-result-3
 add-result-3 c = search needs
 
--- src/marks.rt:98:5
 mul-result-3 : tie.Need-mul-result-3
 mul-result-3 c = search needs
 
--- src/marks.rt:98:5
 shared-slice-read-result : tie.Need-shared-slice-read-result
 shared-slice-read-result c = search needs
 
--- src/marks.rt:93:1
 returns : tie.Need-returns
-returns c = complete-here (c .before .before .before .args .d) (c .before .dispatcher-at .result) (c .before .before .before .pre .0) (c .before .dispatcher-at .ensures) (c .before .before .before .args .k) (c .before .before .before .pre .1)
+returns c = complete-here (entry-before-shared-slice-known2 c .args .d) (c .before .dispatcher-at .result) (entry-before-shared-slice-known2 c .pre .0) (c .before .dispatcher-at .ensures) (entry-before-shared-slice-known2 c .args .k) (entry-before-shared-slice-known2 c .pre .1)
 
 pub is-complete-spec : {M : Type 1} → statement M
 is-complete-spec =

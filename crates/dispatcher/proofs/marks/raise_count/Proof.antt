@@ -4,6 +4,10 @@ use borrow.Author.Needs.{needs}
 use Rattle.dispatcher.proofs.marks.raise_count.Statement.{statement}
 use Rattle.dispatcher.proofs.marks.raise_count.Tie as tie
 
+-- the places: what stands before each, by name
+abbrev entry-before-one-more : tie.After-one-more → tie.Start
+entry-before-one-more c = c .before .before .before .before
+
 dispatcher-at-requires : tie.Need-dispatcher-at-requires
 dispatcher-at-requires c κs = search needs
 
@@ -41,7 +45,7 @@ same-length : tie.Need-same-length
 same-length c = search needs
 
 returns : tie.Need-returns
-returns c = raised-count (c .before .before .before .before .args .d) (c .before .before .dispatcher-at .result) (c .before .before .before .before .pre .0) (c .before .before .dispatcher-at .ensures) (c .before .before .before .before .args .k) (c .one-more .result) (c .before .before .before .before .pre .1) (c .one-more .ensures)
+returns c = raised-count (entry-before-one-more c .args .d) (c .before .before .dispatcher-at .result) (entry-before-one-more c .pre .0) (c .before .before .dispatcher-at .ensures) (entry-before-one-more c .args .k) (c .one-more .result) (entry-before-one-more c .pre .1) (c .one-more .ensures)
 
 pub raise-count-spec : {M : Type 1} → statement M
 raise-count-spec =

@@ -10,25 +10,38 @@ use borrow.Author.Needs.{needs}
 use Rattle.dispatcher.proofs.queue.drop_queue.Statement.{statement}
 use Rattle.dispatcher.proofs.queue.drop_queue.Tie as tie
 
+-- the places: what stands before each, by name
+abbrev entry-before-word : tie.After-word → tie.Start
+entry-before-word c = c .before .before .before .before .before
+
+abbrev word-before-slice-known2 : tie.After-slice-known2 → tie.After-word
+word-before-slice-known2 c = c .before .before .before .before
+
+abbrev dispatcher-at-before-slice-known2 : tie.After-slice-known2 → tie.After-dispatcher-at
+dispatcher-at-before-slice-known2 c = word-before-slice-known2 c .before .before
+
+abbrev entry-before-slice-known2 : tie.After-slice-known2 → tie.Start
+entry-before-slice-known2 c = entry-before-word (word-before-slice-known2 c)
+
 -- the count is the number of queued positions
-counted : (c : tie.After-word) → c .word .result ≡ length (dispatcher-nth (decode (c .before .before .before .before .before .args .store .now)) (c .before .before .before .before .before .args .d) .redelivery)
-counted c = c .word .ensures ∙ queue-counted (c .before .before .before .before .before .args .d) (c .before .before .dispatcher-at .result) (c .before .before .before .before .before .pre .0) (c .before .before .dispatcher-at .ensures)
+counted : (c : tie.After-word) → c .word .result ≡ length (dispatcher-nth (decode (entry-before-word c .args .store .now)) (entry-before-word c .args .d) .redelivery)
+counted c = c .word .ensures ∙ queue-counted (entry-before-word c .args .d) (c .before .before .dispatcher-at .result) (entry-before-word c .pre .0) (c .before .before .dispatcher-at .ensures)
 
 -- so many are there
-there : (c : tie.After-word) → c .before .before .before .before .before .args .n ≤ c .word .result
+there : (c : tie.After-word) → entry-before-word c .args .n ≤ c .word .result
 there c =
     let n = counted c in
-    let h = c .before .before .before .before .before .pre .1 in
+    let h = entry-before-word c .pre .1 in
     omega arith
 
 -- their words lie in the store
-inside : (c : tie.After-word) → c .before .before .dispatcher-at .result + 174 + c .word .result ≤ length (c .before .before .before .before .before .args .store .now)
+inside : (c : tie.After-word) → c .before .before .dispatcher-at .result + 174 + c .word .result ≤ length (entry-before-word c .args .store .now)
 inside c =
     let n = counted c in
-    let f = c .before .before .before .before .before .pre .0 .lists-fit .queue-fits in
+    let f = entry-before-word c .pre .0 .lists-fit .queue-fits in
     let a = c .before .before .dispatcher-at .ensures in
-    let i = c .before .before .before .before .before .pre .0 .inside in
-    let l = c .before .before .before .before .before .pre .0 .canon .long in
+    let i = entry-before-word c .pre .0 .inside in
+    let l = entry-before-word c .pre .0 .canon .long in
     omega arith
 
 returns : tie.Need-returns
@@ -56,7 +69,7 @@ close-gap-requires c κs =
     omega arith
 
 sub-store : tie.Need-sub-store
-sub-store c = let t = there (c .before .before .before .before) in omega arith
+sub-store c = let t = there (word-before-slice-known2 c) in omega arith
 
 add-store : tie.Need-add-store
 add-store c = search needs
@@ -72,7 +85,7 @@ same-length c = search needs
 
 returns-2 : tie.Need-returns-2
 returns-2 c =
-    dropped-queue (c .before .before .before .before .before .before .before .before .before .args .d) (c .before .before .before .before .before .before .dispatcher-at .result) (c .before .before .before .before .before .before .before .before .before .pre .0) (c .before .before .before .before .before .before .dispatcher-at .ensures) (c .before .before .before .before .before .before .before .before .before .args .n) (c .before .before .before .before .word .result) (c .before .before .before .before .before .before .before .before .before .pre .1) (counted (c .before .before .before .before)) (c .before .before .close-gap .ensures)
+    dropped-queue (entry-before-slice-known2 c .args .d) (dispatcher-at-before-slice-known2 c .dispatcher-at .result) (entry-before-slice-known2 c .pre .0) (dispatcher-at-before-slice-known2 c .dispatcher-at .ensures) (entry-before-slice-known2 c .args .n) (word-before-slice-known2 c .word .result) (entry-before-slice-known2 c .pre .1) (counted (word-before-slice-known2 c)) (c .before .before .close-gap .ensures)
 
 pub drop-queue-spec : {M : Type 1} → statement M
 drop-queue-spec =

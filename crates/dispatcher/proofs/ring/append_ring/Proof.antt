@@ -10,18 +10,22 @@ use borrow.Author.Needs.{needs}
 use Rattle.dispatcher.proofs.ring.append_ring.Statement.{statement}
 use Rattle.dispatcher.proofs.ring.append_ring.Tie as tie
 
+-- the places: what stands before each, by name
+abbrev entry-before-word : tie.After-word → tie.Start
+entry-before-word c = c .before .before .before .before
+
 -- the count is the number of ring ids
-counted : (c : tie.After-word) → c .word .result ≡ length (dispatcher-nth (decode (c .before .before .before .before .args .store .now)) (c .before .before .before .before .args .d) .attached)
-counted c = c .word .ensures ∙ ring-counted (c .before .before .before .before .args .d) (c .before .before .dispatcher-at .result) (c .before .before .before .before .pre .0) (c .before .before .dispatcher-at .ensures)
+counted : (c : tie.After-word) → c .word .result ≡ length (dispatcher-nth (decode (entry-before-word c .args .store .now)) (entry-before-word c .args .d) .attached)
+counted c = c .word .ensures ∙ ring-counted (entry-before-word c .args .d) (c .before .before .dispatcher-at .result) (entry-before-word c .pre .0) (c .before .before .dispatcher-at .ensures)
 
 -- there is room for one more
-room : (c : tie.After-word) → c .before .before .dispatcher-at .result + 12 + c .word .result + 1 ≤ length (c .before .before .before .before .args .store .now)
+room : (c : tie.After-word) → c .before .before .dispatcher-at .result + 12 + c .word .result + 1 ≤ length (entry-before-word c .args .store .now)
 room c =
     let n = counted c in
-    let h = c .before .before .before .before .pre .1 in
+    let h = entry-before-word c .pre .1 in
     let a = c .before .before .dispatcher-at .ensures in
-    let i = c .before .before .before .before .pre .0 .inside in
-    let l = c .before .before .before .before .pre .0 .canon .long in
+    let i = entry-before-word c .pre .0 .inside in
+    let l = entry-before-word c .pre .0 .canon .long in
     omega arith
 
 dispatcher-at-requires : tie.Need-dispatcher-at-requires
@@ -61,7 +65,7 @@ same-length : tie.Need-same-length
 same-length c = search needs
 
 returns : tie.Need-returns
-returns c = appended-ring (c .before .before .before .before .args .d) (c .before .before .dispatcher-at .result) (c .before .before .before .before .pre .0) (c .before .before .dispatcher-at .ensures) (c .word .result) (c .before .before .before .before .args .id) (counted c) (c .before .before .before .before .pre .1)
+returns c = appended-ring (entry-before-word c .args .d) (c .before .before .dispatcher-at .result) (entry-before-word c .pre .0) (c .before .before .dispatcher-at .ensures) (c .word .result) (entry-before-word c .args .id) (counted c) (entry-before-word c .pre .1)
 
 pub append-ring-spec : {M : Type 1} → statement M
 append-ring-spec =

@@ -4,6 +4,10 @@ use borrow.Author.Needs.{needs}
 use Rattle.dispatcher.proofs.total.total_available_permits.Statement.{statement}
 use Rattle.dispatcher.proofs.total.total_available_permits.Tie as tie
 
+-- the places: what stands before each, by name
+abbrev entry-before-shared-slice-known2 : tie.After-shared-slice-known2 → tie.Start
+entry-before-shared-slice-known2 c = c .before .before .before
+
 dispatcher-at-requires : tie.Need-dispatcher-at-requires
 dispatcher-at-requires c κs = search needs
 
@@ -17,7 +21,7 @@ shared-slice-read-result : tie.Need-shared-slice-read-result
 shared-slice-read-result c = search needs
 
 returns : tie.Need-returns
-returns c = rw (c .before .dispatcher-at .ensures) (read-total (c .before .before .before .pre .canon) (c .before .before .before .args .d) (c .before .before .before .pre .there))
+returns c = rw (c .before .dispatcher-at .ensures) (read-total (entry-before-shared-slice-known2 c .pre .canon) (entry-before-shared-slice-known2 c .args .d) (entry-before-shared-slice-known2 c .pre .there))
 
 pub total-available-permits-spec : {M : Type 1} → statement M
 total-available-permits-spec =

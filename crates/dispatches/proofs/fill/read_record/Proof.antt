@@ -8,166 +8,130 @@ use Rattle.dispatches.proofs.fill.read_record.Tie as tie
 use Rattle.dispatches.proofs.fill.read_record.Reads as reads
 use Rattle.dispatches.proofs.fill.read_record.Lts as lts
 
--- src/fill.rt:15:14
+-- the places: what stands before each, by name
+abbrev entry-before-shared-slice-known13 : tie.After-shared-slice-known13 → tie.Start
+entry-before-shared-slice-known13 c = c .before .before .before .before .before .before .before .before .before .before .before .before .before
+
 mul-at : tie.Need-mul-at
 mul-at c = search needs
 
--- src/fill.rt:17:18
 add-t5 : tie.Need-add-t5
 add-t5 c = search needs
 
--- src/fill.rt:17:13
 mul-t6 : tie.Need-mul-t6
 mul-t6 c = search needs
 
--- src/fill.rt:17:13
 shared-slice-read-t8 : tie.Need-shared-slice-read-t8
 shared-slice-read-t8 c = search needs
 
--- src/fill.rt:18:18
 add-t9 : tie.Need-add-t9
 add-t9 c = search needs
 
--- src/fill.rt:18:13
 mul-t10 : tie.Need-mul-t10
 mul-t10 c = search needs
 
--- src/fill.rt:18:13
 shared-slice-read-t12 : tie.Need-shared-slice-read-t12
 shared-slice-read-t12 c = search needs
 
--- src/fill.rt:19:18
 add-t13 : tie.Need-add-t13
 add-t13 c = search needs
 
--- src/fill.rt:19:13
 mul-t14 : tie.Need-mul-t14
 mul-t14 c = search needs
 
--- src/fill.rt:19:13
 shared-slice-read-t16 : tie.Need-shared-slice-read-t16
 shared-slice-read-t16 c = search needs
 
--- src/fill.rt:20:18
 add-t17 : tie.Need-add-t17
 add-t17 c = search needs
 
--- src/fill.rt:20:13
 mul-t18 : tie.Need-mul-t18
 mul-t18 c = search needs
 
--- src/fill.rt:20:13
 shared-slice-read-t20 : tie.Need-shared-slice-read-t20
 shared-slice-read-t20 c = search needs
 
--- src/fill.rt:23:19
 mul-t5 : tie.Need-mul-t5
 mul-t5 c = search needs
 
--- src/fill.rt:23:19
 shared-slice-read-t20-2 : tie.Need-shared-slice-read-t20-2
 shared-slice-read-t20-2 c = search needs
 
--- src/fill.rt:24:22
 add-t18 : tie.Need-add-t18
 add-t18 c = search needs
 
--- src/fill.rt:24:17
 mul-t17 : tie.Need-mul-t17
 mul-t17 c = search needs
 
--- src/fill.rt:24:17
 shared-slice-read-t16-2 : tie.Need-shared-slice-read-t16-2
 shared-slice-read-t16-2 c = search needs
 
--- src/fill.rt:25:21
 add-t14 : tie.Need-add-t14
 add-t14 c = search needs
 
--- src/fill.rt:25:16
 mul-t13 : tie.Need-mul-t13
 mul-t13 c = search needs
 
--- src/fill.rt:25:16
 shared-slice-read-t12-2 : tie.Need-shared-slice-read-t12-2
 shared-slice-read-t12-2 c = search needs
 
--- src/fill.rt:26:22
 add-t10 : tie.Need-add-t10
 add-t10 c = search needs
 
--- src/fill.rt:26:17
 mul-t9 : tie.Need-mul-t9
 mul-t9 c = search needs
 
--- src/fill.rt:26:17
 shared-slice-read-t8-2 : tie.Need-shared-slice-read-t8-2
 shared-slice-read-t8-2 c = search needs
 
--- src/fill.rt:27:26
 add-t6 : tie.Need-add-t6
 add-t6 c = search needs
 
--- src/fill.rt:27:21
 mul-t25 : tie.Need-mul-t25
 mul-t25 c = search needs
 
--- src/fill.rt:27:21
 shared-slice-read-t27 : tie.Need-shared-slice-read-t27
 shared-slice-read-t27 c = search needs
 
--- src/fill.rt:28:29
 add-t28 : tie.Need-add-t28
 add-t28 c = search needs
 
--- src/fill.rt:28:24
 mul-t29 : tie.Need-mul-t29
 mul-t29 c = search needs
 
--- src/fill.rt:28:24
 shared-slice-read-t31 : tie.Need-shared-slice-read-t31
 shared-slice-read-t31 c = search needs
 
--- src/fill.rt:30:32
 add-t32 : tie.Need-add-t32
 add-t32 c = search needs
 
--- src/fill.rt:30:27
 mul-t33 : tie.Need-mul-t33
 mul-t33 c = search needs
 
--- src/fill.rt:30:27
 shared-slice-read-t35 : tie.Need-shared-slice-read-t35
 shared-slice-read-t35 c = search needs
 
--- src/fill.rt:31:20
 add-t36 : tie.Need-add-t36
 add-t36 c = search needs
 
--- src/fill.rt:31:15
 mul-t37 : tie.Need-mul-t37
 mul-t37 c = search needs
 
--- src/fill.rt:31:15
 shared-slice-read-t39 : tie.Need-shared-slice-read-t39
 shared-slice-read-t39 c = search needs
 
--- src/fill.rt:32:23
 add-t40 : tie.Need-add-t40
 add-t40 c = search needs
 
--- src/fill.rt:32:18
 mul-t41 : tie.Need-mul-t41
 mul-t41 c = search needs
 
--- src/fill.rt:32:18
 shared-slice-read-t43 : tie.Need-shared-slice-read-t43
 shared-slice-read-t43 c = search needs
 
--- src/fill.rt:11:1
 returns : tie.Need-returns
 unfolding record-at
-returns c = rw (add-zero (c .before .before .before .before .before .before .before .before .before .before .before .before .before .args .i * 13))
+returns c = rw (add-zero (entry-before-shared-slice-known13 c .args .i * 13))
 
 pub read-record-spec : {M : Type 1} → statement M
 read-record-spec =

@@ -14,11 +14,27 @@ use Rattle.dispatches.proofs.Making.{part-lent, room-words}
 use Rattle.dispatches.proofs.listed.push_flat.Statement.{statement}
 use Rattle.dispatches.proofs.listed.push_flat.Tie as tie
 
+-- the places: what stands before each, by name
+abbrev entry-before-room : tie.After-room → tie.Start
+entry-before-room c = c .before .before .before
+
+abbrev entry-before-broker-push-arg2 : tie.After-broker-push-arg2 → tie.Start
+entry-before-broker-push-arg2 c = entry-before-room (c .before .before)
+
+abbrev broker-push-before-slice-known4 : tie.After-slice-known4 → tie.After-broker-push
+broker-push-before-slice-known4 c = c .before .before .before .before
+
+abbrev room-before-slice-known4 : tie.After-slice-known4 → tie.After-room
+room-before-slice-known4 c = broker-push-before-slice-known4 c .before .before .before
+
+abbrev entry-before-slice-known4 : tie.After-slice-known4 → tie.Start
+entry-before-slice-known4 c = entry-before-room (room-before-slice-known4 c)
+
 -- the words lent are words of the list
-within : (c : tie.After-room) → c .room .result * 13 ≤ length (c .before .before .before .args .flat .now)
+within : (c : tie.After-room) → c .room .result * 13 ≤ length (entry-before-room c .args .flat .now)
 within c =
     let e = c .room .ensures in
-    rw e (room-words (length (c .before .before .before .args .flat .now)) (c .before .before .before .args .records))
+    rw (e, entry-before-room) (room-words (length (entry-before-room c .args .flat .now)) (entry-before-room c .args .records))
 
 -- and their records are the room's
 lent-length : (k r : ℕ) (l : List ℕ) → k ≡ r * 13 → k ≤ length l → length (take k l) / 13 ≡ r
@@ -34,7 +50,7 @@ slice-relend-prefix-broker-push : tie.Need-slice-relend-prefix-broker-push
 slice-relend-prefix-broker-push c = within (c .before)
 
 slice-aggregate-broker-push : tie.Need-slice-aggregate-broker-push
-slice-aggregate-broker-push c = sym (length-take-le (c .before .before .room .result * 13) (c .before .before .before .before .before .args .flat .now) (within (c .before .before)))
+slice-aggregate-broker-push c = sym (length-take-le (c .before .before .room .result * 13) (entry-before-broker-push-arg2 c .args .flat .now) (within (c .before .before)))
 
 broker-push-requires : tie.Need-broker-push-requires
 broker-push-requires c κs = search needs
@@ -66,9 +82,9 @@ module _ (ws l : List ℕ) (n records : ℕ) (sized : n ≡ room (length l) reco
 
 returns : tie.Need-returns
 returns c =
-    let start = c .before .before .before .before .before .before .before .before .before .before in
-    let called = c .before .before .before .before in
-    let sized = c .before .before .before .before .before .before .before in
+    let start = entry-before-slice-known4 c in
+    let called = broker-push-before-slice-known4 c in
+    let sized = room-before-slice-known4 c in
     let w = whole (start .args .store .now) (start .args .flat .now) (sized .room .result) (start .args .records) (sized .room .ensures) (within sized) (called .broker-push .ensures .0) (called .broker-push .ensures .1 .0) (called .broker-push .ensures .1 .1) in
     (w .0, (w .1, w .2))
 

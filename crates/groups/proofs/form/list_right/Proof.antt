@@ -23,53 +23,69 @@ Inv-loop list at₀ left₀ at left = (at ≤ length list) × (left ≤ 64) × F
 abbrev μ-loop : tie.MeasureT-loop
 μ-loop list at₀ left₀ at left = length list - at
 
+-- the places: what stands before each, by name
+abbrev entry-before-after-loop : tie.After-loop Inv-loop μ-loop → tie.Start Inv-loop μ-loop
+entry-before-after-loop c = c .before .before .before
+
+abbrev entry-before-then1 : tie.Then1 Inv-loop μ-loop → tie.Start Inv-loop μ-loop
+entry-before-then1 c = c .before .before .before .before
+
+abbrev at-loop-before-then2 : tie.Then2 Inv-loop μ-loop → tie.At-loop Inv-loop μ-loop
+at-loop-before-then2 c = c .before .before .before .before
+
+abbrev entry-before-then2 : tie.Then2 Inv-loop μ-loop → tie.Start Inv-loop μ-loop
+entry-before-then2 c = at-loop-before-then2 c .before .before
+
+abbrev at-loop-before-else2 : tie.Else2 Inv-loop μ-loop → tie.At-loop Inv-loop μ-loop
+at-loop-before-else2 c = c .before .before .before .before
+
+abbrev entry-before-else2 : tie.Else2 Inv-loop μ-loop → tie.Start Inv-loop μ-loop
+entry-before-else2 c = at-loop-before-else2 c .before .before
+
+abbrev at-loop-before-group-end : tie.After-group-end Inv-loop μ-loop → tie.At-loop Inv-loop μ-loop
+at-loop-before-group-end c = at-loop-before-else2 (c .before)
+
+abbrev entry-before-group-end : tie.After-group-end Inv-loop μ-loop → tie.Start Inv-loop μ-loop
+entry-before-group-end c = entry-before-else2 (c .before)
+
 -- the group of a turn fits
-fitted : (c : tie.Else2 Inv-loop μ-loop) → group-fits (c .before .before .before .before .before .before .args .list .now) (c .before .before .before .before .loop .at) ≡ true
+fitted : (c : tie.Else2 Inv-loop μ-loop) → group-fits (entry-before-else2 c .args .list .now) (at-loop-before-else2 c .loop .at) ≡ true
 fitted c = sym (c .before .group-fits .ensures) ∙ not-false _ (c .if2 .left)
 
--- src/form.rt:33:5
 loop-holds : tie.Need-loop-holds Inv-loop μ-loop
 loop-holds c = (search needs, search needs, formed-start (c .before .args .list .now))
 
--- src/form.rt:35:13
 returns : tie.Need-returns Inv-loop μ-loop
-returns c = formed-full (c .before .before .before .before .args .list .now) (c .before .before .loop .at) (c .before .before .loop .left) (omega arith) (c .if1 .taken) (c .before .before .loop .inv .2)
+returns c = formed-full (entry-before-then1 c .args .list .now) (c .before .before .loop .at) (c .before .before .loop .left) (omega arith) (c .if1 .taken) (c .before .before .loop .inv .2)
 
--- src/form.rt:37:13
 group-fits-requires : tie.Need-group-fits-requires Inv-loop μ-loop
 group-fits-requires c κs = search needs
 
--- src/form.rt:38:13
 returns-2 : tie.Need-returns-2 Inv-loop μ-loop
 returns-2 c =
-    formed-broken (c .before .before .before .before .before .before .args .list .now) (c .before .before .before .before .loop .at) (omega arith) (c .before .before .before .before .loop .left)
-    (sym (c .before .group-fits .ensures) ∙ not-true _ (c .if2 .taken)) (c .before .before .before .before .loop .inv .2)
+    formed-broken (entry-before-then2 c .args .list .now) (at-loop-before-then2 c .loop .at) (omega arith) (at-loop-before-then2 c .loop .left)
+    (sym (c .before .group-fits .ensures) ∙ not-true _ (c .if2 .taken)) (at-loop-before-then2 c .loop .inv .2)
 
--- src/form.rt:40:9
 group-end-requires : tie.Need-group-end-requires Inv-loop μ-loop
-group-end-requires c κs = says-fits (c .before .before .before .before .before .before .args .list .now) (c .before .before .before .before .loop .at) (fitted c)
+group-end-requires c κs = says-fits (entry-before-else2 c .args .list .now) (at-loop-before-else2 c .loop .at) (fitted c)
 
--- src/form.rt:41:9
 sub-left : tie.Need-sub-left Inv-loop μ-loop
 sub-left c = search needs
 
--- src/form.rt:33:5
 loop-less : tie.Need-loop-less Inv-loop μ-loop
 loop-less c = search needs
 
--- src/form.rt:33:5
 loop-again : tie.Need-loop-again Inv-loop μ-loop
 loop-again c =
-    let list = c .before .before .before .before .before .before .before .args .list .now in
-    let at = c .before .before .before .before .before .loop .at in
+    let list = entry-before-group-end c .args .list .now in
+    let at = at-loop-before-group-end c .loop .at in
     let f = says-fits list at (fitted (c .before)) in
-    let n : 0 < c .before .before .before .before .before .loop .left = omega arith in
-    let k = formed-on list at (omega arith) (c .before .before .before .before .before .loop .left) (fitted (c .before)) n (c .before .before .before .before .before .loop .inv .2) in
+    let n : 0 < at-loop-before-group-end c .loop .left = omega arith in
+    let k = formed-on list at (omega arith) (at-loop-before-group-end c .loop .left) (fitted (c .before)) n (at-loop-before-group-end c .loop .inv .2) in
     (omega arith, search needs, rw (c .group-end .ensures) k)
 
--- src/form.rt:28:1
 returns-3 : tie.Need-returns-3 Inv-loop μ-loop
-returns-3 c = formed-end (c .before .before .before .args .list .now) (c .before .loop .at) (c .before .loop .left) (omega arith) (c .before .loop .inv .2)
+returns-3 c = formed-end (entry-before-after-loop c .args .list .now) (c .before .loop .at) (c .before .loop .left) (omega arith) (c .before .loop .inv .2)
 
 pub list-right-spec : {M : Type 1} → statement M
 list-right-spec =

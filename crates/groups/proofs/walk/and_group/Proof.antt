@@ -13,38 +13,34 @@ use Rattle.groups.proofs.walk.and_group.Lts as lts
 use Rattle.bits.proofs.UnackedBits.and_into.Reads as and-into-reads
 use Rattle.groups.proofs.walk.group_end.Reads as group-end-reads
 
--- src/walk.rt:30:9
+-- the places: what stands before each, by name
+abbrev entry-before-and-into : tie.After-and-into → tie.Start
+entry-before-and-into c = c .before .before .before .before
+
 group-end-requires : tie.Need-group-end-requires
 group-end-requires c κs = search needs
 
--- src/walk.rt:31:25
 add-and-into : tie.Need-add-and-into
 add-and-into c = search needs
 
--- src/walk.rt:31:19
 mul-and-into : tie.Need-mul-and-into
 mul-and-into c = search needs
 
--- src/walk.rt:31:19
 sub-and-into : tie.Need-sub-and-into
 sub-and-into c = search needs
 
--- src/walk.rt:31:19
 part-and-into-start : tie.Need-part-and-into-start
 part-and-into-start c = search needs
 
--- src/walk.rt:31:19
 part-and-into-end : tie.Need-part-and-into-end
 part-and-into-end c = search needs
 
--- src/walk.rt:31:5
 and-into-requires : tie.Need-and-into-requires
 and-into-requires c κs = search needs
 
--- src/walk.rt:26:1
 returns : tie.Need-returns
 returns c =
-    let a = c .before .before .before .before .args in
+    let a = entry-before-and-into c .args in
     c .and-into .ensures
     ∙ ap (λ (l : List ℕ). four (and-into (words (a .bits)) l)) (words-lent (a .list .now) (a .at) (c .before .before .group-end .result) (c .before .before .group-end .ensures))
 

@@ -12,18 +12,22 @@ use borrow.Author.Needs.{needs}
 use Rattle.ledger.proofs.append.append_message.Statement.{statement}
 use Rattle.ledger.proofs.append.append_message.Tie as tie
 
+-- the places: what stands before each, by name
+abbrev entry-before-word : tie.After-word → tie.Start
+entry-before-word c = c .before .before .before .before
+
 -- the count is the number of messages
-counted : (c : tie.After-word) → c .word .result ≡ length (topic-nth (decode (c .before .before .before .before .args .store .now)) (c .before .before .before .before .args .t) .messages)
-counted c = c .word .ensures ∙ count-here (c .before .before .before .before .args .t) (c .before .before .topic-at .result) (c .before .before .before .before .pre .0) (c .before .before .topic-at .ensures)
+counted : (c : tie.After-word) → c .word .result ≡ length (topic-nth (decode (entry-before-word c .args .store .now)) (entry-before-word c .args .t) .messages)
+counted c = c .word .ensures ∙ count-here (entry-before-word c .args .t) (c .before .before .topic-at .result) (entry-before-word c .pre .0) (c .before .before .topic-at .ensures)
 
 -- the words of the new message lie in the store
-inside : (c : tie.After-word) → (c .before .before .topic-at .result + 4 + c .word .result * 4 + 4 ≤ length (c .before .before .before .before .args .store .now)) × (c .before .before .topic-at .result + 4 ≤ length (c .before .before .before .before .args .store .now))
+inside : (c : tie.After-word) → (c .before .before .topic-at .result + 4 + c .word .result * 4 + 4 ≤ length (entry-before-word c .args .store .now)) × (c .before .before .topic-at .result + 4 ≤ length (entry-before-word c .args .store .now))
 inside c =
     let n = counted c in
-    let r = c .before .before .before .before .pre .1 in
+    let r = entry-before-word c .pre .1 in
     let a = c .before .before .topic-at .ensures in
-    let i = c .before .before .before .before .pre .0 .inside in
-    let l = c .before .before .before .before .pre .0 .canon .long in
+    let i = entry-before-word c .pre .0 .inside in
+    let l = entry-before-word c .pre .0 .canon .long in
     (omega arith, omega arith)
 
 topic-at-requires : tie.Need-topic-at-requires
@@ -94,12 +98,12 @@ same-length c = search needs
 
 returns : tie.Need-returns
 returns c =
-    let a = c .before .before .before .before .args in
+    let a = entry-before-word c .args in
     let at = c .before .before .topic-at .result in
     let n = c .word .result in
     ap (λ (l : List ℕ). set l (at + 3) (n + 1)) (four-words (a .ledger) (a .entry) (a .handle) (a .batch) (at + 4 + n * 4) (a .store .now))
-    ∙ appended-words (a .t) at n (message-of (a .ledger) (a .entry) (a .handle) (a .batch)) (c .before .before .before .before .pre .0)
-    (c .before .before .topic-at .ensures) (counted c) (c .before .before .before .before .pre .1)
+    ∙ appended-words (a .t) at n (message-of (a .ledger) (a .entry) (a .handle) (a .batch)) (entry-before-word c .pre .0)
+    (c .before .before .topic-at .ensures) (counted c) (entry-before-word c .pre .1)
 
 pub append-message-spec : {M : Type 1} → statement M
 append-message-spec =

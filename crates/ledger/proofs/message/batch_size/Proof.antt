@@ -7,33 +7,30 @@ use Rattle.ledger.proofs.message.batch_size.Reads as reads
 use Rattle.ledger.proofs.message.batch_size.Lts as lts
 use Rattle.store.proofs.offsets.topic_at.Reads as topic-at-reads
 
--- src/message.rt:38:9
+-- the places: what stands before each, by name
+abbrev entry-before-shared-slice-known2 : tie.After-shared-slice-known2 → tie.Start
+entry-before-shared-slice-known2 c = c .before .before .before
+
 topic-at-requires : tie.Need-topic-at-requires
 topic-at-requires c κs = search needs
 
--- src/message.rt:39:11
 add-result : tie.Need-add-result
 add-result c = search needs
 
--- src/message.rt:39:20
 mul-result : tie.Need-mul-result
 mul-result c = search needs
 
--- src/message.rt:39:11
 add-result-2 : tie.Need-add-result-2
 add-result-2 c = search needs
 
--- src/message.rt:39:5
 mul-result-2 : tie.Need-mul-result-2
 mul-result-2 c = search needs
 
--- src/message.rt:39:5
 shared-slice-read-result : tie.Need-shared-slice-read-result
 shared-slice-read-result c = search needs
 
--- src/message.rt:34:1
 returns : tie.Need-returns
-returns c = batch-here (c .before .before .before .args .t) (c .before .topic-at .result) (c .before .before .before .args .k) (c .before .before .before .pre .0) (c .before .topic-at .ensures) (c .before .before .before .pre .1)
+returns c = batch-here (entry-before-shared-slice-known2 c .args .t) (c .before .topic-at .result) (entry-before-shared-slice-known2 c .args .k) (entry-before-shared-slice-known2 c .pre .0) (c .before .topic-at .ensures) (entry-before-shared-slice-known2 c .pre .1)
 
 pub batch-size-spec : {M : Type 1} → statement M
 batch-size-spec =

@@ -5,6 +5,10 @@ use borrow.Author.Needs.{needs}
 use Rattle.ledger.proofs.topic.message_count.Statement.{statement}
 use Rattle.ledger.proofs.topic.message_count.Tie as tie
 
+-- the places: what stands before each, by name
+abbrev entry-before-word : tie.After-word → tie.Start
+entry-before-word c = c .before .before .before
+
 topic-at-requires : tie.Need-topic-at-requires
 topic-at-requires c κs = search needs
 
@@ -15,7 +19,7 @@ word-requires : tie.Need-word-requires
 word-requires c κs = search needs
 
 returns : tie.Need-returns
-returns c = c .word .ensures ∙ count-here (c .before .before .before .args .t) (c .before .topic-at .result) (c .before .before .before .pre) (c .before .topic-at .ensures)
+returns c = c .word .ensures ∙ count-here (entry-before-word c .args .t) (c .before .topic-at .result) (entry-before-word c .pre) (c .before .topic-at .ensures)
 
 pub message-count-spec : {M : Type 1} → statement M
 message-count-spec = tie.close (tie.spec topic-at-requires add-word word-requires returns)

@@ -10,6 +10,13 @@ use borrow.Author.Needs.{needs}
 use Rattle.membership.proofs.admit.pairs_full.Statement.{statement}
 use Rattle.membership.proofs.admit.pairs_full.Tie as tie
 
+-- the places: what stands before each, by name
+abbrev entry-before-then1 : tie.Then1 → tie.Start
+entry-before-then1 c = c .before .before .before .before
+
+abbrev entry-before-else1 : tie.Else1 → tie.Start
+entry-before-else1 c = c .before .before .before .before
+
 find-dispatcher-requires : tie.Need-find-dispatcher-requires
 find-dispatcher-requires c κs = search needs
 
@@ -18,15 +25,15 @@ dispatcher-count-requires c κs = search needs
 
 returns : tie.Need-returns
 returns c =
-    let s = decode (c .before .before .before .before .args .store .now) in
+    let s = decode (entry-before-then1 c .args .store .now) in
     let h : c .before .before .find-dispatcher .result < length (s .dispatchers) = let n = c .before .dispatcher-count .ensures in let t = c .if1 .taken in omega arith in
-    not-new _ _ (pair-some s (c .before .before .find-dispatcher .result) (record { topic = c .before .before .before .before .args .topic; subscription = c .before .before .before .before .args .subscription }) (c .before .before .find-dispatcher .ensures) h)
+    not-new _ _ (pair-some s (c .before .before .find-dispatcher .result) (record { topic = entry-before-then1 c .args .topic; subscription = entry-before-then1 c .args .subscription }) (c .before .before .find-dispatcher .ensures) h)
 
 returns-2 : tie.Need-returns-2
 returns-2 c =
-    let s = decode (c .before .before .before .before .args .store .now) in
+    let s = decode (entry-before-else1 c .args .store .now) in
     let h : length (s .dispatchers) ≤ c .before .before .find-dispatcher .result = let n = c .before .dispatcher-count .ensures in let t = c .if1 .left in omega arith in
-    ap (λ (n : ℕ). leb 8 n) (c .before .dispatcher-count .ensures) ∙ new-by _ _ (pair-none s (c .before .before .find-dispatcher .result) (record { topic = c .before .before .before .before .args .topic; subscription = c .before .before .before .before .args .subscription }) (c .before .before .find-dispatcher .ensures) h)
+    ap (λ (n : ℕ). leb 8 n) (c .before .dispatcher-count .ensures) ∙ new-by _ _ (pair-none s (c .before .before .find-dispatcher .result) (record { topic = entry-before-else1 c .args .topic; subscription = entry-before-else1 c .args .subscription }) (c .before .before .find-dispatcher .ensures) h)
 
 pub pairs-full-spec : {M : Type 1} → statement M
 pairs-full-spec =

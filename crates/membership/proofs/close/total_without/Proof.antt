@@ -9,6 +9,16 @@ use Rattle.membership.proofs.Closes.{total-left}
 use Rattle.membership.proofs.close.total_without.Statement.{statement}
 use Rattle.membership.proofs.close.total_without.Tie as tie
 
+-- the places: what stands before each, by name
+abbrev entry-before-shared-slice-known2 : tie.After-shared-slice-known2 → tie.Start
+entry-before-shared-slice-known2 c = c .before .before .before .before
+
+abbrev total-available-permits-before-total-after : tie.After-total-after → tie.After-total-available-permits
+total-available-permits-before-total-after c = c .before .before .before
+
+abbrev entry-before-total-after : tie.After-total-after → tie.Start
+entry-before-total-after c = entry-before-shared-slice-known2 (c .before)
+
 total-available-permits-requires : tie.Need-total-available-permits-requires
 total-available-permits-requires c κs = dispatcher-in (live-canon (c .before .pre .0)) (c .before .args .d) (c .before .pre .2)
 
@@ -16,13 +26,13 @@ permits-requires : tie.Need-permits-requires
 permits-requires c κs = live-in (c .before .before .pre .0)
 
 shared-slice-read-total-after : tie.Need-shared-slice-read-total-after
-shared-slice-read-total-after c = let l = live-canon (c .before .before .before .before .pre .0) .long in omega arith
+shared-slice-read-total-after c = let l = live-canon (entry-before-shared-slice-known2 c .pre .0) .long in omega arith
 
 total-after-requires : tie.Need-total-after-requires
 total-after-requires c κs =
-    let h = c .before .before .before .before .pre .0 in
-    let s = decode (c .before .before .before .before .args .store .now) in
-    let v = dispatcher-found-valid s (c .before .before .before .before .args .d) (consumer-nth s (c .before .before .before .before .args .i) .pair) (c .before .before .before .before .pre .1) (live-valid h) (c .before .before .before .before .pre .2) in
+    let h = entry-before-shared-slice-known2 c .pre .0 in
+    let s = decode (entry-before-shared-slice-known2 c .args .store .now) in
+    let v = dispatcher-found-valid s (entry-before-shared-slice-known2 c .args .d) (consumer-nth s (entry-before-shared-slice-known2 c .args .i) .pair) (entry-before-shared-slice-known2 c .pre .1) (live-valid h) (entry-before-shared-slice-known2 c .pre .2) in
     let w = live-consumer h in
     let t = c .before .before .total-available-permits .ensures in
     let p = c .before .permits .ensures in
@@ -33,7 +43,7 @@ total-after-requires c κs =
     (omega (arith, t, a), omega (arith, t, b), omega (arith, p, x), omega (arith, p, y))
 
 returns : tie.Need-returns
-returns c = total-left (c .before .before .before .before .before .args .store .now) (c .total-after .result) (c .before .before .before .total-available-permits .result) (c .before .before .permits .result) (live-canon (c .before .before .before .before .before .pre .0)) (c .before .before .before .total-available-permits .ensures) (c .before .before .permits .ensures) (c .total-after .ensures)
+returns c = total-left (entry-before-total-after c .args .store .now) (c .total-after .result) (total-available-permits-before-total-after c .total-available-permits .result) (c .before .before .permits .result) (live-canon (entry-before-total-after c .pre .0)) (total-available-permits-before-total-after c .total-available-permits .ensures) (c .before .before .permits .ensures) (c .total-after .ensures)
 
 pub total-without-spec : {M : Type 1} → statement M
 total-without-spec =

@@ -4,6 +4,10 @@ use borrow.Author.Needs.{needs}
 use Rattle.membership.proofs.gap.open_consumer.Statement.{statement}
 use Rattle.membership.proofs.gap.open_consumer.Tie as tie
 
+-- the places: what stands before each, by name
+abbrev entry-before-slice-known2 : tie.After-slice-known2 → tie.Start
+entry-before-slice-known2 c = c .before .before .before .before .before
+
 mul-at : tie.Need-mul-at
 mul-at c = search needs
 
@@ -29,7 +33,7 @@ same-length : tie.Need-same-length
 same-length c = search needs
 
 returns : tie.Need-returns
-returns c = opened (c .before .before .before .before .before .args .i) (c .before .before .before .before .before .args .n) (c .before .before .before .before .before .pre .0) (c .before .before .before .before .before .pre .1) (c .before .before .before .before .before .pre .2) (c .before .before .before .before .before .pre .3) (c .before .before .open-gap .ensures)
+returns c = opened (entry-before-slice-known2 c .args .i) (entry-before-slice-known2 c .args .n) (entry-before-slice-known2 c .pre .0) (entry-before-slice-known2 c .pre .1) (entry-before-slice-known2 c .pre .2) (entry-before-slice-known2 c .pre .3) (c .before .before .open-gap .ensures)
 
 pub open-consumer-spec : {M : Type 1} → statement M
 open-consumer-spec =

@@ -11,8 +11,36 @@ use borrow.Author.Needs.{needs}
 use Rattle.membership.proofs.join.join.Statement.{statement}
 use Rattle.membership.proofs.join.join.Tie as tie
 
+-- the places: what stands before each, by name
+abbrev find-dispatcher-before-then1 : tie.Then1 → tie.After-find-dispatcher
+find-dispatcher-before-then1 c = c .before .before .before
+
+abbrev entry-before-then1 : tie.Then1 → tie.Start
+entry-before-then1 c = find-dispatcher-before-then1 c .before .before .before
+
+abbrev find-dispatcher-before-join-ring-arg : tie.After-join-ring-arg → tie.After-find-dispatcher
+find-dispatcher-before-join-ring-arg c = find-dispatcher-before-then1 (c .before)
+
+abbrev entry-before-join-ring-arg : tie.After-join-ring-arg → tie.Start
+entry-before-join-ring-arg c = entry-before-then1 (c .before)
+
+abbrev find-dispatcher-before-join-new-arg : tie.After-join-new-arg → tie.After-find-dispatcher
+find-dispatcher-before-join-new-arg c = c .before .before .before .before
+
+abbrev entry-before-join-new-arg : tie.After-join-new-arg → tie.Start
+entry-before-join-new-arg c = find-dispatcher-before-join-new-arg c .before .before .before
+
+abbrev then1-before-slice-known2 : tie.After-slice-known2 → tie.Then1
+then1-before-slice-known2 c = c .before .before .before .before
+
+abbrev find-dispatcher-before-slice-known2 : tie.After-slice-known2 → tie.After-find-dispatcher
+find-dispatcher-before-slice-known2 c = find-dispatcher-before-then1 (then1-before-slice-known2 c)
+
+abbrev entry-before-slice-known2 : tie.After-slice-known2 → tie.Start
+entry-before-slice-known2 c = entry-before-then1 (then1-before-slice-known2 c)
+
 -- the pair has a dispatcher
-there : (c : tie.Then1) → c .before .before .before .find-dispatcher .result < length (decode (c .before .before .before .before .before .before .args .store .now) .dispatchers)
+there : (c : tie.Then1) → find-dispatcher-before-then1 c .find-dispatcher .result < length (decode (entry-before-then1 c .args .store .now) .dispatchers)
 there c = let n = c .before .dispatcher-count .ensures in let t = c .if1 .taken in omega arith
 
 find-dispatcher-requires : tie.Need-find-dispatcher-requires
@@ -22,7 +50,7 @@ dispatcher-count-requires : tie.Need-dispatcher-count-requires
 dispatcher-count-requires c κs = search needs
 
 join-ring-requires : tie.Need-join-ring-requires
-join-ring-requires c κs = joins-there (c .before .before .before .before .find-dispatcher .result) (c .before .before .before .before .before .before .before .args .id) (record { topic = c .before .before .before .before .before .before .before .args .topic; subscription = c .before .before .before .before .before .before .before .args .subscription }) (c .before .before .before .before .before .before .before .pre) (c .before .before .before .before .find-dispatcher .ensures) (there (c .before))
+join-ring-requires c κs = joins-there (find-dispatcher-before-join-ring-arg c .find-dispatcher .result) (entry-before-join-ring-arg c .args .id) (record { topic = entry-before-join-ring-arg c .args .topic; subscription = entry-before-join-ring-arg c .args .subscription }) (entry-before-join-ring-arg c .pre) (find-dispatcher-before-join-ring-arg c .find-dispatcher .ensures) (there (c .before))
 
 same-length : tie.Need-same-length
 same-length c = search needs
@@ -30,15 +58,15 @@ same-length c = search needs
 returns : tie.Need-returns
 returns c =
     c .before .before .join-ring .ensures
-    ∙ ap (put (c .before .before .before .before .before .before .before .before .before .before .args .store .now)) (joined-there (c .before .before .before .before .before .before .before .find-dispatcher .result) (c .before .before .before .before .before .before .before .before .before .before .args .id) (record { topic = c .before .before .before .before .before .before .before .before .before .before .args .topic; subscription = c .before .before .before .before .before .before .before .before .before .before .args .subscription }) (c .before .before .before .before .before .before .before .before .before .before .pre) (c .before .before .before .before .before .before .before .find-dispatcher .ensures) (there (c .before .before .before .before)))
+    ∙ ap (put (entry-before-slice-known2 c .args .store .now)) (joined-there (find-dispatcher-before-slice-known2 c .find-dispatcher .result) (entry-before-slice-known2 c .args .id) (record { topic = entry-before-slice-known2 c .args .topic; subscription = entry-before-slice-known2 c .args .subscription }) (entry-before-slice-known2 c .pre) (find-dispatcher-before-slice-known2 c .find-dispatcher .ensures) (there (then1-before-slice-known2 c)))
 
 join-new-requires : tie.Need-join-new-requires
 join-new-requires c κs =
     let n = c .before .before .dispatcher-count .ensures in
-    let d = c .before .before .before .before .find-dispatcher .ensures in
+    let d = find-dispatcher-before-join-new-arg c .find-dispatcher .ensures in
     let t = c .before .if1 .left in
-    let m : length (decode (c .before .before .before .before .before .before .before .args .store .now) .dispatchers) ≤ slot by-pair (record { topic = c .before .before .before .before .before .before .before .args .topic; subscription = c .before .before .before .before .before .before .before .args .subscription }) (decode (c .before .before .before .before .before .before .before .args .store .now) .dispatchers) = omega arith in
-    (c .before .before .before .before .before .before .before .pre .canon, m, c .before .before .before .before .before .before .before .pre .dispatcher-room m)
+    let m : length (decode (entry-before-join-new-arg c .args .store .now) .dispatchers) ≤ slot by-pair (record { topic = entry-before-join-new-arg c .args .topic; subscription = entry-before-join-new-arg c .args .subscription }) (decode (entry-before-join-new-arg c .args .store .now) .dispatchers) = omega arith in
+    (entry-before-join-new-arg c .pre .canon, m, entry-before-join-new-arg c .pre .dispatcher-room m)
 
 same-length-2 : tie.Need-same-length-2
 same-length-2 c = search needs

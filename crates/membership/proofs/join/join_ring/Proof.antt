@@ -11,13 +11,35 @@ use borrow.Author.Needs.{needs}
 use Rattle.membership.proofs.join.join_ring.Statement.{statement}
 use Rattle.membership.proofs.join.join_ring.Tie as tie
 
+-- the places: what stands before each, by name
+abbrev ring-count-before-then1 : tie.Then1 → tie.After-ring-count
+ring-count-before-then1 c = c .before .before .before
+
+abbrev entry-before-then1 : tie.Then1 → tie.Start
+entry-before-then1 c = ring-count-before-then1 c .before .before .before
+
+abbrev ring-count-before-else1 : tie.Else1 → tie.After-ring-count
+ring-count-before-else1 c = c .before .before .before
+
+abbrev entry-before-else1 : tie.Else1 → tie.Start
+entry-before-else1 c = ring-count-before-else1 c .before .before .before
+
+abbrev entry-before-append-ring-arg : tie.After-append-ring-arg → tie.Start
+entry-before-append-ring-arg c = entry-before-then1 (c .before)
+
+abbrev then1-before-slice-known2 : tie.After-slice-known2 → tie.Then1
+then1-before-slice-known2 c = c .before .before .before .before
+
+abbrev entry-before-slice-known2 : tie.After-slice-known2 → tie.Start
+entry-before-slice-known2 c = entry-before-then1 (then1-before-slice-known2 c)
+
 -- the id is not in the ring
-missing : (c : tie.Then1) → member (c .before .before .before .before .before .before .args .id) (dispatcher-nth (decode (c .before .before .before .before .before .before .args .store .now)) (c .before .before .before .before .before .before .args .d) .attached) ≡ false
+missing : (c : tie.Then1) → member (entry-before-then1 c .args .id) (dispatcher-nth (decode (entry-before-then1 c .args .store .now)) (entry-before-then1 c .args .d) .attached) ≡ false
 missing c =
-    let n = c .before .before .before .ring-count .ensures in
+    let n = ring-count-before-then1 c .ring-count .ensures in
     let j = c .before .find-ring .ensures in
     let t = c .if1 .taken in
-    out-of-ring (c .before .before .before .before .before .before .args .id) (dispatcher-nth (decode (c .before .before .before .before .before .before .args .store .now)) (c .before .before .before .before .before .before .args .d) .attached) (omega arith)
+    out-of-ring (entry-before-then1 c .args .id) (dispatcher-nth (decode (entry-before-then1 c .args .store .now)) (entry-before-then1 c .args .d) .attached) (omega arith)
 
 ring-count-requires : tie.Need-ring-count-requires
 ring-count-requires c κs = search needs
@@ -26,7 +48,7 @@ find-ring-requires : tie.Need-find-ring-requires
 find-ring-requires c κs = search needs
 
 append-ring-requires : tie.Need-append-ring-requires
-append-ring-requires c κs = (c .before .before .before .before .before .before .before .pre .0, c .before .before .before .before .before .before .before .pre .1 (missing (c .before)))
+append-ring-requires c κs = (entry-before-append-ring-arg c .pre .0, entry-before-append-ring-arg c .pre .1 (missing (c .before)))
 
 same-length : tie.Need-same-length
 same-length c = search needs
@@ -34,19 +56,19 @@ same-length c = search needs
 returns : tie.Need-returns
 returns c =
     c .before .before .append-ring .ensures
-    ∙ ap (λ (x : Dispatcher). put (c .before .before .before .before .before .before .before .before .before .before .args .store .now) (set-dispatcher (decode (c .before .before .before .before .before .before .before .before .before .before .args .store .now)) (c .before .before .before .before .before .before .before .before .before .before .args .d) x))
-    (join-adds (c .before .before .before .before .before .before .before .before .before .before .args .id) (dispatcher-nth (decode (c .before .before .before .before .before .before .before .before .before .before .args .store .now)) (c .before .before .before .before .before .before .before .before .before .before .args .d)) (missing (c .before .before .before .before)))
+    ∙ ap (λ (x : Dispatcher). put (entry-before-slice-known2 c .args .store .now) (set-dispatcher (decode (entry-before-slice-known2 c .args .store .now)) (entry-before-slice-known2 c .args .d) x))
+    (join-adds (entry-before-slice-known2 c .args .id) (dispatcher-nth (decode (entry-before-slice-known2 c .args .store .now)) (entry-before-slice-known2 c .args .d)) (missing (then1-before-slice-known2 c)))
 
 same-length-2 : tie.Need-same-length-2
 same-length-2 c = search needs
 
 returns-2 : tie.Need-returns-2
 returns-2 c =
-    let n = c .before .before .before .ring-count .ensures in
+    let n = ring-count-before-else1 c .ring-count .ensures in
     let j = c .before .find-ring .ensures in
     let t = c .if1 .left in
-    let ws = c .before .before .before .before .before .before .args .store .now in
-    join-stays (c .before .before .before .before .before .before .args .d) (c .before .before .before .before .before .before .args .id) (c .before .before .before .before .before .before .pre .0 .canon) (in-ring (c .before .before .before .before .before .before .args .id) (dispatcher-nth (decode ws) (c .before .before .before .before .before .before .args .d) .attached) (omega arith))
+    let ws = entry-before-else1 c .args .store .now in
+    join-stays (entry-before-else1 c .args .d) (entry-before-else1 c .args .id) (entry-before-else1 c .pre .0 .canon) (in-ring (entry-before-else1 c .args .id) (dispatcher-nth (decode ws) (entry-before-else1 c .args .d) .attached) (omega arith))
 
 pub join-ring-spec : {M : Type 1} → statement M
 join-ring-spec =

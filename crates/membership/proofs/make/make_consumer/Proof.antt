@@ -7,12 +7,19 @@ use borrow.Author.Needs.{needs}
 use Rattle.membership.proofs.make.make_consumer.Statement.{statement}
 use Rattle.membership.proofs.make.make_consumer.Tie as tie
 
+-- the places: what stands before each, by name
+abbrev clear-nacked-before-consumer-at : tie.After-consumer-at → tie.After-clear-nacked
+clear-nacked-before-consumer-at c = c .before .before .before
+
+abbrev entry-before-consumer-at : tie.After-consumer-at → tie.Start
+entry-before-consumer-at c = clear-nacked-before-consumer-at c .before .before .before
+
 -- its words lie in the store
-room : (c : tie.After-consumer-at) → c .consumer-at .result + 72 ≤ length (c .before .before .before .clear-nacked .last .0)
+room : (c : tie.After-consumer-at) → c .consumer-at .result + 72 ≤ length (clear-nacked-before-consumer-at c .clear-nacked .last .0)
 room c =
     let a = c .consumer-at .ensures in
-    let i = c .before .before .before .before .before .before .pre .0 .inside in
-    let l = c .before .before .before .before .before .before .pre .0 .canon .long in
+    let i = entry-before-consumer-at c .pre .0 .inside in
+    let l = entry-before-consumer-at c .pre .0 .canon .long in
     search needs
 
 clear-nacked-requires : tie.Need-clear-nacked-requires
@@ -76,7 +83,7 @@ same-length : tie.Need-same-length
 same-length c = search needs
 
 returns : tie.Need-returns
-returns c = rw (c .consumer-at .ensures) (made-consumer (c .before .before .before .before .before .before .args .i) (c .before .before .before .before .before .before .pre .0) (c .before .before .before .before .before .before .args .id) (c .before .before .before .before .before .before .args .kind) (c .before .before .before .before .before .before .args .topic) (c .before .before .before .before .before .before .args .subscription) (c .before .before .before .before .before .before .pre .1) (c .before .before .before .clear-nacked .ensures))
+returns c = rw (c .consumer-at .ensures) (made-consumer (entry-before-consumer-at c .args .i) (entry-before-consumer-at c .pre .0) (entry-before-consumer-at c .args .id) (entry-before-consumer-at c .args .kind) (entry-before-consumer-at c .args .topic) (entry-before-consumer-at c .args .subscription) (entry-before-consumer-at c .pre .1) (clear-nacked-before-consumer-at c .clear-nacked .ensures))
 
 pub make-consumer-spec : {M : Type 1} → statement M
 make-consumer-spec =

@@ -10,20 +10,27 @@ use borrow.Author.Needs.{needs}
 use Rattle.membership.proofs.make.make_dispatcher.Statement.{statement}
 use Rattle.membership.proofs.make.make_dispatcher.Tie as tie
 
--- its words lie in the store
-inside : (c : tie.After-dispatcher-at) → c .dispatcher-at .result + (176 + 9 * c .before .before .before .before .before .before .args .e) ≤ reserved-at (c .before .before .before .before .before .before .args .e)
-inside c = rw (c .dispatcher-at .ensures) (dispatcher-inside (c .before .before .before .before .before .before .args .e) (c .before .before .before .before .before .before .args .n) (c .before .before .before .before .before .before .pre .2))
+-- the places: what stands before each, by name
+abbrev raise-dispatchers-before-dispatcher-at : tie.After-dispatcher-at → tie.After-raise-dispatchers
+raise-dispatchers-before-dispatcher-at c = c .before .before .before
 
-room : (c : tie.After-dispatcher-at) → c .dispatcher-at .result + (176 + 9 * c .before .before .before .before .before .before .args .e) ≤ length (c .before .before .before .raise-dispatchers .last .0)
+abbrev entry-before-dispatcher-at : tie.After-dispatcher-at → tie.Start
+entry-before-dispatcher-at c = raise-dispatchers-before-dispatcher-at c .before .before .before
+
+-- its words lie in the store
+inside : (c : tie.After-dispatcher-at) → c .dispatcher-at .result + (176 + 9 * entry-before-dispatcher-at c .args .e) ≤ reserved-at (entry-before-dispatcher-at c .args .e)
+inside c = rw (c .dispatcher-at .ensures, entry-before-dispatcher-at) (dispatcher-inside (entry-before-dispatcher-at c .args .e) (entry-before-dispatcher-at c .args .n) (entry-before-dispatcher-at c .pre .2))
+
+room : (c : tie.After-dispatcher-at) → c .dispatcher-at .result + (176 + 9 * entry-before-dispatcher-at c .args .e) ≤ length (raise-dispatchers-before-dispatcher-at c .raise-dispatchers .last .0)
 room c =
     let i = inside c in
-    let l = c .before .before .before .before .before .before .pre .0 .long in
+    let l = entry-before-dispatcher-at c .pre .0 .long in
     search needs
 
-below : (c : tie.After-dispatcher-at) → c .dispatcher-at .result + (176 + 9 * c .before .before .before .before .before .before .args .e) ≤ 1000000
+below : (c : tie.After-dispatcher-at) → c .dispatcher-at .result + (176 + 9 * entry-before-dispatcher-at c .args .e) ≤ 1000000
 below c =
     let i = inside c in
-    let l = c .before .before .before .before .before .before .pre .0 .E-to in
+    let l = entry-before-dispatcher-at c .pre .0 .E-to in
     omega arith
 
 raise-dispatchers-requires : tie.Need-raise-dispatchers-requires
@@ -76,9 +83,9 @@ same-length c = search needs
 
 returns : tie.Need-returns
 returns c =
-    let at : c .dispatcher-at .result + 175 + 3 * c .before .before .before .before .before .before .args .e ≡ dispatcher-at (c .before .before .before .before .before .before .args .e) (c .before .before .before .before .before .before .args .n) + marks-in (c .before .before .before .before .before .before .args .e) = let a = c .dispatcher-at .ensures in omega arith in
-    rw (at, c .dispatcher-at .ensures)
-    (made-dispatcher (c .before .before .before .before .before .before .args .n) (c .before .before .before .before .before .before .args .topic) (c .before .before .before .before .before .before .args .subscription) (c .before .before .before .before .before .before .args .entries) (c .before .before .before .before .before .before .pre .0) (c .before .before .before .before .before .before .pre .1) (c .before .before .before .before .before .before .pre .2) (c .before .before .before .before .before .before .pre .3) (c .before .before .before .raise-dispatchers .ensures))
+    let at : c .dispatcher-at .result + 175 + 3 * entry-before-dispatcher-at c .args .e ≡ dispatcher-at (entry-before-dispatcher-at c .args .e) (entry-before-dispatcher-at c .args .n) + marks-in (entry-before-dispatcher-at c .args .e) = let a = c .dispatcher-at .ensures in omega arith in
+    rw (at, c .dispatcher-at .ensures, entry-before-dispatcher-at)
+    (made-dispatcher (entry-before-dispatcher-at c .args .n) (entry-before-dispatcher-at c .args .topic) (entry-before-dispatcher-at c .args .subscription) (entry-before-dispatcher-at c .args .entries) (entry-before-dispatcher-at c .pre .0) (entry-before-dispatcher-at c .pre .1) (entry-before-dispatcher-at c .pre .2) (entry-before-dispatcher-at c .pre .3) (raise-dispatchers-before-dispatcher-at c .raise-dispatchers .ensures))
 
 pub make-dispatcher-spec : {M : Type 1} → statement M
 make-dispatcher-spec =

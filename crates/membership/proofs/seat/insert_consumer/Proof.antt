@@ -11,11 +11,39 @@ use borrow.Author.Needs.{needs}
 use Rattle.membership.proofs.seat.insert_consumer.Statement.{statement}
 use Rattle.membership.proofs.seat.insert_consumer.Tie as tie
 
+-- the places: what stands before each, by name
+abbrev entry-before-place-of : tie.After-place-of → tie.Start
+entry-before-place-of c = c .before .before .before .before .before
+
+abbrev consumer-count-before-open-consumer-arg : tie.After-open-consumer-arg → tie.After-consumer-count
+consumer-count-before-open-consumer-arg c = c .before .before .before
+
+abbrev entry-before-open-consumer-arg : tie.After-open-consumer-arg → tie.Start
+entry-before-open-consumer-arg c = entry-before-place-of (c .before)
+
+abbrev open-consumer-before-make-consumer-arg : tie.After-make-consumer-arg → tie.After-open-consumer
+open-consumer-before-make-consumer-arg c = c .before .before .before
+
+abbrev place-of-before-make-consumer-arg : tie.After-make-consumer-arg → tie.After-place-of
+place-of-before-make-consumer-arg c = open-consumer-before-make-consumer-arg c .before .before
+
+abbrev entry-before-make-consumer-arg : tie.After-make-consumer-arg → tie.Start
+entry-before-make-consumer-arg c = entry-before-place-of (place-of-before-make-consumer-arg c)
+
+abbrev open-consumer-before-slice-known3 : tie.After-slice-known3 → tie.After-open-consumer
+open-consumer-before-slice-known3 c = open-consumer-before-make-consumer-arg (c .before .before .before)
+
+abbrev place-of-before-slice-known3 : tie.After-slice-known3 → tie.After-place-of
+place-of-before-slice-known3 c = open-consumer-before-slice-known3 c .before .before
+
+abbrev entry-before-slice-known3 : tie.After-slice-known3 → tie.Start
+entry-before-slice-known3 c = entry-before-place-of (place-of-before-slice-known3 c)
+
 -- the place is in the table or just past it
-placed : (c : tie.After-place-of) → c .place-of .result ≤ length (decode (c .before .before .before .before .before .args .store .now) .consumers)
+placed : (c : tie.After-place-of) → c .place-of .result ≤ length (decode (entry-before-place-of c .args .store .now) .consumers)
 placed c =
     let p = c .place-of .ensures in
-    let l = place-le (c .before .before .before .before .before .args .id) (decode (c .before .before .before .before .before .args .store .now) .consumers) in
+    let l = place-le (entry-before-place-of c .args .id) (decode (entry-before-place-of c .args .store .now) .consumers) in
     omega arith
 
 consumer-count-requires : tie.Need-consumer-count-requires
@@ -26,14 +54,14 @@ place-of-requires c κs = search needs
 
 open-consumer-requires : tie.Need-open-consumer-requires
 open-consumer-requires c κs =
-    let n = c .before .before .before .consumer-count .ensures in
+    let n = consumer-count-before-open-consumer-arg c .consumer-count .ensures in
     let p = c .before .place-of .ensures in
-    let l = place-le (c .before .before .before .before .before .before .args .id) (decode (c .before .before .before .before .before .before .args .store .now) .consumers) in
-    let k = c .before .before .before .before .before .before .pre .2 in
-    (c .before .before .before .before .before .before .pre .0, n, omega arith, omega arith)
+    let l = place-le (entry-before-open-consumer-arg c .args .id) (decode (entry-before-open-consumer-arg c .args .store .now) .consumers) in
+    let k = entry-before-open-consumer-arg c .pre .2 in
+    (entry-before-open-consumer-arg c .pre .0, n, omega arith, omega arith)
 
 make-consumer-requires : tie.Need-make-consumer-requires
-make-consumer-requires c κs = (opened-in (c .before .before .before .before .before .place-of .result) (c .before .before .before .before .before .before .before .before .before .before .pre .0) (placed (c .before .before .before .before .before)) (c .before .before .before .before .before .before .before .before .before .before .pre .2) (c .before .before .before .open-consumer .ensures), c .before .before .before .before .before .before .before .before .before .before .pre .3)
+make-consumer-requires c κs = (opened-in (place-of-before-make-consumer-arg c .place-of .result) (entry-before-make-consumer-arg c .pre .0) (placed (place-of-before-make-consumer-arg c)) (entry-before-make-consumer-arg c .pre .2) (open-consumer-before-make-consumer-arg c .open-consumer .ensures), entry-before-make-consumer-arg c .pre .3)
 
 same-length : tie.Need-same-length
 same-length c = search needs
@@ -41,9 +69,9 @@ same-length c = search needs
 returns : tie.Need-returns
 unfolding new-consumer
 returns c =
-    let a = c .before .before .before .before .before .before .before .before .before .before .before .before .before .args in
-    seated-new (c .before .before .before .before .before .before .before .before .place-of .result) (c .before .before .before .before .before .before .before .before .before .before .before .before .before .pre .0) (placed (c .before .before .before .before .before .before .before .before)) (c .before .before .before .before .before .before .before .before .before .before .before .before .before .pre .2) (new-consumer (a .id) (kind-at (a .kind)) (record { topic = a .topic; subscription = a .subscription }))
-    (c .before .before .before .before .before .before .open-consumer .ensures) (c .before .before .make-consumer .ensures) (c .before .before .before .before .before .before .before .before .place-of .ensures) (c .before .before .before .before .before .before .before .before .before .before .before .before .before .pre .1)
+    let a = entry-before-slice-known3 c .args in
+    seated-new (place-of-before-slice-known3 c .place-of .result) (entry-before-slice-known3 c .pre .0) (placed (place-of-before-slice-known3 c)) (entry-before-slice-known3 c .pre .2) (new-consumer (a .id) (kind-at (a .kind)) (record { topic = a .topic; subscription = a .subscription }))
+    (open-consumer-before-slice-known3 c .open-consumer .ensures) (c .before .before .make-consumer .ensures) (place-of-before-slice-known3 c .place-of .ensures) (entry-before-slice-known3 c .pre .1)
 
 pub insert-consumer-spec : {M : Type 1} → statement M
 insert-consumer-spec =

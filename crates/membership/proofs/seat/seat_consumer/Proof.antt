@@ -14,9 +14,28 @@ use borrow.Author.Needs.{needs}
 use Rattle.membership.proofs.seat.seat_consumer.Statement.{statement}
 use Rattle.membership.proofs.seat.seat_consumer.Tie as tie
 
+-- the places: what stands before each, by name
+abbrev entry-before-i : tie.After-i → tie.Start
+entry-before-i c = c .before .before .before .before .before
+
+abbrev find-consumer-before-insert-consumer-arg : tie.After-insert-consumer-arg → tie.After-find-consumer
+find-consumer-before-insert-consumer-arg c = c .before .before .before
+
+abbrev entry-before-insert-consumer-arg : tie.After-insert-consumer-arg → tie.Start
+entry-before-insert-consumer-arg c = find-consumer-before-insert-consumer-arg c .before .before .before
+
+abbrev entry-before-make-consumer-arg : tie.After-make-consumer-arg → tie.Start
+entry-before-make-consumer-arg c = entry-before-i (c .before .before)
+
+abbrev i-before-slice-known3 : tie.After-slice-known3 → tie.After-i
+i-before-slice-known3 c = c .before .before .before .before .before
+
+abbrev entry-before-slice-known3 : tie.After-slice-known3 → tie.Start
+entry-before-slice-known3 c = entry-before-i (i-before-slice-known3 c)
+
 -- the slot that was found
-found : (c : tie.After-i) → (c .i .given .0 .0 ≡ slot by-id (c .before .before .before .before .before .args .id) (decode (c .before .before .before .before .before .args .store .now) .consumers)) × (c .i .given .0 .0 < length (decode (c .before .before .before .before .before .args .store .now) .consumers))
-found c = found-live (c .before .before .before .before .before .args .id) (decode (c .before .before .before .before .before .args .store .now) .consumers) (c .i .given .0 .0) (sym (c .i .given .1) ∙ c .before .before .find-consumer .ensures .0)
+found : (c : tie.After-i) → (c .i .given .0 .0 ≡ slot by-id (entry-before-i c .args .id) (decode (entry-before-i c .args .store .now) .consumers)) × (c .i .given .0 .0 < length (decode (entry-before-i c .args .store .now) .consumers))
+found c = found-live (entry-before-i c .args .id) (decode (entry-before-i c .args .store .now) .consumers) (c .i .given .0 .0) (sym (c .i .given .1) ∙ c .before .before .find-consumer .ensures .0)
 
 find-consumer-requires : tie.Need-find-consumer-requires
 find-consumer-requires c κs = search needs
@@ -29,8 +48,8 @@ enum-told c = search needs
 
 insert-consumer-requires : tie.Need-insert-consumer-requires
 insert-consumer-requires c κs =
-    let m = found-missing (c .before .before .before .before .before .before .args .id) (decode (c .before .before .before .before .before .before .args .store .now) .consumers) (sym (c .before .enum-told .given .1) ∙ c .before .before .before .find-consumer .ensures .0) in
-    (c .before .before .before .before .before .before .pre .0 .canon, m, c .before .before .before .before .before .before .pre .0 .room m, c .before .before .before .before .before .before .pre .1)
+    let m = found-missing (entry-before-insert-consumer-arg c .args .id) (decode (entry-before-insert-consumer-arg c .args .store .now) .consumers) (sym (c .before .enum-told .given .1) ∙ find-consumer-before-insert-consumer-arg c .find-consumer .ensures .0) in
+    (entry-before-insert-consumer-arg c .pre .0 .canon, m, entry-before-insert-consumer-arg c .pre .0 .room m, entry-before-insert-consumer-arg c .pre .1)
 
 same-length : tie.Need-same-length
 same-length c = search needs
@@ -39,7 +58,7 @@ returns : tie.Need-returns
 returns c = search needs
 
 make-consumer-requires : tie.Need-make-consumer-requires
-make-consumer-requires c κs = (consumer-in (c .before .before .before .before .before .before .before .pre .0 .canon) (c .before .before .i .given .0 .0) (found (c .before .before) .1), c .before .before .before .before .before .before .before .pre .1)
+make-consumer-requires c κs = (consumer-in (entry-before-make-consumer-arg c .pre .0 .canon) (c .before .before .i .given .0 .0) (found (c .before .before) .1), entry-before-make-consumer-arg c .pre .1)
 
 same-length-2 : tie.Need-same-length-2
 same-length-2 c = search needs
@@ -47,10 +66,10 @@ same-length-2 c = search needs
 returns-2 : tie.Need-returns-2
 unfolding new-consumer
 returns-2 c =
-    let a = c .before .before .before .before .before .before .before .before .before .before .args in
-    let f = found (c .before .before .before .before .before) in
+    let a = entry-before-slice-known3 c .args in
+    let f = found (i-before-slice-known3 c) in
     c .before .before .make-consumer .ensures
-    ∙ ap (put (a .store .now)) (seated-again (decode (a .store .now)) (c .before .before .before .before .before .i .given .0 .0) (new-consumer (a .id) (kind-at (a .kind)) (record { topic = a .topic; subscription = a .subscription })) (c .before .before .before .before .before .before .before .before .before .before .pre .0 .ascending) (f .0) (f .1))
+    ∙ ap (put (a .store .now)) (seated-again (decode (a .store .now)) (i-before-slice-known3 c .i .given .0 .0) (new-consumer (a .id) (kind-at (a .kind)) (record { topic = a .topic; subscription = a .subscription })) (entry-before-slice-known3 c .pre .0 .ascending) (f .0) (f .1))
 
 pub seat-consumer-spec : {M : Type 1} → statement M
 seat-consumer-spec =

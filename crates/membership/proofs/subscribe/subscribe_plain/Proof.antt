@@ -7,6 +7,10 @@ use borrow.Author.Needs.{needs}
 use Rattle.membership.proofs.subscribe.subscribe_plain.Statement.{statement}
 use Rattle.membership.proofs.subscribe.subscribe_plain.Tie as tie
 
+-- the places: what stands before each, by name
+abbrev entry-before-slice-known2 : tie.After-slice-known2 → tie.Start
+entry-before-slice-known2 c = c .before .before .before .before .before
+
 seat-consumer-requires : tie.Need-seat-consumer-requires
 seat-consumer-requires c κs =
     (seats (c .before .before .pre), omega arith)
@@ -17,7 +21,7 @@ same-length c = search needs
 returns : tie.Need-returns
 unfolding kind-at
 returns c =
-    done-with-nothing (c .before .before .before .before .before .args .store .now) _ (c .before .before .before .before .before .pre .spelt) (subscribe-plain (c .before .before .before .before .before .pre) (record { topic = c .before .before .before .before .before .args .topic; subscription = c .before .before .before .before .before .args .subscription })) (c .before .before .seat-consumer .ensures)
+    done-with-nothing (entry-before-slice-known2 c .args .store .now) _ (entry-before-slice-known2 c .pre .spelt) (subscribe-plain (entry-before-slice-known2 c .pre) (record { topic = entry-before-slice-known2 c .args .topic; subscription = entry-before-slice-known2 c .args .subscription })) (c .before .before .seat-consumer .ensures)
 
 pub subscribe-plain-spec : {M : Type 1} → statement M
 subscribe-plain-spec = tie.close (tie.spec seat-consumer-requires same-length returns)

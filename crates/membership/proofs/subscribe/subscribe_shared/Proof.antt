@@ -6,6 +6,46 @@ use borrow.Author.Needs.{needs}
 use Rattle.membership.proofs.subscribe.subscribe_shared.Statement.{statement}
 use Rattle.membership.proofs.subscribe.subscribe_shared.Tie as tie
 
+-- the places: what stands before each, by name
+abbrev entry-before-then1 : tie.Then1 → tie.Start
+entry-before-then1 c = c .before .before .before .before
+
+abbrev entry-before-ring-full-arg : tie.After-ring-full-arg → tie.Start
+entry-before-ring-full-arg c = c .before .before .before .before .before
+
+abbrev else1-before-then2 : tie.Then2 → tie.Else1
+else1-before-then2 c = c .before .before .before
+
+abbrev pairs-full-before-then2 : tie.Then2 → tie.After-pairs-full
+pairs-full-before-then2 c = else1-before-then2 c .before
+
+abbrev entry-before-then2 : tie.Then2 → tie.Start
+entry-before-then2 c = entry-before-ring-full-arg (c .before .before)
+
+abbrev else1-before-enter-arg : tie.After-enter-arg → tie.Else1
+else1-before-enter-arg c = c .before .before .before .before
+
+abbrev pairs-full-before-enter-arg : tie.After-enter-arg → tie.After-pairs-full
+pairs-full-before-enter-arg c = else1-before-enter-arg c .before
+
+abbrev entry-before-enter-arg : tie.After-enter-arg → tie.Start
+entry-before-enter-arg c = entry-before-ring-full-arg (c .before .before .before)
+
+abbrev else2-before-slice-known2 : tie.After-slice-known2 → tie.Else2
+else2-before-slice-known2 c = c .before .before .before .before
+
+abbrev ring-full-before-slice-known2 : tie.After-slice-known2 → tie.After-ring-full
+ring-full-before-slice-known2 c = else2-before-slice-known2 c .before
+
+abbrev else1-before-slice-known2 : tie.After-slice-known2 → tie.Else1
+else1-before-slice-known2 c = ring-full-before-slice-known2 c .before .before
+
+abbrev pairs-full-before-slice-known2 : tie.After-slice-known2 → tie.After-pairs-full
+pairs-full-before-slice-known2 c = else1-before-slice-known2 c .before
+
+abbrev entry-before-slice-known2 : tie.After-slice-known2 → tie.Start
+entry-before-slice-known2 c = entry-before-ring-full-arg (ring-full-before-slice-known2 c .before)
+
 pairs-full-requires : tie.Need-pairs-full-requires
 pairs-full-requires c κs =
     canon-of (c .before .before .args .e) (c .before .before .args .store .now) (c .before .before .pre .spelt) (c .before .before .pre .E)
@@ -15,29 +55,29 @@ same-length c = search needs
 
 returns : tie.Need-returns
 returns c =
-    refused-with (c .before .before .before .before .args .store .now) _ (c .before .before .before .before .pre .spelt) (subscribe-pairs (c .before .before .before .before .pre) (record { topic = c .before .before .before .before .args .topic; subscription = c .before .before .before .before .args .subscription }) (sym (c .before .pairs-full .ensures) ∙ c .if1 .taken))
+    refused-with (entry-before-then1 c .args .store .now) _ (entry-before-then1 c .pre .spelt) (subscribe-pairs (entry-before-then1 c .pre) (record { topic = entry-before-then1 c .args .topic; subscription = entry-before-then1 c .args .subscription }) (sym (c .before .pairs-full .ensures) ∙ c .if1 .taken))
 
 ring-full-requires : tie.Need-ring-full-requires
 ring-full-requires c κs =
-    canon-of (c .before .before .before .before .before .args .e) (c .before .before .before .before .before .args .store .now) (c .before .before .before .before .before .pre .spelt) (c .before .before .before .before .before .pre .E)
+    canon-of (entry-before-ring-full-arg c .args .e) (entry-before-ring-full-arg c .args .store .now) (entry-before-ring-full-arg c .pre .spelt) (entry-before-ring-full-arg c .pre .E)
 
 same-length-2 : tie.Need-same-length-2
 same-length-2 c = search needs
 
 returns-2 : tie.Need-returns-2
 returns-2 c =
-    refused-with (c .before .before .before .before .before .before .before .args .store .now) _ (c .before .before .before .before .before .before .before .pre .spelt) (subscribe-ring (c .before .before .before .before .before .before .before .pre) (record { topic = c .before .before .before .before .before .before .before .args .topic; subscription = c .before .before .before .before .before .before .before .args .subscription }) (sym (c .before .before .before .before .pairs-full .ensures) ∙ c .before .before .before .if1 .left) (sym (c .before .ring-full .ensures) ∙ c .if2 .taken))
+    refused-with (entry-before-then2 c .args .store .now) _ (entry-before-then2 c .pre .spelt) (subscribe-ring (entry-before-then2 c .pre) (record { topic = entry-before-then2 c .args .topic; subscription = entry-before-then2 c .args .subscription }) (sym (pairs-full-before-then2 c .pairs-full .ensures) ∙ else1-before-then2 c .if1 .left) (sym (c .before .ring-full .ensures) ∙ c .if2 .taken))
 
 enter-requires : tie.Need-enter-requires
 enter-requires c κs =
-    (seats (c .before .before .before .before .before .before .before .before .pre), joins (c .before .before .before .before .before .before .before .before .pre) (record { topic = c .before .before .before .before .before .before .before .before .args .topic; subscription = c .before .before .before .before .before .before .before .before .args .subscription }) (sym (c .before .before .before .before .before .pairs-full .ensures) ∙ c .before .before .before .before .if1 .left) (sym (c .before .before .ring-full .ensures) ∙ c .before .if2 .left))
+    (seats (entry-before-enter-arg c .pre), joins (entry-before-enter-arg c .pre) (record { topic = entry-before-enter-arg c .args .topic; subscription = entry-before-enter-arg c .args .subscription }) (sym (pairs-full-before-enter-arg c .pairs-full .ensures) ∙ else1-before-enter-arg c .if1 .left) (sym (c .before .before .ring-full .ensures) ∙ c .before .if2 .left))
 
 same-length-3 : tie.Need-same-length-3
 same-length-3 c = search needs
 
 returns-3 : tie.Need-returns-3
 returns-3 c =
-    done-with-nothing (c .before .before .before .before .before .before .before .before .before .before .before .args .store .now) _ (c .before .before .before .before .before .before .before .before .before .before .before .pre .spelt) (subscribe-shared (c .before .before .before .before .before .before .before .before .before .before .before .pre) (record { topic = c .before .before .before .before .before .before .before .before .before .before .before .args .topic; subscription = c .before .before .before .before .before .before .before .before .before .before .before .args .subscription }) (sym (c .before .before .before .before .before .before .before .before .pairs-full .ensures) ∙ c .before .before .before .before .before .before .before .if1 .left) (sym (c .before .before .before .before .before .ring-full .ensures) ∙ c .before .before .before .before .if2 .left)) (c .before .before .enter .ensures)
+    done-with-nothing (entry-before-slice-known2 c .args .store .now) _ (entry-before-slice-known2 c .pre .spelt) (subscribe-shared (entry-before-slice-known2 c .pre) (record { topic = entry-before-slice-known2 c .args .topic; subscription = entry-before-slice-known2 c .args .subscription }) (sym (pairs-full-before-slice-known2 c .pairs-full .ensures) ∙ else1-before-slice-known2 c .if1 .left) (sym (ring-full-before-slice-known2 c .ring-full .ensures) ∙ else2-before-slice-known2 c .if2 .left)) (c .before .before .enter .ensures)
 
 pub subscribe-shared-spec : {M : Type 1} → statement M
 subscribe-shared-spec =

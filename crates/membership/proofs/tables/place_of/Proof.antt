@@ -17,17 +17,36 @@ Inv-loop store e id n i₀ i = (i ≤ n) × Placing id (decode store .consumers)
 abbrev μ-loop : tie.MeasureT-loop
 μ-loop store e id n i₀ i = n - i
 
+-- the places: what stands before each, by name
+abbrev entry-before-in-loop : tie.In-loop Inv-loop μ-loop → tie.Start Inv-loop μ-loop
+entry-before-in-loop c = c .before .before .before .before
+
+abbrev entry-before-after-loop : tie.After-loop Inv-loop μ-loop → tie.Start Inv-loop μ-loop
+entry-before-after-loop c = c .before .before .before .before
+
+abbrev at-loop-before-then1 : tie.Then1 Inv-loop μ-loop → tie.At-loop Inv-loop μ-loop
+at-loop-before-then1 c = c .before .before .before
+
+abbrev entry-before-then1 : tie.Then1 Inv-loop μ-loop → tie.Start Inv-loop μ-loop
+entry-before-then1 c = entry-before-in-loop (c .before .before)
+
+abbrev at-loop-before-else1 : tie.Else1 Inv-loop μ-loop → tie.At-loop Inv-loop μ-loop
+at-loop-before-else1 c = c .before .before .before
+
+abbrev entry-before-else1 : tie.Else1 Inv-loop μ-loop → tie.Start Inv-loop μ-loop
+entry-before-else1 c = entry-before-in-loop (c .before .before)
+
 -- there are as many consumers as the count says
 counted : (c : tie.After-word Inv-loop μ-loop) → c .word .result ≡ length (decode (c .before .before .args .store .now) .consumers)
 counted c = c .word .ensures ∙ read-consumer-count (c .before .before .pre)
 
 -- the slot of a turn lies in the table
-here : (c : tie.In-loop Inv-loop μ-loop) → c .before .loop .i < length (decode (c .before .before .before .before .args .store .now) .consumers)
+here : (c : tie.In-loop Inv-loop μ-loop) → c .before .loop .i < length (decode (entry-before-in-loop c .args .store .now) .consumers)
 here c = let n = counted (c .before .before) in omega arith
 
 -- and in the store
-inside : (c : tie.In-loop Inv-loop μ-loop) → 17 + c .before .loop .i * 72 < length (c .before .before .before .before .args .store .now)
-inside c = let k = here c in let f = c .before .before .before .before .pre .shaped .consumers-fit in let l = c .before .before .before .before .pre .long in omega arith
+inside : (c : tie.In-loop Inv-loop μ-loop) → 17 + c .before .loop .i * 72 < length (entry-before-in-loop c .args .store .now)
+inside c = let k = here c in let f = entry-before-in-loop c .pre .shaped .consumers-fit in let l = entry-before-in-loop c .pre .long in omega arith
 
 word-requires : tie.Need-word-requires Inv-loop μ-loop
 word-requires c κs = let l = c .before .pre .long in omega arith
@@ -49,8 +68,8 @@ shared-slice-read-if1 c = let k = inside (c .before) in omega arith
 
 returns : tie.Need-returns Inv-loop μ-loop
 returns c =
-    let r = read-consumer-id (c .before .before .before .before .before .before .pre) (c .before .before .before .loop .i) (here (c .before .before)) in
-    placing-here (c .before .before .before .before .before .before .args .id) (decode (c .before .before .before .before .before .before .args .store .now) .consumers) (c .before .before .before .loop .i) (here (c .before .before)) (c .before .before .before .loop .inv .1)
+    let r = read-consumer-id (entry-before-then1 c .pre) (at-loop-before-then1 c .loop .i) (here (c .before .before)) in
+    placing-here (entry-before-then1 c .args .id) (decode (entry-before-then1 c .args .store .now) .consumers) (at-loop-before-then1 c .loop .i) (here (c .before .before)) (at-loop-before-then1 c .loop .inv .1)
     (let t = c .if1 .taken in omega arith)
 
 add-i : tie.Need-add-i Inv-loop μ-loop
@@ -61,17 +80,17 @@ loop-less c = search needs
 
 loop-again : tie.Need-loop-again Inv-loop μ-loop
 loop-again c =
-    let r = read-consumer-id (c .before .before .before .before .before .before .pre) (c .before .before .before .loop .i) (here (c .before .before)) in (
+    let r = read-consumer-id (entry-before-else1 c .pre) (at-loop-before-else1 c .loop .i) (here (c .before .before)) in (
       search needs,
-      placing-on (c .before .before .before .before .before .before .args .id) (decode (c .before .before .before .before .before .before .args .store .now) .consumers) (c .before .before .before .loop .i) (here (c .before .before)) (c .before .before .before .loop .inv .1)
+      placing-on (entry-before-else1 c .args .id) (decode (entry-before-else1 c .args .store .now) .consumers) (at-loop-before-else1 c .loop .i) (here (c .before .before)) (at-loop-before-else1 c .loop .inv .1)
           (let t = c .if1 .left in omega arith),
     )
 
 returns-2 : tie.Need-returns-2 Inv-loop μ-loop
 returns-2 c =
     let n = counted (c .before .before) in
-    let l : length (decode (c .before .before .before .before .args .store .now) .consumers) ≤ c .before .loop .i = omega arith in
-    placing-end (c .before .before .before .before .args .id) (decode (c .before .before .before .before .args .store .now) .consumers) (c .before .loop .i) l (c .before .loop .inv .1)
+    let l : length (decode (entry-before-after-loop c .args .store .now) .consumers) ≤ c .before .loop .i = omega arith in
+    placing-end (entry-before-after-loop c .args .id) (decode (entry-before-after-loop c .args .store .now) .consumers) (c .before .loop .i) l (c .before .loop .inv .1)
 
 pub place-of-spec : {M : Type 1} → statement M
 place-of-spec =

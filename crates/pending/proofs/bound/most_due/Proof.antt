@@ -6,6 +6,10 @@ use borrow.Author.Needs.{needs}
 use Rattle.pending.proofs.bound.most_due.Statement.{statement}
 use Rattle.pending.proofs.bound.most_due.Tie as tie
 
+-- the places: what stands before each, by name
+abbrev entry-before-waiting-plain : tie.After-waiting-plain → tie.Start
+entry-before-waiting-plain c = c .before .before .before
+
 waiting-shared-requires : tie.Need-waiting-shared-requires
 waiting-shared-requires c κs = search needs
 
@@ -14,7 +18,7 @@ waiting-plain-requires c κs = search needs
 
 add-result : tie.Need-add-result
 add-result c =
-    let f = most-small (decode (c .before .before .before .args .store .now)) (c .before .before .before .pre .shaped) in
+    let f = most-small (decode (entry-before-waiting-plain c .args .store .now)) (entry-before-waiting-plain c .pre .shaped) in
     let a = c .before .waiting-shared .ensures in
     let b = c .waiting-plain .ensures in
     omega (arith, f, a, b)

@@ -17,12 +17,22 @@ use borrow.Author.Needs.{needs}
 use Rattle.pending.proofs.bound.waiting_at.Statement.{statement}
 use Rattle.pending.proofs.bound.waiting_at.Tie as tie
 
+-- the places: what stands before each, by name
+abbrev entry-before-ledger-length : tie.After-ledger-length → tie.Start
+entry-before-ledger-length c = c .before .before .before .before
+
+abbrev ledger-length-before-queue-count : tie.After-queue-count → tie.After-ledger-length
+ledger-length-before-queue-count c = c .before .before .before
+
+abbrev entry-before-queue-count : tie.After-queue-count → tie.Start
+entry-before-queue-count c = entry-before-ledger-length (ledger-length-before-queue-count c)
+
 -- the length of the dispatcher's ledger
 entries-are : (c : tie.After-ledger-length)
-    → c .ledger-length .result ≡ length (ledger-under (decode (c .before .before .before .before .args .store .now)) (c .before .before .before .before .args .d))
+    → c .ledger-length .result ≡ length (ledger-under (decode (entry-before-ledger-length c .args .store .now)) (entry-before-ledger-length c .args .d))
 entries-are c =
-    let a = c .before .before .before .before .args in
-    let h = c .before .before .before .before .pre in
+    let a = entry-before-ledger-length c .args in
+    let h = entry-before-ledger-length c .pre in
     c .ledger-length .ensures
     ∙ ap (λ (k : ℕ). length (ledger-of (decode (a .store .now)) (getD (a .store .now) k 0))) (c .before .before .dispatcher-at .ensures)
     ∙ ap (λ (t : ℕ). length (ledger-of (decode (a .store .now)) t)) (read-dispatcher-topic (h .canon) (a .d) (h .there))
@@ -53,9 +63,9 @@ sub-result c = search needs
 
 add-result : tie.Need-add-result
 add-result c =
-    let a = c .before .before .before .before .before .before .before .args in
-    let h = c .before .before .before .before .before .before .before .pre in
-    let n = entries-are (c .before .before .before) in
+    let a = entry-before-queue-count c .args in
+    let h = entry-before-queue-count c .pre in
+    let n = entries-are (ledger-length-before-queue-count c) in
     let k = c .queue-count .ensures in
     let f = h .lists-fit .queue-fits in
     let g = ledger-fits (h .canon) (dispatcher-nth (decode (a .store .now)) (a .d) .pair .topic) in
@@ -65,9 +75,9 @@ add-result c =
 returns : tie.Need-returns
 unfolding waiting-at head-of
 returns c =
-    let a = c .before .before .before .before .before .before .before .args in
+    let a = entry-before-queue-count c .args in
     let x = dispatcher-nth (decode (a .store .now)) (a .d) in
-    wait (length (x .redelivery)) (length (ledger-under (decode (a .store .now)) (a .d))) (x .cursor) (c .queue-count .ensures) (entries-are (c .before .before .before))
+    wait (length (x .redelivery)) (length (ledger-under (decode (a .store .now)) (a .d))) (x .cursor) (c .queue-count .ensures) (entries-are (ledger-length-before-queue-count c))
     (ap (λ (h : numbers.Head). h .cursor) (c .before .before .load-head .ensures)) (c .before .smaller .ensures)
 
 pub waiting-at-spec : {M : Type 1} → statement M

@@ -8,12 +8,19 @@ use borrow.Author.Needs.{needs}
 use Rattle.pending.proofs.bound.waiting_for.Statement.{statement}
 use Rattle.pending.proofs.bound.waiting_for.Tie as tie
 
+-- the places: what stands before each, by name
+abbrev entry-before-then1 : tie.Then1 → tie.Start
+entry-before-then1 c = c .before .before .before
+
+abbrev entry-before-waiting : tie.After-waiting → tie.Start
+entry-before-waiting c = c .before .before .before .before
+
 is-shared-requires : tie.Need-is-shared-requires
 is-shared-requires c κs = search needs
 
 returns : tie.Need-returns
 returns c =
-    let a = c .before .before .before .args in
+    let a = entry-before-then1 c .args in
     let s = decode (a .store .now) in
     let x = consumer-nth s (a .i) in
     waits-not s x (flag-shared (x .kind) (sym (c .before .is-shared .ensures) ∙ c .if1 .taken))
@@ -23,7 +30,7 @@ waiting-requires c κs = search needs
 
 returns-2 : tie.Need-returns-2
 returns-2 c =
-    let a = c .before .before .before .before .args in
+    let a = entry-before-waiting c .args in
     let s = decode (a .store .now) in
     let x = consumer-nth s (a .i) in
     c .waiting .ensures ∙ waits s x (flag-plain (x .kind) (sym (c .before .before .is-shared .ensures) ∙ c .before .if1 .left))

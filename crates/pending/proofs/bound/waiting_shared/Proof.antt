@@ -19,12 +19,22 @@ Inv-loop store e n sum₀ d₀ sum d = (d ≤ n) × Adding (waiting-at (decode s
 abbrev μ-loop : tie.MeasureT-loop
 μ-loop store e n sum₀ d₀ sum d = n - d
 
+-- the places: what stands before each, by name
+abbrev entry-before-in-loop : tie.In-loop Inv-loop μ-loop → tie.Start Inv-loop μ-loop
+entry-before-in-loop c = c .before .before .before .before
+
+abbrev entry-before-after-loop : tie.After-loop Inv-loop μ-loop → tie.Start Inv-loop μ-loop
+entry-before-after-loop c = c .before .before .before .before
+
+abbrev entry-before-waiting-at : tie.After-waiting-at Inv-loop μ-loop → tie.Start Inv-loop μ-loop
+entry-before-waiting-at c = entry-before-in-loop (c .before)
+
 -- there are as many dispatchers as the count says
 counted : (c : tie.After-word Inv-loop μ-loop) → c .word .result ≡ length (decode (c .before .before .args .store .now) .dispatchers)
 counted c = c .word .ensures ∙ read-dispatcher-count (c .before .before .pre)
 
 -- that of a turn is one of them
-here : (c : tie.In-loop Inv-loop μ-loop) → c .before .loop .d < length (decode (c .before .before .before .before .args .store .now) .dispatchers)
+here : (c : tie.In-loop Inv-loop μ-loop) → c .before .loop .d < length (decode (entry-before-in-loop c .args .store .now) .dispatchers)
 here c = let n = counted (c .before .before) in let t = c .loop-test .taken in omega (arith, n, t)
 
 mul-word : tie.Need-mul-word Inv-loop μ-loop
@@ -40,29 +50,29 @@ loop-holds : tie.Need-loop-holds Inv-loop μ-loop
 loop-holds c = (search needs, adding-first (waiting-at (decode (c .before .before .args .store .now))) (decode (c .before .before .args .store .now) .dispatchers))
 
 waiting-at-requires : tie.Need-waiting-at-requires Inv-loop μ-loop
-waiting-at-requires c κs = dispatcher-in (c .before .before .before .before .pre) (c .before .loop .d) (here c)
+waiting-at-requires c κs = dispatcher-in (entry-before-in-loop c .pre) (c .before .loop .d) (here c)
 
 add-sum : tie.Need-add-sum Inv-loop μ-loop
 add-sum c =
-    let s = decode (c .before .before .before .before .before .args .store .now) in
+    let s = decode (entry-before-waiting-at c .args .store .now) in
     let b = adding-below (waiting-at s) (s .dispatchers) (c .before .before .loop .inv .1) zero-dispatcher (here (c .before)) (c .waiting-at .ensures) in
-    let f = shared-small s (c .before .before .before .before .before .pre .shaped) in
+    let f = shared-small s (entry-before-waiting-at c .pre .shaped) in
     omega (arith, b, f)
 
 add-d : tie.Need-add-d Inv-loop μ-loop
-add-d c = let l = here (c .before) in let f = c .before .before .before .before .before .pre .shaped .dispatchers-fit in omega (arith, l, f)
+add-d c = let l = here (c .before) in let f = entry-before-waiting-at c .pre .shaped .dispatchers-fit in omega (arith, l, f)
 
 loop-less : tie.Need-loop-less Inv-loop μ-loop
 loop-less c = let t = c .before .loop-test .taken in omega (arith, t)
 
 loop-again : tie.Need-loop-again Inv-loop μ-loop
 loop-again c =
-    let s = decode (c .before .before .before .before .before .args .store .now) in
+    let s = decode (entry-before-waiting-at c .args .store .now) in
     (search needs, adding-on (waiting-at s) (s .dispatchers) (c .before .before .loop .inv .1) zero-dispatcher (here (c .before)) (c .waiting-at .ensures))
 
 returns : tie.Need-returns Inv-loop μ-loop
 returns c =
-    let s = decode (c .before .before .before .before .args .store .now) in
+    let s = decode (entry-before-after-loop c .args .store .now) in
     let n = counted (c .before .before) in
     let t = c .loop-test .left in
     adding-last (waiting-at s) (s .dispatchers) (c .before .loop .inv .1) (omega (arith, n, t))

@@ -12,6 +12,10 @@ use borrow.Author.Needs.{needs}
 use Rattle.pending.proofs.command.due.Statement.{statement}
 use Rattle.pending.proofs.command.due.Tie as tie
 
+-- the places: what stands before each, by name
+abbrev entry-before-permits : tie.After-permits → tie.Start
+entry-before-permits c = c .before .before .before
+
 -- the store is spelt as it should be
 canon : (c : tie.Start) → Canon-store (c .args .e) (c .args .store .now)
 canon c = canon-of (c .args .e) (c .args .store .now) (c .pre .0) (c .pre .1)
@@ -31,12 +35,12 @@ array-borrow-prefix-permits : tie.Need-array-borrow-prefix-permits
 array-borrow-prefix-permits c = zeros-enough (counted c) (few (c .before .before))
 
 slice-aggregate-due-with : tie.Need-slice-aggregate-due-with
-slice-aggregate-due-with c = zeros-lent (counted (c .before)) (few (c .before .before .before))
+slice-aggregate-due-with c = zeros-lent (counted (c .before)) (few (entry-before-permits c))
 
 due-with-requires : tie.Need-due-with-requires
 due-with-requires c κs =
-    let p = c .before .before .before .pre in
-    (p .0, p .1, zeros-sized (counted (c .before)) (few (c .before .before .before)))
+    let p = entry-before-permits c .pre in
+    (p .0, p .1, zeros-sized (counted (c .before)) (few (entry-before-permits c)))
 
 returns : tie.Need-returns
 returns c = search needs

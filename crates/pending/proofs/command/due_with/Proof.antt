@@ -16,18 +16,31 @@ use borrow.Author.Needs.{needs}
 use Rattle.pending.proofs.command.due_with.Statement.{statement}
 use Rattle.pending.proofs.command.due_with.Tie as tie
 
+-- the places: what stands before each, by name
+abbrev entry-before-load-permits-arg : tie.After-load-permits-arg → tie.Start
+entry-before-load-permits-arg c = c .before .before .before
+
+abbrev due-shared-before-due-plain : tie.After-due-plain → tie.After-due-shared
+due-shared-before-due-plain c = c .before .before .before .before
+
+abbrev load-permits-before-due-plain : tie.After-due-plain → tie.After-load-permits
+load-permits-before-due-plain c = due-shared-before-due-plain c .before .before .before .before
+
+abbrev entry-before-due-plain : tie.After-due-plain → tie.Start
+entry-before-due-plain c = entry-before-load-permits-arg (load-permits-before-due-plain c .before)
+
 -- the sum is the number due
-counted : (c : tie.After-due-plain) → c .before .before .before .before .due-shared .result + c .due-plain .result ≡ length (local-push (decode (c .before .before .before .before .before .before .before .before .before .before .before .before .args .store .now)) .dispatched)
+counted : (c : tie.After-due-plain) → due-shared-before-due-plain c .due-shared .result + c .due-plain .result ≡ length (local-push (decode (entry-before-due-plain c .args .store .now)) .dispatched)
 counted c =
-    let s = decode (c .before .before .before .before .before .before .before .before .before .before .before .before .args .store .now) in
-    let p = c .before .before .before .before .before .before .before .before .load-permits .ensures in
-    let a = c .before .before .before .before .due-shared .ensures .0 ∙ ap (λ (q : List ℕ). length (all-service-records s (services s (s .dispatchers) q))) p in
-    let l = c .before .before .before .before .due-shared .ensures .1 ∙ ap (λ (q : List ℕ). permits-left q (services s (s .dispatchers) q)) p in
+    let s = decode (entry-before-due-plain c .args .store .now) in
+    let p = load-permits-before-due-plain c .load-permits .ensures in
+    let a = due-shared-before-due-plain c .due-shared .ensures .0 ∙ ap (λ (q : List ℕ). length (all-service-records s (services s (s .dispatchers) q))) p in
+    let l = due-shared-before-due-plain c .due-shared .ensures .1 ∙ ap (λ (q : List ℕ). permits-left q (services s (s .dispatchers) q)) p in
     let b = c .due-plain .ensures ∙ ap (λ (q : List ℕ). length (all-plain-records s (with-each (s .consumers) q))) l in
     ap₂ {A = ℕ} {B = ℕ} {C = ℕ} _+_ a b ∙ all-counted s
 
 load-permits-requires : tie.Need-load-permits-requires
-load-permits-requires c κs = (canon-of (c .before .before .before .args .e) (c .before .before .before .args .store .now) (c .before .before .before .pre .0) (c .before .before .before .pre .1), c .before .before .before .pre .2)
+load-permits-requires c κs = (canon-of (entry-before-load-permits-arg c .args .e) (entry-before-load-permits-arg c .args .store .now) (entry-before-load-permits-arg c .pre .0) (entry-before-load-permits-arg c .pre .1), entry-before-load-permits-arg c .pre .2)
 
 due-shared-requires : tie.Need-due-shared-requires
 due-shared-requires c κs = search needs
@@ -38,7 +51,7 @@ due-plain-requires c κs = search needs
 add-result : tie.Need-add-result
 add-result c =
     let n = counted c in
-    let f = due-small (decode (c .before .before .before .before .before .before .before .before .before .before .before .before .args .store .now)) (canon-of (c .before .before .before .before .before .before .before .before .before .before .before .before .args .e) (c .before .before .before .before .before .before .before .before .before .before .before .before .args .store .now) (c .before .before .before .before .before .before .before .before .before .before .before .before .pre .0) (c .before .before .before .before .before .before .before .before .before .before .before .before .pre .1) .shaped) in
+    let f = due-small (decode (entry-before-due-plain c .args .store .now)) (canon-of (entry-before-due-plain c .args .e) (entry-before-due-plain c .args .store .now) (entry-before-due-plain c .pre .0) (entry-before-due-plain c .pre .1) .shaped) in
     omega (arith, n, f)
 
 same-length : tie.Need-same-length

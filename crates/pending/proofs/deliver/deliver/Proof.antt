@@ -18,41 +18,50 @@ use Rattle.commands.proofs.consumer.consumer_id.Reads as consumer-id-reads
 use Rattle.pending.proofs.deliver.record_to.Reads as record-to-reads
 use Rattle.records.proofs.record.write_record.Reads as write-record-reads
 
--- src/deliver.rt:75:9
-consumer-id-requires : tie.Need-consumer-id-requires
-consumer-id-requires c κs = let p = c .before .before .before .pre in consumer-in (p .0 .here .canon) (c .before .before .before .args .step .consumer) (p .2)
+-- the places: what stands before each, by name
+abbrev entry-before-consumer-id-arg : tie.After-consumer-id-arg → tie.Start
+entry-before-consumer-id-arg c = c .before .before .before
 
--- src/deliver.rt:77:9
+abbrev write-record-before-slice-known4 : tie.After-slice-known4 → tie.After-write-record
+write-record-before-slice-known4 c = c .before .before .before .before .before .before
+
+abbrev record-to-before-slice-known4 : tie.After-slice-known4 → tie.After-record-to
+record-to-before-slice-known4 c = write-record-before-slice-known4 c .before .before
+
+abbrev consumer-id-before-slice-known4 : tie.After-slice-known4 → tie.After-consumer-id
+consumer-id-before-slice-known4 c = record-to-before-slice-known4 c .before .before
+
+abbrev entry-before-slice-known4 : tie.After-slice-known4 → tie.Start
+entry-before-slice-known4 c = entry-before-consumer-id-arg (consumer-id-before-slice-known4 c .before)
+
+consumer-id-requires : tie.Need-consumer-id-requires
+consumer-id-requires c κs = let p = entry-before-consumer-id-arg c .pre in consumer-in (p .0 .here .canon) (entry-before-consumer-id-arg c .args .step .consumer) (p .2)
+
 record-to-requires : tie.Need-record-to-requires
 record-to-requires c κs = search needs
 
--- src/deliver.rt:78:5
 write-record-requires : tie.Need-write-record-requires
 write-record-requires c κs = search needs
 
--- src/deliver.rt:79:5
 append-flight-requires : tie.Need-append-flight-requires
 append-flight-requires c κs = search needs
 
--- src/deliver.rt:70:1
 same-length : tie.Need-same-length
 same-length c = search needs
 
--- src/deliver.rt:70:1
 same-length-2 : tie.Need-same-length-2
 same-length-2 c = search needs
 
--- src/deliver.rt:70:1
 returns : tie.Need-returns
 unfolding step-of
 returns c =
-    let ws = c .before .before .before .before .before .before .before .before .before .before .before .before .before .before .args .store .now in
-    let x = step-of (c .before .before .before .before .before .before .before .before .before .before .before .before .before .before .args .step) in
-    let f = fixed-of (decode ws) (dispatcher-nth (decode ws) (c .before .before .before .before .before .before .before .before .before .before .before .before .before .before .args .d)) in
-    let id = c .before .before .before .before .before .before .before .before .before .before .consumer-id .result in (
-      flight-found ws (decode ws) (c .before .before .before .before .before .before .before .before .before .before .before .before .before .before .args .d) id x (c .before .before .before .before .before .before .before .before .before .before .consumer-id .ensures) (c .before .before .append-flight .ensures),
-      one-filled (c .before .before .before .before .before .before .before .before .before .before .before .before .before .before .args .list .now) (c .before .before .before .before .before .before .before .before .before .before .before .before .before .before .args .m) (record-of (decode ws) f x)
-          (c .before .before .before .before .before .before .write-record .ensures) (c .before .before .before .before .before .before .before .before .record-to .ensures ∙ ap flat (record-found (decode ws) f id x (c .before .before .before .before .before .before .before .before .before .before .consumer-id .ensures))),
+    let ws = entry-before-slice-known4 c .args .store .now in
+    let x = step-of (entry-before-slice-known4 c .args .step) in
+    let f = fixed-of (decode ws) (dispatcher-nth (decode ws) (entry-before-slice-known4 c .args .d)) in
+    let id = consumer-id-before-slice-known4 c .consumer-id .result in (
+      flight-found ws (decode ws) (entry-before-slice-known4 c .args .d) id x (consumer-id-before-slice-known4 c .consumer-id .ensures) (c .before .before .append-flight .ensures),
+      one-filled (entry-before-slice-known4 c .args .list .now) (entry-before-slice-known4 c .args .m) (record-of (decode ws) f x)
+          (write-record-before-slice-known4 c .write-record .ensures) (record-to-before-slice-known4 c .record-to .ensures ∙ ap flat (record-found (decode ws) f id x (consumer-id-before-slice-known4 c .consumer-id .ensures))),
     )
 
 pub deliver-spec : {M : Type 1} → statement M

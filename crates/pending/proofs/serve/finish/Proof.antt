@@ -8,21 +8,30 @@ use Rattle.pending.proofs.serve.finish.Lts as lts
 use Rattle.dispatcher.proofs.head.save_head.Reads as save-head-reads
 use Rattle.dispatcher.proofs.queue.drop_queue.Reads as drop-queue-reads
 
--- src/serve.rt:30:5
+-- the places: what stands before each, by name
+abbrev drop-queue-before-save-head-arg : tie.After-save-head-arg → tie.After-drop-queue
+drop-queue-before-save-head-arg c = c .before .before .before
+
+abbrev entry-before-save-head-arg : tie.After-save-head-arg → tie.Start
+entry-before-save-head-arg c = drop-queue-before-save-head-arg c .before .before .before
+
+abbrev drop-queue-before-slice-known3 : tie.After-slice-known3 → tie.After-drop-queue
+drop-queue-before-slice-known3 c = drop-queue-before-save-head-arg (c .before .before .before)
+
+abbrev entry-before-slice-known3 : tie.After-slice-known3 → tie.Start
+entry-before-slice-known3 c = entry-before-save-head-arg (c .before .before .before)
+
 drop-queue-requires : tie.Need-drop-queue-requires
 drop-queue-requires c κs = search needs
 
--- src/serve.rt:37:5
 save-head-requires : tie.Need-save-head-requires
-save-head-requires c κs = dropped-in (c .before .before .before .before .before .before .args .taken) (c .before .before .before .before .before .before .pre .0) (c .before .before .before .drop-queue .ensures)
+save-head-requires c κs = dropped-in (entry-before-save-head-arg c .args .taken) (entry-before-save-head-arg c .pre .0) (drop-queue-before-save-head-arg c .drop-queue .ensures)
 
--- src/serve.rt:26:1
 same-length : tie.Need-same-length
 same-length c = search needs
 
--- src/serve.rt:26:1
 returns : tie.Need-returns
-returns c = finished (c .before .before .before .before .before .before .before .before .before .args .taken) (c .before .before .before .before .before .before .before .before .before .pre .0) (c .before .before .before .before .before .before .drop-queue .ensures) (c .before .before .before .before .before .before .before .before .before .args .head) (c .before .before .before .before .before .before .before .before .before .pre .2) (c .before .before .save-head .ensures)
+returns c = finished (entry-before-slice-known3 c .args .taken) (entry-before-slice-known3 c .pre .0) (drop-queue-before-slice-known3 c .drop-queue .ensures) (entry-before-slice-known3 c .args .head) (entry-before-slice-known3 c .pre .2) (c .before .before .save-head .ensures)
 
 pub finish-spec : {M : Type 1} → statement M
 finish-spec = tie.close (tie.spec drop-queue-requires save-head-requires same-length returns)

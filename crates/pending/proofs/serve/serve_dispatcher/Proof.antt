@@ -8,6 +8,19 @@ use borrow.Author.Needs.{needs}
 use Rattle.pending.proofs.serve.serve_dispatcher.Statement.{statement}
 use Rattle.pending.proofs.serve.serve_dispatcher.Tie as tie
 
+-- the places: what stands before each, by name
+abbrev entry-before-serve-with-arg : tie.After-serve-with-arg → tie.Start
+entry-before-serve-with-arg c = c .before .before .before .before .before .before
+
+abbrev entry-before-ring : tie.After-ring → tie.Start
+entry-before-ring c = entry-before-serve-with-arg (c .before)
+
+abbrev ring-count-before-serve-with-arg3 : tie.After-serve-with-arg3 → tie.After-ring-count
+ring-count-before-serve-with-arg3 c = c .before .before .before .before
+
+abbrev entry-before-serve-with-arg3 : tie.After-serve-with-arg3 → tie.Start
+entry-before-serve-with-arg3 c = entry-before-ring (c .before .before)
+
 -- the ring is short
 short : (c : tie.Start) → length (dispatcher-nth (decode (c .args .store .now)) (c .args .d) .attached) ≤ 32
 short c = c .pre .0 .here .lists-fit .ring-fits
@@ -16,15 +29,15 @@ ring-count-requires : tie.Need-ring-count-requires
 ring-count-requires c κs = search needs
 
 array-borrow-prefix-ring : tie.Need-array-borrow-prefix-ring
-array-borrow-prefix-ring c = zeros-enough (c .before .ring-count .ensures) (short (c .before .before .before .before .before .before))
+array-borrow-prefix-ring c = zeros-enough (c .before .ring-count .ensures) (short (entry-before-serve-with-arg c))
 
 slice-aggregate-serve-with : tie.Need-slice-aggregate-serve-with
-slice-aggregate-serve-with c = zeros-lent (c .before .before .ring-count .ensures) (short (c .before .before .before .before .before .before .before))
+slice-aggregate-serve-with c = zeros-lent (c .before .before .ring-count .ensures) (short (entry-before-ring c))
 
 serve-with-requires : tie.Need-serve-with-requires
 serve-with-requires c κs =
-    let p = c .before .before .before .before .before .before .before .before .before .pre in
-    (p .0, zeros-sized (c .before .before .before .before .ring-count .ensures) (short (c .before .before .before .before .before .before .before .before .before)), p .1, p .2)
+    let p = entry-before-serve-with-arg3 c .pre in
+    (p .0, zeros-sized (ring-count-before-serve-with-arg3 c .ring-count .ensures) (short (entry-before-serve-with-arg3 c)), p .1, p .2)
 
 same-length : tie.Need-same-length
 same-length c = search needs

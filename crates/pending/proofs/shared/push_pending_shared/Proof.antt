@@ -25,83 +25,105 @@ Inv-loop store₀ e permits₀ list₀ n m₀ d₀ store permits list m d =
 abbrev μ-loop : tie.MeasureT-loop
 μ-loop store₀ e permits₀ list₀ n m₀ d₀ store permits list m d = n - d
 
+-- the places: what stands before each, by name
+abbrev entry-before-word-arg : tie.After-word-arg Inv-loop μ-loop → tie.Start Inv-loop μ-loop
+entry-before-word-arg c = c .before .before .before .before
+
+abbrev entry-before-word : tie.After-word Inv-loop μ-loop → tie.Start Inv-loop μ-loop
+entry-before-word c = entry-before-word-arg (c .before)
+
+abbrev entry-before-in-loop : tie.In-loop Inv-loop μ-loop → tie.Start Inv-loop μ-loop
+entry-before-in-loop c = entry-before-word (c .before .before)
+
+abbrev entry-before-after-loop : tie.After-loop Inv-loop μ-loop → tie.Start Inv-loop μ-loop
+entry-before-after-loop c = entry-before-word (c .before .before)
+
+abbrev in-loop-before-serve-dispatcher-arg3 : tie.After-serve-dispatcher-arg3 Inv-loop μ-loop → tie.In-loop Inv-loop μ-loop
+in-loop-before-serve-dispatcher-arg3 c = c .before .before .before
+
+abbrev at-loop-before-serve-dispatcher-arg3 : tie.After-serve-dispatcher-arg3 Inv-loop μ-loop → tie.At-loop Inv-loop μ-loop
+at-loop-before-serve-dispatcher-arg3 c = in-loop-before-serve-dispatcher-arg3 c .before
+
+abbrev entry-before-serve-dispatcher-arg3 : tie.After-serve-dispatcher-arg3 Inv-loop μ-loop → tie.Start Inv-loop μ-loop
+entry-before-serve-dispatcher-arg3 c = entry-before-in-loop (in-loop-before-serve-dispatcher-arg3 c)
+
+abbrev serve-dispatcher-before-slice-known6 : tie.After-slice-known6 Inv-loop μ-loop → tie.After-serve-dispatcher Inv-loop μ-loop
+serve-dispatcher-before-slice-known6 c = c .before .before .before .before .before .before
+
+abbrev in-loop-before-slice-known6 : tie.After-slice-known6 Inv-loop μ-loop → tie.In-loop Inv-loop μ-loop
+in-loop-before-slice-known6 c = in-loop-before-serve-dispatcher-arg3 (serve-dispatcher-before-slice-known6 c .before)
+
+abbrev at-loop-before-slice-known6 : tie.After-slice-known6 Inv-loop μ-loop → tie.At-loop Inv-loop μ-loop
+at-loop-before-slice-known6 c = in-loop-before-slice-known6 c .before
+
+abbrev entry-before-slice-known6 : tie.After-slice-known6 Inv-loop μ-loop → tie.Start Inv-loop μ-loop
+entry-before-slice-known6 c = entry-before-in-loop (in-loop-before-slice-known6 c)
+
 -- the store is spelt as it should be
 canon : (c : tie.Start Inv-loop μ-loop) → Canon-store (c .args .e) (c .args .store .now)
 canon c = canon-of (c .args .e) (c .args .store .now) (c .pre .0) (c .pre .1)
 
 -- the count is the number of dispatchers
-counted : (c : tie.After-word Inv-loop μ-loop) → c .word .result ≡ length (decode (c .before .before .before .before .before .args .store .now) .dispatchers)
-counted c = c .word .ensures ∙ read-dispatcher-count (canon (c .before .before .before .before .before))
+counted : (c : tie.After-word Inv-loop μ-loop) → c .word .result ≡ length (decode (entry-before-word c .args .store .now) .dispatchers)
+counted c = c .word .ensures ∙ read-dispatcher-count (canon (entry-before-word c))
 
 -- the dispatcher of a turn is one of them
-here : (c : tie.In-loop Inv-loop μ-loop) → c .before .loop .d < length (decode (c .before .before .before .before .before .before .before .args .store .now) .dispatchers)
+here : (c : tie.In-loop Inv-loop μ-loop) → c .before .loop .d < length (decode (entry-before-in-loop c .args .store .now) .dispatchers)
 here c = let n = counted (c .before .before) in let t = c .loop-test .taken in omega (arith, n, t)
 
--- src/shared.rt:23:32
 mul-word : tie.Need-mul-word Inv-loop μ-loop
-mul-word c = let h = canon (c .before .before .before .before) .E-to in omega (arith, h)
+mul-word c = let h = canon (entry-before-word-arg c) .E-to in omega (arith, h)
 
--- src/shared.rt:23:25
 add-word : tie.Need-add-word Inv-loop μ-loop
-add-word c = let h = canon (c .before .before .before .before) .E-to in omega (arith, h)
+add-word c = let h = canon (entry-before-word-arg c) .E-to in omega (arith, h)
 
--- src/shared.rt:23:9
 word-requires : tie.Need-word-requires Inv-loop μ-loop
-word-requires c κs = let h = canon (c .before .before .before .before) .long in omega (arith, h)
+word-requires c κs = let h = canon (entry-before-word-arg c) .long in omega (arith, h)
 
--- src/shared.rt:26:5
 loop-holds : tie.Need-loop-holds Inv-loop μ-loop
 loop-holds c =
-    let p = c .before .before .before .before .before .pre in
-    (refl, refl, refl, sharing-start (c .before .before .before .before .before .args .store .now) (p .0) (p .1) (c .before .before .before .before .before .args .permits .now) (c .before .before .before .before .before .args .list .now) (p .2))
+    let p = entry-before-word c .pre in
+    (refl, refl, refl, sharing-start (entry-before-word c .args .store .now) (p .0) (p .1) (entry-before-word c .args .permits .now) (entry-before-word c .args .list .now) (p .2))
 
--- src/shared.rt:27:9
 serve-dispatcher-requires : tie.Need-serve-dispatcher-requires Inv-loop μ-loop
 serve-dispatcher-requires c κs =
-    let p = c .before .before .before .before .before .before .before .before .before .before .pre in
-    let w = c .before .before .before .before .loop .inv .3 in
-    let ws = c .before .before .before .before .before .before .before .before .before .before .args .store .now in
-    let l = here (c .before .before .before) in
+    let p = entry-before-serve-dispatcher-arg3 c .pre in
+    let w = at-loop-before-serve-dispatcher-arg3 c .loop .inv .3 in
+    let ws = entry-before-serve-dispatcher-arg3 c .args .store .now in
+    let l = here (in-loop-before-serve-dispatcher-arg3 c) in
     (ready-next ws (p .0) (p .1) w l, permits-now ws (p .0) (p .1) w, room-next ws (p .0) (p .1) w l (p .3))
 
--- src/shared.rt:28:9
 add-d : tie.Need-add-d Inv-loop μ-loop
-add-d c = let l = here (c .before .before .before .before .before .before .before .before .before .before) in let f = canon (c .before .before .before .before .before .before .before .before .before .before .before .before .before .before .before .before .before) .shaped .dispatchers-fit in omega (arith, l, f)
+add-d c = let l = here (in-loop-before-slice-known6 c) in let f = canon (entry-before-slice-known6 c) .shaped .dispatchers-fit in omega (arith, l, f)
 
--- src/shared.rt:26:5
 loop-less : tie.Need-loop-less Inv-loop μ-loop
-loop-less c = let l = c .before .before .before .before .before .before .before .before .before .before .loop-test .taken in omega (arith, l)
+loop-less c = let l = in-loop-before-slice-known6 c .loop-test .taken in omega (arith, l)
 
--- src/shared.rt:26:5
 loop-again : tie.Need-loop-again Inv-loop μ-loop
 loop-again c =
-    let p = c .before .before .before .before .before .before .before .before .before .before .before .before .before .before .before .before .before .pre in
-    let w = c .before .before .before .before .before .before .before .before .before .before .before .loop .inv .3 in
-    let r = c .before .before .before .before .before .before .serve-dispatcher .ensures in (
+    let p = entry-before-slice-known6 c .pre in
+    let w = at-loop-before-slice-known6 c .loop .inv .3 in
+    let r = serve-dispatcher-before-slice-known6 c .serve-dispatcher .ensures in (
       search needs,
       search needs,
       search needs,
-      sharing-on (c .before .before .before .before .before .before .before .before .before .before .before .before .before .before .before .before .before .args .store .now) (p .0) (p .1) w (here (c .before .before .before .before .before .before .before .before .before .before)) (c .before .before .before .before .before .before .serve-dispatcher .result) (r .1 .0) (r .1 .1 .0) (r .1 .1 .1 .0) (r .0) (r .1 .1 .1 .1),
+      sharing-on (entry-before-slice-known6 c .args .store .now) (p .0) (p .1) w (here (in-loop-before-slice-known6 c)) (serve-dispatcher-before-slice-known6 c .serve-dispatcher .result) (r .1 .0) (r .1 .1 .0) (r .1 .1 .1 .0) (r .0) (r .1 .1 .1 .1),
     )
 
--- src/shared.rt:16:1
 same-length : tie.Need-same-length Inv-loop μ-loop
 same-length c = c .before .loop .inv .0
 
--- src/shared.rt:16:1
 same-length-2 : tie.Need-same-length-2 Inv-loop μ-loop
 same-length-2 c = c .before .loop .inv .1
 
--- src/shared.rt:16:1
 same-length-3 : tie.Need-same-length-3 Inv-loop μ-loop
 same-length-3 c = c .before .loop .inv .2
 
--- src/shared.rt:16:1
 returns : tie.Need-returns Inv-loop μ-loop
 returns c =
-    let p = c .before .before .before .before .before .before .before .pre in
+    let p = entry-before-after-loop c .pre in
     let w = c .before .loop .inv .3 in
-    let ws = c .before .before .before .before .before .before .before .args .store .now in
+    let ws = entry-before-after-loop c .args .store .now in
     let n = counted (c .before .before) in
     let t = c .loop-test .left in
     let l : length (decode ws .dispatchers) ≤ c .before .loop .d = omega (arith, n, t) in

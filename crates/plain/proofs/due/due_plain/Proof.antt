@@ -29,6 +29,19 @@ Inv-loop store e permits n due₀ i₀ due i = (i ≤ n) × (due + length (all-p
 abbrev μ-loop : tie.MeasureT-loop
 μ-loop store e permits n due₀ i₀ due i = n - i
 
+-- the places: what stands before each, by name
+abbrev entry-before-after-loop : tie.After-loop Inv-loop μ-loop → tie.Start Inv-loop μ-loop
+entry-before-after-loop c = c .before .before .before .before
+
+abbrev entry-before-shared-slice-known3 : tie.After-shared-slice-known3 Inv-loop μ-loop → tie.Start Inv-loop μ-loop
+entry-before-shared-slice-known3 c = c .before .before .before .before .before
+
+abbrev at-loop-before-plain-due : tie.After-plain-due Inv-loop μ-loop → tie.At-loop Inv-loop μ-loop
+at-loop-before-plain-due c = c .before .before .before
+
+abbrev entry-before-plain-due : tie.After-plain-due Inv-loop μ-loop → tie.Start Inv-loop μ-loop
+entry-before-plain-due c = entry-before-shared-slice-known3 (c .before)
+
 loop-holds : tie.Need-loop-holds Inv-loop μ-loop
 loop-holds c = (search needs, due-first (decode (c .before .before .args .store .now)) (c .before .before .args .permits .now), search needs)
 
@@ -40,28 +53,28 @@ shared-slice-read-plain-due c = search needs
 
 plain-due-requires : tie.Need-plain-due-requires Inv-loop μ-loop
 plain-due-requires c κs =
-    let a = c .before .before .before .before .before .args in
-    let p = c .before .before .before .before .before .pre in
+    let a = entry-before-shared-slice-known3 c .args in
+    let p = entry-before-shared-slice-known3 c .pre in
     let h : c .before .before .loop .i < length (decode (a .store .now) .consumers) = omega (arith, p .2) in
     consumer-in (canon-of (a .e) (a .store .now) (p .0) (p .1)) (c .before .before .loop .i) h
 
 -- consumer i is there
-there : (c : tie.After-plain-due Inv-loop μ-loop) → c .before .before .before .loop .i < length (decode (c .before .before .before .before .before .before .args .store .now) .consumers)
-there c = omega (arith, c .before .before .before .before .before .before .pre .2)
+there : (c : tie.After-plain-due Inv-loop μ-loop) → at-loop-before-plain-due c .loop .i < length (decode (entry-before-plain-due c .args .store .now) .consumers)
+there c = omega (arith, entry-before-plain-due c .pre .2)
 
 -- and is due few entries
 few : (c : tie.After-plain-due Inv-loop μ-loop) → c .plain-due .result ≤ 4160
 few c =
-    let a = c .before .before .before .before .before .before .args in
-    rw (c .plain-due .ensures) (due-few (canon-of (a .e) (a .store .now) (c .before .before .before .before .before .before .pre .0) (c .before .before .before .before .before .before .pre .1)) (c .before .before .before .loop .i) (getD (a .permits .now) (c .before .before .before .loop .i) 0) (there c))
+    let a = entry-before-plain-due c .args in
+    rw (c .plain-due .ensures) (due-few (canon-of (a .e) (a .store .now) (entry-before-plain-due c .pre .0) (entry-before-plain-due c .pre .1)) (at-loop-before-plain-due c .loop .i) (getD (a .permits .now) (at-loop-before-plain-due c .loop .i) 0) (there c))
 
 add-due : tie.Need-add-due Inv-loop μ-loop
 add-due c =
-    let a = c .before .before .before .before .before .before .args in
-    let k = canon-of (a .e) (a .store .now) (c .before .before .before .before .before .before .pre .0) (c .before .before .before .before .before .before .pre .1) in
+    let a = entry-before-plain-due c .args in
+    let k = canon-of (a .e) (a .store .now) (entry-before-plain-due c .pre .0) (entry-before-plain-due c .pre .1) in
     let m = k .shaped .consumers-fit in
     let f = few c in
-    let v = c .before .before .before .loop .inv .2 in
+    let v = at-loop-before-plain-due c .loop .inv .2 in
     let h = there c in
     omega arith
 
@@ -73,18 +86,18 @@ loop-less c = search needs
 
 loop-again : tie.Need-loop-again Inv-loop μ-loop
 loop-again c =
-    let a = c .before .before .before .before .before .before .args in
+    let a = entry-before-plain-due c .args in
     let f = few c in
     let h = there c in
-    let v = c .before .before .before .loop .inv in
+    let v = at-loop-before-plain-due c .loop .inv in
     let r = c .plain-due .ensures in
-    let t = due-turn (decode (a .store .now)) (a .permits .now) (c .before .before .before .loop .i) h in
-    (search needs, counted (c .before .before .before .loop .due) (length (all-plain-records (decode (a .store .now)) (drop (c .before .before .before .loop .i + 1) (with-each (decode (a .store .now) .consumers) (a .permits .now))))) (v .1) r t, up (c .before .before .before .loop .i) (v .2) f)
+    let t = due-turn (decode (a .store .now)) (a .permits .now) (at-loop-before-plain-due c .loop .i) h in
+    (search needs, counted (at-loop-before-plain-due c .loop .due) (length (all-plain-records (decode (a .store .now)) (drop (at-loop-before-plain-due c .loop .i + 1) (with-each (decode (a .store .now) .consumers) (a .permits .now))))) (v .1) r t, up (at-loop-before-plain-due c .loop .i) (v .2) f)
 
 returns : tie.Need-returns Inv-loop μ-loop
 returns c =
-    let a = c .before .before .before .before .args in
-    let p = c .before .before .before .before .pre in
+    let a = entry-before-after-loop c .args in
+    let p = entry-before-after-loop c .pre in
     let l : length (decode (a .store .now) .consumers) ≤ c .before .loop .i = omega (arith, p .2) in
     done (c .before .loop .inv .1) (due-rest (decode (a .store .now)) (a .permits .now) (c .before .loop .i) l)
 

@@ -11,12 +11,22 @@ use borrow.Author.Needs.{needs}
 use Rattle.plain.proofs.due.plain_due.Statement.{statement}
 use Rattle.plain.proofs.due.plain_due.Tie as tie
 
+-- the places: what stands before each, by name
+abbrev entry-before-then1 : tie.Then1 → tie.Start
+entry-before-then1 c = c .before .before .before
+
+abbrev is-shared-before-permitted : tie.After-permitted → tie.After-is-shared
+is-shared-before-permitted c = c .before .before .before
+
+abbrev entry-before-permitted : tie.After-permitted → tie.Start
+entry-before-permitted c = is-shared-before-permitted c .before .before
+
 is-shared-requires : tie.Need-is-shared-requires
 is-shared-requires c κs = search needs
 
 returns : tie.Need-returns
 returns c =
-    let a = c .before .before .before .args in
+    let a = entry-before-then1 c .args in
     let s = decode (a .store .now) in
     let x = consumer-nth s (a .i) in
     sym (charged-shared (ledger-for s x) x (a .permits) (flag-shared (x .kind) (sym (c .before .is-shared .ensures) ∙ c .if1 .taken)))
@@ -29,11 +39,11 @@ permitted-requires c κs = search needs
 
 returns-2 : tie.Need-returns-2
 returns-2 c =
-    let a = c .before .before .before .before .before .args in
+    let a = entry-before-permitted c .args in
     let s = decode (a .store .now) in
     let x = consumer-nth s (a .i) in
     c .permitted .ensures ∙ ap (λ (n : ℕ). min (a .permits - zero-permits) n) (c .before .waiting .ensures)
-    ∙ sym (charged-plain (ledger-for s x) x (a .permits) (flag-plain (x .kind) (sym (c .before .before .before .is-shared .ensures) ∙ c .before .before .if1 .left)))
+    ∙ sym (charged-plain (ledger-for s x) x (a .permits) (flag-plain (x .kind) (sym (is-shared-before-permitted c .is-shared .ensures) ∙ c .before .before .if1 .left)))
 
 pub plain-due-spec : {M : Type 1} → statement M
 plain-due-spec =

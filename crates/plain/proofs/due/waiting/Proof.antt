@@ -13,10 +13,20 @@ use borrow.Author.Needs.{needs}
 use Rattle.plain.proofs.due.waiting.Statement.{statement}
 use Rattle.plain.proofs.due.waiting.Tie as tie
 
+-- the places: what stands before each, by name
+abbrev entry-before-ledger-length : tie.After-ledger-length → tie.Start
+entry-before-ledger-length c = c .before .before .before
+
+abbrev ledger-length-before-nacked-count : tie.After-nacked-count → tie.After-ledger-length
+ledger-length-before-nacked-count c = c .before .before .before
+
+abbrev entry-before-nacked-count : tie.After-nacked-count → tie.Start
+entry-before-nacked-count c = entry-before-ledger-length (ledger-length-before-nacked-count c)
+
 -- the length of the consumer's ledger
 entries-are : (c : tie.After-ledger-length)
-    → c .ledger-length .result ≡ length (ledger-for (decode (c .before .before .before .args .store .now)) (consumer-nth (decode (c .before .before .before .args .store .now)) (c .before .before .before .args .i)))
-entries-are c = c .ledger-length .ensures ∙ ap (λ (t : ℕ). length (ledger-of (decode (c .before .before .before .args .store .now)) t)) (c .before .topic .ensures)
+    → c .ledger-length .result ≡ length (ledger-for (decode (entry-before-ledger-length c .args .store .now)) (consumer-nth (decode (entry-before-ledger-length c .args .store .now)) (entry-before-ledger-length c .args .i)))
+entries-are c = c .ledger-length .ensures ∙ ap (λ (t : ℕ). length (ledger-of (decode (entry-before-ledger-length c .args .store .now)) t)) (c .before .topic .ensures)
 
 topic-requires : tie.Need-topic-requires
 topic-requires c κs = search needs
@@ -38,19 +48,19 @@ sub-result c = search needs
 
 add-result : tie.Need-add-result
 add-result c =
-    let a = c .before .before .before .before .before .before .args in
-    let n = entries-are (c .before .before .before) in
+    let a = entry-before-nacked-count c .args in
+    let n = entries-are (ledger-length-before-nacked-count c) in
     let k = c .nacked-count .ensures in
-    let f = c .before .before .before .before .before .before .pre .nacked-fit in
-    let g = ledger-fits (c .before .before .before .before .before .before .pre .canon) (consumer-nth (decode (a .store .now)) (a .i) .pair .topic) in
-    let m = c .before .before .before .before .before .before .pre .canon .E-to in
+    let f = entry-before-nacked-count c .pre .nacked-fit in
+    let g = ledger-fits (entry-before-nacked-count c .pre .canon) (consumer-nth (decode (a .store .now)) (a .i) .pair .topic) in
+    let m = entry-before-nacked-count c .pre .canon .E-to in
     omega arith
 
 returns : tie.Need-returns
 returns c =
-    let a = c .before .before .before .before .before .before .args in
+    let a = entry-before-nacked-count c .args in
     let x = consumer-nth (decode (a .store .now)) (a .i) in
-    wait (length (x .nacked)) (length (ledger-for (decode (a .store .now)) x)) (x .cursor) (c .nacked-count .ensures) (entries-are (c .before .before .before)) (c .before .before .cursor .ensures) (c .before .smaller .ensures)
+    wait (length (x .nacked)) (length (ledger-for (decode (a .store .now)) x)) (x .cursor) (c .nacked-count .ensures) (entries-are (ledger-length-before-nacked-count c)) (c .before .before .cursor .ensures) (c .before .smaller .ensures)
 
 pub waiting-spec : {M : Type 1} → statement M
 waiting-spec =

@@ -11,22 +11,35 @@ use borrow.Author.Needs.{needs}
 use Rattle.plain.proofs.reader.drop_nacked.Statement.{statement}
 use Rattle.plain.proofs.reader.drop_nacked.Tie as tie
 
+-- the places: what stands before each, by name
+abbrev entry-before-word : tie.After-word → tie.Start
+entry-before-word c = c .before .before .before .before
+
+abbrev word-before-slice-known2 : tie.After-slice-known2 → tie.After-word
+word-before-slice-known2 c = c .before .before .before .before
+
+abbrev consumer-at-before-slice-known2 : tie.After-slice-known2 → tie.After-consumer-at
+consumer-at-before-slice-known2 c = word-before-slice-known2 c .before .before
+
+abbrev entry-before-slice-known2 : tie.After-slice-known2 → tie.Start
+entry-before-slice-known2 c = entry-before-word (word-before-slice-known2 c)
+
 -- the count is the number of nacked positions
-counted : (c : tie.After-word) → c .word .result ≡ length (consumer-nth (decode (c .before .before .before .before .args .store .now)) (c .before .before .before .before .args .i) .nacked)
-counted c = c .word .ensures ∙ rw (c .before .before .consumer-at .ensures) (read-nacked-count (c .before .before .before .before .pre .0 .canon) (c .before .before .before .before .args .i) (c .before .before .before .before .pre .0 .there))
+counted : (c : tie.After-word) → c .word .result ≡ length (consumer-nth (decode (entry-before-word c .args .store .now)) (entry-before-word c .args .i) .nacked)
+counted c = c .word .ensures ∙ rw (c .before .before .consumer-at .ensures, entry-before-word) (read-nacked-count (entry-before-word c .pre .0 .canon) (entry-before-word c .args .i) (entry-before-word c .pre .0 .there))
 
 -- so many are there
-there : (c : tie.After-word) → c .before .before .before .before .args .n ≤ c .word .result
-there c = let n = counted c in let h = c .before .before .before .before .pre .1 in omega arith
+there : (c : tie.After-word) → entry-before-word c .args .n ≤ c .word .result
+there c = let n = counted c in let h = entry-before-word c .pre .1 in omega arith
 
 -- their words lie in the store
-inside : (c : tie.After-word) → c .before .before .consumer-at .result + 7 + c .word .result ≤ length (c .before .before .before .before .args .store .now)
+inside : (c : tie.After-word) → c .before .before .consumer-at .result + 7 + c .word .result ≤ length (entry-before-word c .args .store .now)
 inside c =
     let n = counted c in
-    let f = c .before .before .before .before .pre .0 .nacked-fit in
+    let f = entry-before-word c .pre .0 .nacked-fit in
     let a = c .before .before .consumer-at .ensures in
-    let i = c .before .before .before .before .pre .0 .inside in
-    let l = c .before .before .before .before .pre .0 .canon .long in
+    let i = entry-before-word c .pre .0 .inside in
+    let l = entry-before-word c .pre .0 .canon .long in
     omega arith
 
 consumer-at-requires : tie.Need-consumer-at-requires
@@ -48,7 +61,7 @@ close-gap-requires : tie.Need-close-gap-requires
 close-gap-requires c κs = let t = there (c .before) in let k = inside (c .before) in omega arith
 
 sub-store : tie.Need-sub-store
-sub-store c = let t = there (c .before .before .before .before) in omega arith
+sub-store c = let t = there (word-before-slice-known2 c) in omega arith
 
 add-store : tie.Need-add-store
 add-store c = search needs
@@ -63,7 +76,7 @@ same-length : tie.Need-same-length
 same-length c = search needs
 
 returns : tie.Need-returns
-returns c = dropped-nacked (c .before .before .before .before .before .before .before .before .args .i) (c .before .before .before .before .before .before .consumer-at .result) (c .before .before .before .before .before .before .before .before .args .n) (c .before .before .before .before .word .result) (c .before .before .before .before .before .before .before .before .pre .0) (c .before .before .before .before .before .before .consumer-at .ensures) (c .before .before .before .before .before .before .before .before .pre .1) (counted (c .before .before .before .before)) (c .before .before .close-gap .ensures)
+returns c = dropped-nacked (entry-before-slice-known2 c .args .i) (consumer-at-before-slice-known2 c .consumer-at .result) (entry-before-slice-known2 c .args .n) (word-before-slice-known2 c .word .result) (entry-before-slice-known2 c .pre .0) (consumer-at-before-slice-known2 c .consumer-at .ensures) (entry-before-slice-known2 c .pre .1) (counted (word-before-slice-known2 c)) (c .before .before .close-gap .ensures)
 
 pub drop-nacked-spec : {M : Type 1} → statement M
 drop-nacked-spec =

@@ -5,6 +5,10 @@ use borrow.Author.Needs.{needs}
 use Rattle.plain.proofs.reader.nacked.Statement.{statement}
 use Rattle.plain.proofs.reader.nacked.Tie as tie
 
+-- the places: what stands before each, by name
+abbrev entry-before-word : tie.After-word → tie.Start
+entry-before-word c = c .before .before .before
+
 consumer-at-requires : tie.Need-consumer-at-requires
 consumer-at-requires c κs = search needs
 
@@ -18,7 +22,7 @@ word-requires : tie.Need-word-requires
 word-requires c κs = search needs
 
 returns : tie.Need-returns
-returns c = c .word .ensures ∙ rw (c .before .consumer-at .ensures) (read-nacked (c .before .before .before .pre .0 .canon) (c .before .before .before .args .i) (c .before .before .before .pre .0 .there) (c .before .before .before .args .j) (c .before .before .before .pre .1))
+returns c = c .word .ensures ∙ rw (c .before .consumer-at .ensures) (read-nacked (entry-before-word c .pre .0 .canon) (entry-before-word c .args .i) (entry-before-word c .pre .0 .there) (entry-before-word c .args .j) (entry-before-word c .pre .1))
 
 pub nacked-spec : {M : Type 1} → statement M
 nacked-spec = tie.close (tie.spec consumer-at-requires add-word add-word-2 word-requires returns)

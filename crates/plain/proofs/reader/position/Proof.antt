@@ -9,6 +9,13 @@ use borrow.Author.Needs.{needs}
 use Rattle.plain.proofs.reader.position.Statement.{statement}
 use Rattle.plain.proofs.reader.position.Tie as tie
 
+-- the places: what stands before each, by name
+abbrev entry-before-nacked : tie.After-nacked → tie.Start
+entry-before-nacked c = c .before .before .before .before
+
+abbrev entry-before-cursor : tie.After-cursor → tie.Start
+entry-before-cursor c = c .before .before .before .before
+
 nacked-count-requires : tie.Need-nacked-count-requires
 nacked-count-requires c κs = search needs
 
@@ -17,7 +24,7 @@ nacked-requires c κs = search needs
 
 returns : tie.Need-returns
 returns c =
-    let a = c .before .before .before .before .args in
+    let a = entry-before-nacked c .args in
     let x = consumer-nth (decode (a .store .now)) (a .i) in
     let t : a .j < length (x .nacked) = rw (← c .before .before .nacked-count .ensures) (c .before .if1 .taken) in
     c .nacked .ensures ∙ position-nacked x (a .j) t
@@ -30,7 +37,7 @@ add-result c = search needs
 
 returns-2 : tie.Need-returns-2
 returns-2 c =
-    let a = c .before .before .before .before .args in
+    let a = entry-before-cursor c .args in
     let x = consumer-nth (decode (a .store .now)) (a .i) in
     let t : length (x .nacked) ≤ a .j = rw (← c .before .before .nacked-count .ensures) (c .before .if1 .left) in
     ap₂ (λ (k n : ℕ). k + (a .j - n)) (c .cursor .ensures) (c .before .before .nacked-count .ensures) ∙ position-later x (a .j) t

@@ -7,6 +7,10 @@ use borrow.Author.Needs.{needs}
 use Rattle.plain.proofs.serve.plain_record.Statement.{statement}
 use Rattle.plain.proofs.serve.plain_record.Tie as tie
 
+-- the places: what stands before each, by name
+abbrev entry-before-signed : tie.After-signed → tie.Start
+entry-before-signed c = c .before .before .before
+
 load-message-requires : tie.Need-load-message-requires
 load-message-requires c κs = search needs
 
@@ -16,7 +20,7 @@ signed-requires c κs = search needs
 returns : tie.Need-returns
 unfolding record-to
 returns c =
-    let a = c .before .before .before .args in
+    let a = entry-before-signed c .args in
     record-flat _ (a .permits) (c .signed .ensures)
     (ap (λ (x : StoredMessage). record { consumer = a .id; message = x; ack-set-words = 0; ack-set = no-bits; redelivery-count = 0; cost = 1; permits = a .permits }) (c .before .load-message .ensures))
 

@@ -12,6 +12,22 @@ use borrow.Author.Needs.{needs}
 use Rattle.plain.proofs.serve.send_entry.Statement.{statement}
 use Rattle.plain.proofs.serve.send_entry.Tie as tie
 
+-- the places: what stands before each, by name
+abbrev entry-before-consumer-id : tie.After-consumer-id → tie.Start
+entry-before-consumer-id c = c .before .before .before .before
+
+abbrev plain-record-before-slice-known2 : tie.After-slice-known2 → tie.After-plain-record
+plain-record-before-slice-known2 c = c .before .before .before .before
+
+abbrev consumer-id-before-slice-known2 : tie.After-slice-known2 → tie.After-consumer-id
+consumer-id-before-slice-known2 c = plain-record-before-slice-known2 c .before
+
+abbrev position-before-slice-known2 : tie.After-slice-known2 → tie.After-position
+position-before-slice-known2 c = consumer-id-before-slice-known2 c .before
+
+abbrev entry-before-slice-known2 : tie.After-slice-known2 → tie.Start
+entry-before-slice-known2 c = entry-before-consumer-id (consumer-id-before-slice-known2 c)
+
 position-requires : tie.Need-position-requires
 position-requires c κs = search needs
 
@@ -26,8 +42,8 @@ sub-plain-record-2 c = search needs
 
 plain-record-requires : tie.Need-plain-record-requires
 plain-record-requires c κs =
-    let a = c .before .before .before .before .args in
-    let h = c .before .before .before .before .pre .0 in
+    let a = entry-before-consumer-id c .args in
+    let h = entry-before-consumer-id c .pre .0 in
     let s = decode (a .store .now) in
     let x = consumer-nth s (a .i) in
     (h .topic, rw (c .before .position .ensures, h .ledger) (position-inside (ledger-for s x) x (a .j) (a .j + 1) (h .readable .cursor-in) (h .readable .nacked-in) (search needs) (h .waiting)))
@@ -40,13 +56,13 @@ same-length c = search needs
 
 returns : tie.Need-returns
 returns c =
-    let a = c .before .before .before .before .before .before .before .before .before .args in
-    let h = c .before .before .before .before .before .before .before .before .before .pre .0 in
+    let a = entry-before-slice-known2 c .args in
+    let h = entry-before-slice-known2 c .pre .0 in
     let s = decode (a .store .now) in
     let x = consumer-nth s (a .i) in
     c .before .before .write-record .ensures
     ∙ ap (λ (l : List ℕ). lay l .run (a .m * 13) (a .list .now))
-    (c .before .before .before .before .plain-record .ensures ∙ ap flat (entry-is (ledger-for s x) x (a .permits) (a .j) (h .ledger) (c .before .before .before .before .before .consumer-id .ensures) (c .before .before .before .before .before .before .position .ensures)))
+    (plain-record-before-slice-known2 c .plain-record .ensures ∙ ap flat (entry-is (ledger-for s x) x (a .permits) (a .j) (h .ledger) (consumer-id-before-slice-known2 c .consumer-id .ensures) (position-before-slice-known2 c .position .ensures)))
 
 pub send-entry-spec : {M : Type 1} → statement M
 send-entry-spec =

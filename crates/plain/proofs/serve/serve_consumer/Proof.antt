@@ -14,6 +14,22 @@ use borrow.Author.Needs.{needs}
 use Rattle.plain.proofs.serve.serve_consumer.Statement.{statement}
 use Rattle.plain.proofs.serve.serve_consumer.Tie as tie
 
+-- the places: what stands before each, by name
+abbrev plain-due-before-take-entries-arg : tie.After-take-entries-arg → tie.After-plain-due
+plain-due-before-take-entries-arg c = c .before .before .before .before .before .before
+
+abbrev entry-before-take-entries-arg : tie.After-take-entries-arg → tie.Start
+entry-before-take-entries-arg c = plain-due-before-take-entries-arg c .before .before .before .before
+
+abbrev serve-due-before-slice-known4 : tie.After-slice-known4 → tie.After-serve-due
+serve-due-before-slice-known4 c = c .before .before .before .before .before .before
+
+abbrev plain-due-before-slice-known4 : tie.After-slice-known4 → tie.After-plain-due
+plain-due-before-slice-known4 c = plain-due-before-take-entries-arg (c .before .before .before)
+
+abbrev entry-before-slice-known4 : tie.After-slice-known4 → tie.Start
+entry-before-slice-known4 c = entry-before-take-entries-arg (c .before .before .before)
+
 plain-due-requires : tie.Need-plain-due-requires
 plain-due-requires c κs = search needs
 
@@ -22,11 +38,11 @@ serve-due-requires c κs = search needs
 
 take-entries-requires : tie.Need-take-entries-requires
 take-entries-requires c κs =
-    let a = c .before .before .before .before .before .before .before .before .before .before .args in
-    let p = c .before .before .before .before .before .before .before .before .before .before .pre in
+    let a = entry-before-take-entries-arg c .args in
+    let p = entry-before-take-entries-arg c .pre in
     let s = decode (a .store .now) in
     let x = consumer-nth s (a .i) in
-    (p .0, cursor-low (a .i) (p .0) (p .1), rw (c .before .before .before .before .before .before .plain-due .ensures) (due-few (p .0 .canon) (a .i) (a .permits) (p .0 .there)), rw (c .before .before .before .before .before .before .plain-due .ensures) (charged-permitted (ledger-for s x) x (a .permits)))
+    (p .0, cursor-low (a .i) (p .0) (p .1), rw (plain-due-before-take-entries-arg c .plain-due .ensures) (due-few (p .0 .canon) (a .i) (a .permits) (p .0 .there)), rw (plain-due-before-take-entries-arg c .plain-due .ensures) (charged-permitted (ledger-for s x) x (a .permits)))
 
 add-result : tie.Need-add-result
 add-result c = search needs
@@ -39,14 +55,14 @@ same-length-2 c = search needs
 
 returns : tie.Need-returns
 returns c =
-    let a = c .before .before .before .before .before .before .before .before .before .before .before .before .before .args in
+    let a = entry-before-slice-known4 c .args in
     let s = decode (a .store .now) in
     let x = consumer-nth s (a .i) in
-    let n = c .before .before .before .before .before .before .before .before .before .plain-due .ensures in (
+    let n = plain-due-before-slice-known4 c .plain-due .ensures in (
       ap (λ (k : ℕ). a .m + k) n,
       (
         c .before .before .take-entries .ensures ∙ ap (λ (y : Consumer). put (a .store .now) (set-consumer s (a .i) y)) (charged-served s x (a .permits) n),
-        c .before .before .before .before .before .before .serve-due .ensures ∙ ap (λ (k : ℕ). filled (a .list .now) (a .m) (plain-records (ledger-for s x) (with-permits x (a .permits)) k)) n,
+        serve-due-before-slice-known4 c .serve-due .ensures ∙ ap (λ (k : ℕ). filled (a .list .now) (a .m) (plain-records (ledger-for s x) (with-permits x (a .permits)) k)) n,
       ),
     )
 

@@ -13,9 +13,19 @@ use borrow.Author.Needs.{needs}
 use Rattle.plain.proofs.serve.serve_due.Statement.{statement}
 use Rattle.plain.proofs.serve.serve_due.Tie as tie
 
+-- the places: what stands before each, by name
+abbrev entry-before-then1 : tie.Then1 → tie.Start
+entry-before-then1 c = c .before .before .before
+
+abbrev else1-before-serve-records-arg : tie.After-serve-records-arg → tie.Else1
+else1-before-serve-records-arg c = c .before .before .before
+
+abbrev entry-before-serve-records-arg : tie.After-serve-records-arg → tie.Start
+entry-before-serve-records-arg c = else1-before-serve-records-arg c .before .before .before
+
 returns : tie.Need-returns
 returns c =
-    let a = c .before .before .before .args in
+    let a = entry-before-then1 c .args in
     let s = decode (a .store .now) in
     let x = consumer-nth s (a .i) in
     fill-none (ledger-for s x) (with-permits x (a .permits)) (a .list .now) (a .m) (a .n) (c .if1 .taken)
@@ -28,11 +38,11 @@ find-topic-requires c κs = search needs
 
 serve-records-requires : tie.Need-serve-records-requires
 serve-records-requires c κs =
-    let a = c .before .before .before .before .before .before .args in
-    let p = c .before .before .before .before .before .before .pre in
+    let a = entry-before-serve-records-arg c .args in
+    let p = entry-before-serve-records-arg c .pre in
     let s = decode (a .store .now) in
     let e = c .before .find-topic .ensures ∙ ap (λ (t : ℕ). slot by-number t (s .topics)) (c .before .before .topic .ensures) in
-    (sendable (a .i) (c .before .find-topic .result) (a .permits) (a .n) (p .0) (p .1) (p .2) (above (a .n) (c .before .before .before .if1 .left)) e, p .3)
+    (sendable (a .i) (c .before .find-topic .result) (a .permits) (a .n) (p .0) (p .1) (p .2) (above (a .n) (else1-before-serve-records-arg c .if1 .left)) e, p .3)
 
 same-length : tie.Need-same-length
 same-length c = search needs

@@ -14,8 +14,30 @@ Inv-loop store₀ e permits list₀ m n at₀ i₀ store list at i = (i ≤ n) �
 abbrev μ-loop : tie.MeasureT-loop
 μ-loop store₀ e permits list₀ m n at₀ i₀ store list at i = n - i
 
+-- the places: what stands before each, by name
+abbrev entry-before-slice-known2 : tie.After-slice-known2 Inv-loop μ-loop → tie.Start Inv-loop μ-loop
+entry-before-slice-known2 c = c .before .before .before
+
+abbrev entry-before-after-loop : tie.After-loop Inv-loop μ-loop → tie.Start Inv-loop μ-loop
+entry-before-after-loop c = entry-before-slice-known2 (c .before .before)
+
+abbrev at-loop-before-serve-consumer-arg2 : tie.After-serve-consumer-arg2 Inv-loop μ-loop → tie.At-loop Inv-loop μ-loop
+at-loop-before-serve-consumer-arg2 c = c .before .before .before .before
+
+abbrev entry-before-serve-consumer-arg2 : tie.After-serve-consumer-arg2 Inv-loop μ-loop → tie.Start Inv-loop μ-loop
+entry-before-serve-consumer-arg2 c = entry-before-slice-known2 (at-loop-before-serve-consumer-arg2 c .before)
+
+abbrev serve-consumer-before-slice-known4 : tie.After-slice-known4 Inv-loop μ-loop → tie.After-serve-consumer Inv-loop μ-loop
+serve-consumer-before-slice-known4 c = c .before .before .before .before
+
+abbrev at-loop-before-slice-known4 : tie.After-slice-known4 Inv-loop μ-loop → tie.At-loop Inv-loop μ-loop
+at-loop-before-slice-known4 c = at-loop-before-serve-consumer-arg2 (serve-consumer-before-slice-known4 c .before)
+
+abbrev entry-before-slice-known4 : tie.After-slice-known4 Inv-loop μ-loop → tie.Start Inv-loop μ-loop
+entry-before-slice-known4 c = entry-before-serve-consumer-arg2 (serve-consumer-before-slice-known4 c .before)
+
 loop-holds : tie.Need-loop-holds Inv-loop μ-loop
-loop-holds c = (search needs, going-first (c .before .before .before .pre .0) (c .before .before .before .args .permits .now) (c .before .before .before .args .list .now) (c .before .before .before .args .m))
+loop-holds c = (search needs, going-first (entry-before-slice-known2 c .pre .0) (entry-before-slice-known2 c .args .permits .now) (entry-before-slice-known2 c .args .list .now) (entry-before-slice-known2 c .args .m))
 
 mul-serve-consumer : tie.Need-mul-serve-consumer Inv-loop μ-loop
 mul-serve-consumer c = search needs
@@ -25,9 +47,9 @@ shared-slice-read-serve-consumer c = search needs
 
 serve-consumer-requires : tie.Need-serve-consumer-requires Inv-loop μ-loop
 serve-consumer-requires c κs =
-    let p = c .before .before .before .before .before .before .before .before .pre in
-    let g = c .before .before .before .before .loop .inv .1 in
-    let h : c .before .before .before .before .loop .i < length (decode (c .before .before .before .before .before .before .before .before .args .store .now) .consumers) = omega (arith, p .2) in
+    let p = entry-before-serve-consumer-arg2 c .pre in
+    let g = at-loop-before-serve-consumer-arg2 c .loop .inv .1 in
+    let h : at-loop-before-serve-consumer-arg2 c .loop .i < length (decode (entry-before-serve-consumer-arg2 c .args .store .now) .consumers) = omega (arith, p .2) in
     (going-in (p .0) g h, going-readable (p .0) g h (p .1), going-room (p .0) g h (p .3))
 
 add-i : tie.Need-add-i Inv-loop μ-loop
@@ -38,23 +60,23 @@ loop-less c = search needs
 
 loop-again : tie.Need-loop-again Inv-loop μ-loop
 loop-again c =
-    let p = c .before .before .before .before .before .before .before .before .before .before .before .before .before .pre in
-    let g = c .before .before .before .before .before .before .before .before .before .loop .inv .1 in
-    let h : c .before .before .before .before .before .before .before .before .before .loop .i < length (decode (c .before .before .before .before .before .before .before .before .before .before .before .before .before .args .store .now) .consumers) = omega (arith, p .2) in
-    let e = c .before .before .before .before .serve-consumer .ensures in
+    let p = entry-before-slice-known4 c .pre in
+    let g = at-loop-before-slice-known4 c .loop .inv .1 in
+    let h : at-loop-before-slice-known4 c .loop .i < length (decode (entry-before-slice-known4 c .args .store .now) .consumers) = omega (arith, p .2) in
+    let e = serve-consumer-before-slice-known4 c .serve-consumer .ensures in
     (search needs, going-on (p .0) g h (e .0) (e .1 .0) (e .1 .1))
 
 same-length : tie.Need-same-length Inv-loop μ-loop
-same-length c = going-long (c .before .before .before .before .before .pre .0) (c .before .loop .inv .1)
+same-length c = going-long (entry-before-after-loop c .pre .0) (c .before .loop .inv .1)
 
 same-length-2 : tie.Need-same-length-2 Inv-loop μ-loop
 same-length-2 c = c .before .loop .inv .1 .long
 
 returns : tie.Need-returns Inv-loop μ-loop
 returns c =
-    let p = c .before .before .before .before .before .pre in
+    let p = entry-before-after-loop c .pre in
     let g = c .before .loop .inv .1 in
-    let h : length (decode (c .before .before .before .before .before .args .store .now) .consumers) ≤ c .before .loop .i = omega (arith, p .2) in
+    let h : length (decode (entry-before-after-loop c .args .store .now) .consumers) ≤ c .before .loop .i = omega (arith, p .2) in
     (going-count g h, (going-words g h, going-records g h))
 
 pub serve-plain-spec : {M : Type 1} → statement M

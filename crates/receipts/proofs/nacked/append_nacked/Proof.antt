@@ -16,91 +16,82 @@ use Rattle.receipts.proofs.nacked.append_nacked.Lts as lts
 use Rattle.store.proofs.offsets.consumer_at.Reads as consumer-at-reads
 use Rattle.store.proofs.stretch.word.Reads as word-reads
 
--- the count is the number of nacked positions
-counted : (c : tie.After-word) → c .word .result ≡ length (consumer-nth (decode (c .before .before .before .before .args .store .now)) (c .before .before .before .before .args .i) .nacked)
-counted c = c .word .ensures ∙ rw (c .before .before .consumer-at .ensures) (read-nacked-count (c .before .before .before .before .pre .0 .canon) (c .before .before .before .before .args .i) (c .before .before .before .before .pre .0 .there))
+-- the places: what stands before each, by name
+abbrev entry-before-word : tie.After-word → tie.Start
+entry-before-word c = c .before .before .before .before
 
--- src/nacked.rt:61:9
+-- the count is the number of nacked positions
+counted : (c : tie.After-word) → c .word .result ≡ length (consumer-nth (decode (entry-before-word c .args .store .now)) (entry-before-word c .args .i) .nacked)
+counted c = c .word .ensures ∙ rw (c .before .before .consumer-at .ensures, entry-before-word) (read-nacked-count (entry-before-word c .pre .0 .canon) (entry-before-word c .args .i) (entry-before-word c .pre .0 .there))
+
 consumer-at-requires : tie.Need-consumer-at-requires
 consumer-at-requires c κs = search needs
 
--- src/nacked.rt:62:25
 add-word : tie.Need-add-word
 add-word c = search needs
 
--- src/nacked.rt:62:9
 word-requires : tie.Need-word-requires
 word-requires c κs = search needs
 
--- src/nacked.rt:63:11
 add-store : tie.Need-add-store
 add-store c = search needs
 
--- src/nacked.rt:63:11
 add-store-2 : tie.Need-add-store-2
 add-store-2 c =
     let n = counted c in
-    let f = c .before .before .before .before .pre .1 in
-    let i = c .before .before .before .before .pre .0 .inside in
+    let f = entry-before-word c .pre .1 in
+    let i = entry-before-word c .pre .0 .inside in
     let a = c .before .before .consumer-at .ensures in
-    let l = c .before .before .before .before .pre .0 .canon .long in
+    let l = entry-before-word c .pre .0 .canon .long in
     omega arith
 
--- src/nacked.rt:63:5
 mul-store : tie.Need-mul-store
 mul-store c =
     let n = counted c in
-    let f = c .before .before .before .before .pre .1 in
-    let i = c .before .before .before .before .pre .0 .inside in
+    let f = entry-before-word c .pre .1 in
+    let i = entry-before-word c .pre .0 .inside in
     let a = c .before .before .consumer-at .ensures in
-    let l = c .before .before .before .before .pre .0 .canon .long in
+    let l = entry-before-word c .pre .0 .canon .long in
     omega arith
 
--- src/nacked.rt:63:5
 slice-write-store : tie.Need-slice-write-store
 slice-write-store c =
     let n = counted c in
-    let f = c .before .before .before .before .pre .1 in
-    let i = c .before .before .before .before .pre .0 .inside in
+    let f = entry-before-word c .pre .1 in
+    let i = entry-before-word c .pre .0 .inside in
     let a = c .before .before .consumer-at .ensures in
-    let l = c .before .before .before .before .pre .0 .canon .long in
+    let l = entry-before-word c .pre .0 .canon .long in
     omega arith
 
--- src/nacked.rt:64:22
 add-store-3 : tie.Need-add-store-3
 add-store-3 c =
     let n = counted c in
-    let f = c .before .before .before .before .pre .1 in
-    let i = c .before .before .before .before .pre .0 .inside in
+    let f = entry-before-word c .pre .1 in
+    let i = entry-before-word c .pre .0 .inside in
     let a = c .before .before .consumer-at .ensures in
-    let l = c .before .before .before .before .pre .0 .canon .long in
+    let l = entry-before-word c .pre .0 .canon .long in
     omega arith
 
--- src/nacked.rt:64:11
 add-store-4 : tie.Need-add-store-4
 add-store-4 c = search needs
 
--- src/nacked.rt:64:5
 mul-store-2 : tie.Need-mul-store-2
 mul-store-2 c = search needs
 
--- src/nacked.rt:64:5
 slice-write-store-2 : tie.Need-slice-write-store-2
 slice-write-store-2 c =
     let n = counted c in
-    let f = c .before .before .before .before .pre .1 in
-    let i = c .before .before .before .before .pre .0 .inside in
+    let f = entry-before-word c .pre .1 in
+    let i = entry-before-word c .pre .0 .inside in
     let a = c .before .before .consumer-at .ensures in
-    let l = c .before .before .before .before .pre .0 .canon .long in
+    let l = entry-before-word c .pre .0 .canon .long in
     simp length-set (omega arith)
 
--- src/nacked.rt:57:1
 same-length : tie.Need-same-length
 same-length c = search needs
 
--- src/nacked.rt:57:1
 returns : tie.Need-returns
-returns c = rw (c .before .before .consumer-at .ensures, counted c) (layout.append-nacked (c .before .before .before .before .pre .0 .canon) (c .before .before .before .before .args .i) (c .before .before .before .before .pre .0 .there) (c .before .before .before .before .args .k) (c .before .before .before .before .pre .1))
+returns c = rw (c .before .before .consumer-at .ensures, counted c) (layout.append-nacked (entry-before-word c .pre .0 .canon) (entry-before-word c .args .i) (entry-before-word c .pre .0 .there) (entry-before-word c .args .k) (entry-before-word c .pre .1))
 
 pub append-nacked-spec : {M : Type 1} → statement M
 append-nacked-spec =

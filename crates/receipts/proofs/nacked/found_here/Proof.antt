@@ -17,24 +17,27 @@ use Rattle.receipts.proofs.nacked.found_here.Lts as lts
 use Rattle.receipts.proofs.position.position_here.Reads as position-here-reads
 use Rattle.store.proofs.find.ledger_length.Reads as ledger-length-reads
 
--- src/nacked.rt:34:9
+-- the places: what stands before each, by name
+abbrev entry-before-then1 : tie.Then1 → tie.Start
+entry-before-then1 c = c .before .before .before .before .before
+
+abbrev entry-before-else1 : tie.Else1 → tie.Start
+entry-before-else1 c = c .before .before .before .before .before
+
 position-here-requires : tie.Need-position-here-requires
 position-here-requires c κs = search needs
 
--- src/nacked.rt:35:12
 ledger-length-requires : tie.Need-ledger-length-requires
 ledger-length-requires c κs = search needs
 
--- src/nacked.rt:30:1
 returns : tie.Need-returns
 returns c =
-    let a = c .before .before .before .before .before .args in
+    let a = entry-before-then1 c .args in
     rw (found-one (ledger-of (decode (a .store .now)) (a .topic)) (group-at (a .list .now) (a .at)) (c .before .before .position-here .result) (c .before .ledger-length .result) (c .before .before .position-here .ensures) (c .before .ledger-length .ensures) (c .if1 .taken))
 
--- src/nacked.rt:30:1
 returns-2 : tie.Need-returns-2
 returns-2 c =
-    let a = c .before .before .before .before .before .args in
+    let a = entry-before-else1 c .args in
     rw (found-none (ledger-of (decode (a .store .now)) (a .topic)) (group-at (a .list .now) (a .at)) (c .before .before .position-here .result) (c .before .ledger-length .result) (c .before .before .position-here .ensures) (c .before .ledger-length .ensures) (let t = c .if1 .left in omega arith))
 
 pub found-here-spec : {M : Type 1} → statement M

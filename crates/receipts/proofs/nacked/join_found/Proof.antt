@@ -19,51 +19,69 @@ Inv-loop store₀ e i topic list at₀ store at = Joining store₀ store i topic
 abbrev μ-loop : tie.MeasureT-loop
 μ-loop store₀ e i topic list at₀ store at = length list - at
 
--- the turn at an offset
-turn : (c : tie.In-loop Inv-loop μ-loop) → Turn (c .before .before .before .before .args .list .now) (c .before .loop .at)
-turn c = stands-turn (c .before .before .before .before .args .list .now) (c .before .loop .at) (c .before .loop .inv .0 .stands) (omega arith)
+-- the places: what stands before each, by name
+abbrev entry-before-in-loop : tie.In-loop Inv-loop μ-loop → tie.Start Inv-loop μ-loop
+entry-before-in-loop c = c .before .before .before .before
 
--- src/nacked.rt:84:5
+abbrev entry-before-after-loop : tie.After-loop Inv-loop μ-loop → tie.Start Inv-loop μ-loop
+entry-before-after-loop c = c .before .before .before .before
+
+abbrev entry-before-join-here-arg : tie.After-join-here-arg Inv-loop μ-loop → tie.Start Inv-loop μ-loop
+entry-before-join-here-arg c = entry-before-in-loop (c .before)
+
+abbrev in-loop-before-slice-known2 : tie.After-slice-known2 Inv-loop μ-loop → tie.In-loop Inv-loop μ-loop
+in-loop-before-slice-known2 c = c .before .before .before .before
+
+abbrev join-here-before-group-end : tie.After-group-end Inv-loop μ-loop → tie.After-join-here Inv-loop μ-loop
+join-here-before-group-end c = c .before .before .before
+
+abbrev in-loop-before-group-end : tie.After-group-end Inv-loop μ-loop → tie.In-loop Inv-loop μ-loop
+in-loop-before-group-end c = in-loop-before-slice-known2 (c .before)
+
+abbrev at-loop-before-group-end : tie.After-group-end Inv-loop μ-loop → tie.At-loop Inv-loop μ-loop
+at-loop-before-group-end c = in-loop-before-group-end c .before
+
+abbrev entry-before-group-end : tie.After-group-end Inv-loop μ-loop → tie.Start Inv-loop μ-loop
+entry-before-group-end c = entry-before-in-loop (in-loop-before-group-end c)
+
+-- the turn at an offset
+turn : (c : tie.In-loop Inv-loop μ-loop) → Turn (entry-before-in-loop c .args .list .now) (c .before .loop .at)
+turn c = stands-turn (entry-before-in-loop c .args .list .now) (c .before .loop .at) (c .before .loop .inv .0 .stands) (omega arith)
+
 loop-holds : tie.Need-loop-holds Inv-loop μ-loop
 loop-holds c = (joining-start (c .before .before .args .i) (c .before .before .args .topic) (c .before .before .args .list .now) (c .before .before .pre .0) (c .before .before .pre .1), refl)
 
--- src/nacked.rt:85:9
 join-here-requires : tie.Need-join-here-requires Inv-loop μ-loop
 join-here-requires c κs =
-    let a = c .before .before .before .before .before .args in
-    let p = c .before .before .before .before .before .pre in (
+    let a = entry-before-join-here-arg c .args in
+    let p = entry-before-join-here-arg c .pre in (
       joining-in (a .i) (a .topic) (a .list .now) (c .before .before .loop .at) (p .0) (c .before .before .loop .inv .0) (p .2),
       turn (c .before) .fits,
       joining-room (a .i) (a .topic) (a .list .now) (c .before .before .loop .at) (p .0) (c .before .before .loop .inv .0) (p .2) (turn (c .before)),
     )
 
--- src/nacked.rt:86:9
 group-end-requires : tie.Need-group-end-requires Inv-loop μ-loop
-group-end-requires c κs = turn (c .before .before .before .before) .fits
+group-end-requires c κs = turn (in-loop-before-slice-known2 c) .fits
 
--- src/nacked.rt:84:5
 loop-less : tie.Need-loop-less Inv-loop μ-loop
 loop-less c =
     let e = c .group-end .ensures in
-    let t = c .before .before .before .before .before .loop-test .taken in
+    let t = in-loop-before-group-end c .loop-test .taken in
     omega arith
 
--- src/nacked.rt:84:5
 loop-again : tie.Need-loop-again Inv-loop μ-loop
 loop-again c =
-    let a = c .before .before .before .before .before .before .before .before .before .args in
-    let p = c .before .before .before .before .before .before .before .before .before .pre in
-    rw (c .group-end .ensures) (joining-turn (a .i) (a .topic) (a .list .now) (c .before .before .before .before .before .before .loop .at) (p .0) (c .before .before .before .before .before .before .loop .inv .0) (p .2) (turn (c .before .before .before .before .before)) (c .before .before .before .join-here .ensures), search needs)
+    let a = entry-before-group-end c .args in
+    let p = entry-before-group-end c .pre in
+    rw (c .group-end .ensures) (joining-turn (a .i) (a .topic) (a .list .now) (at-loop-before-group-end c .loop .at) (p .0) (at-loop-before-group-end c .loop .inv .0) (p .2) (turn (in-loop-before-group-end c)) (join-here-before-group-end c .join-here .ensures), search needs)
 
--- src/nacked.rt:79:1
 same-length : tie.Need-same-length Inv-loop μ-loop
 same-length c = search needs
 
--- src/nacked.rt:79:1
 returns : tie.Need-returns Inv-loop μ-loop
 returns c =
-    let a = c .before .before .before .before .args in
-    let p = c .before .before .before .before .pre in
+    let a = entry-before-after-loop c .args in
+    let p = entry-before-after-loop c .pre in
     let t = c .loop-test .left in
     joining-end (a .i) (a .topic) (a .list .now) (c .before .loop .at) (p .0) (c .before .loop .inv .0) (p .2) (omega arith)
 

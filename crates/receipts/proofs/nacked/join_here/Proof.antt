@@ -18,42 +18,60 @@ use Rattle.receipts.proofs.nacked.append_nacked.Reads as append-nacked-
 use Rattle.receipts.proofs.position.position_here.Reads as position-here-reads
 use Rattle.store.proofs.find.ledger_length.Reads as ledger-length-reads
 
--- src/nacked.rt:72:9
+-- the places: what stands before each, by name
+abbrev position-here-before-else1 : tie.Else1 → tie.After-position-here
+position-here-before-else1 c = c .before .before .before
+
+abbrev entry-before-else1 : tie.Else1 → tie.Start
+entry-before-else1 c = position-here-before-else1 c .before .before .before .before
+
+abbrev position-here-before-append-nacked-arg : tie.After-append-nacked-arg → tie.After-position-here
+position-here-before-append-nacked-arg c = c .before .before .before .before
+
+abbrev entry-before-append-nacked-arg : tie.After-append-nacked-arg → tie.Start
+entry-before-append-nacked-arg c = position-here-before-append-nacked-arg c .before .before .before .before
+
+abbrev then1-before-slice-known2 : tie.After-slice-known2 → tie.Then1
+then1-before-slice-known2 c = c .before .before .before .before
+
+abbrev ledger-length-before-slice-known2 : tie.After-slice-known2 → tie.After-ledger-length
+ledger-length-before-slice-known2 c = then1-before-slice-known2 c .before
+
+abbrev position-here-before-slice-known2 : tie.After-slice-known2 → tie.After-position-here
+position-here-before-slice-known2 c = ledger-length-before-slice-known2 c .before .before
+
+abbrev entry-before-slice-known2 : tie.After-slice-known2 → tie.Start
+entry-before-slice-known2 c = entry-before-append-nacked-arg (c .before .before .before)
+
 position-here-requires : tie.Need-position-here-requires
 position-here-requires c κs = search needs
 
--- src/nacked.rt:73:12
 ledger-length-requires : tie.Need-ledger-length-requires
 ledger-length-requires c κs = search needs
 
--- src/nacked.rt:74:9
 append-nacked-requires : tie.Need-append-nacked-requires
 append-nacked-requires c κs =
-    let a = c .before .before .before .before .before .before .before .before .args in
-    let f = found-one (ledger-of (decode (a .store .now)) (a .topic)) (group-at (a .list .now) (a .at)) (c .before .before .before .before .position-here .result) (c .before .before .ledger-length .result) (c .before .before .before .before .position-here .ensures) (c .before .before .ledger-length .ensures) (c .before .if1 .taken) in
+    let a = entry-before-append-nacked-arg c .args in
+    let f = found-one (ledger-of (decode (a .store .now)) (a .topic)) (group-at (a .list .now) (a .at)) (position-here-before-append-nacked-arg c .position-here .result) (c .before .before .ledger-length .result) (position-here-before-append-nacked-arg c .position-here .ensures) (c .before .before .ledger-length .ensures) (c .before .if1 .taken) in
     let n = ap (λ (l : List ℕ). length l) f in
-    let p = c .before .before .before .before .before .before .before .before .pre .2 in
-    (c .before .before .before .before .before .before .before .before .pre .0, omega arith)
+    let p = entry-before-append-nacked-arg c .pre .2 in
+    (entry-before-append-nacked-arg c .pre .0, omega arith)
 
--- src/nacked.rt:68:1
 same-length : tie.Need-same-length
 same-length c = search needs
 
--- src/nacked.rt:68:1
 returns : tie.Need-returns
 returns c =
-    let a = c .before .before .before .before .before .before .before .before .before .before .before .args in
-    rw (found-one (ledger-of (decode (a .store .now)) (a .topic)) (group-at (a .list .now) (a .at)) (c .before .before .before .before .before .before .before .position-here .result) (c .before .before .before .before .before .ledger-length .result) (c .before .before .before .before .before .before .before .position-here .ensures) (c .before .before .before .before .before .ledger-length .ensures) (c .before .before .before .before .if1 .taken)) (c .before .before .append-nacked .ensures)
+    let a = entry-before-slice-known2 c .args in
+    rw (found-one (ledger-of (decode (a .store .now)) (a .topic)) (group-at (a .list .now) (a .at)) (position-here-before-slice-known2 c .position-here .result) (ledger-length-before-slice-known2 c .ledger-length .result) (position-here-before-slice-known2 c .position-here .ensures) (ledger-length-before-slice-known2 c .ledger-length .ensures) (then1-before-slice-known2 c .if1 .taken)) (c .before .before .append-nacked .ensures)
 
--- src/nacked.rt:68:1
 same-length-2 : tie.Need-same-length-2
 same-length-2 c = search needs
 
--- src/nacked.rt:68:1
 returns-2 : tie.Need-returns-2
 returns-2 c =
-    let a = c .before .before .before .before .before .before .before .args in
-    rw (found-none (ledger-of (decode (a .store .now)) (a .topic)) (group-at (a .list .now) (a .at)) (c .before .before .before .position-here .result) (c .before .ledger-length .result) (c .before .before .before .position-here .ensures) (c .before .ledger-length .ensures) (let t = c .if1 .left in omega arith)) (joined-nothing (a .i) (c .before .before .before .before .before .before .before .pre .0))
+    let a = entry-before-else1 c .args in
+    rw (found-none (ledger-of (decode (a .store .now)) (a .topic)) (group-at (a .list .now) (a .at)) (position-here-before-else1 c .position-here .result) (c .before .ledger-length .result) (position-here-before-else1 c .position-here .ensures) (c .before .ledger-length .ensures) (let t = c .if1 .left in omega arith)) (joined-nothing (a .i) (entry-before-else1 c .pre .0))
 
 pub join-here-spec : {M : Type 1} → statement M
 join-here-spec =

@@ -18,34 +18,42 @@ use Rattle.ledger.proofs.find.position_of.Reads as position-of-reads
 use Rattle.store.proofs.find.find_topic.Reads as find-topic-reads
 use Rattle.store.proofs.stretch.word.Reads as word-reads
 
--- the slot that was found lies in the table
-here : (c : tie.Then1) → c .before .before .find-topic .result < length (decode (c .before .before .before .before .args .store .now) .topics)
-here c = let n = c .before .word .ensures ∙ read-topic-count (c .before .before .before .before .pre) in let t = c .if1 .taken in omega arith
+-- the places: what stands before each, by name
+abbrev entry-before-then1 : tie.Then1 → tie.Start
+entry-before-then1 c = c .before .before .before .before
 
--- src/position.rt:19:9
+abbrev entry-before-else1 : tie.Else1 → tie.Start
+entry-before-else1 c = c .before .before .before .before
+
+abbrev find-topic-before-position-of : tie.After-position-of → tie.After-find-topic
+find-topic-before-position-of c = c .before .before .before
+
+abbrev entry-before-position-of : tie.After-position-of → tie.Start
+entry-before-position-of c = entry-before-then1 (c .before)
+
+-- the slot that was found lies in the table
+here : (c : tie.Then1) → c .before .before .find-topic .result < length (decode (entry-before-then1 c .args .store .now) .topics)
+here c = let n = c .before .word .ensures ∙ read-topic-count (entry-before-then1 c .pre) in let t = c .if1 .taken in omega arith
+
 find-topic-requires : tie.Need-find-topic-requires
 find-topic-requires c κs = search needs
 
--- src/position.rt:20:12
 word-requires : tie.Need-word-requires
 word-requires c κs = search needs
 
--- src/position.rt:21:9
 position-of-requires : tie.Need-position-of-requires
-position-of-requires c κs = topic-in (c .before .before .before .before .pre) (c .before .before .find-topic .result) (here c)
+position-of-requires c κs = topic-in (entry-before-then1 c .pre) (c .before .before .find-topic .result) (here c)
 
--- src/position.rt:15:1
 returns : tie.Need-returns
 returns c =
-    let a = c .before .before .before .before .before .args in
-    position-there (decode (a .store .now)) (c .before .before .before .find-topic .result) (a .topic) (c .position-of .result) (id-of (a .ledger) (a .entry))
-    (c .before .before .before .find-topic .ensures) (here (c .before)) (c .position-of .ensures)
+    let a = entry-before-position-of c .args in
+    position-there (decode (a .store .now)) (find-topic-before-position-of c .find-topic .result) (a .topic) (c .position-of .result) (id-of (a .ledger) (a .entry))
+    (find-topic-before-position-of c .find-topic .ensures) (here (c .before)) (c .position-of .ensures)
 
--- src/position.rt:15:1
 returns-2 : tie.Need-returns-2
 returns-2 c =
-    let a = c .before .before .before .before .args in
-    let n = c .before .word .ensures ∙ read-topic-count (c .before .before .before .before .pre) in
+    let a = entry-before-else1 c .args in
+    let n = c .before .word .ensures ∙ read-topic-count (entry-before-else1 c .pre) in
     let t = c .if1 .left in
     position-none (decode (a .store .now)) (c .before .before .find-topic .result) (a .topic) (id-of (a .ledger) (a .entry)) (c .before .before .find-topic .ensures) (omega arith)
 

@@ -6,12 +6,22 @@ use borrow.Author.Needs.{needs}
 use Rattle.receipts.proofs.redeliver.redeliver_live.Statement.{statement}
 use Rattle.receipts.proofs.redeliver.redeliver_live.Tie as tie
 
+-- the places: what stands before each, by name
+abbrev entry-before-is-shared-arg : tie.After-is-shared-arg → tie.Start
+entry-before-is-shared-arg c = c .before .before .before
+
+abbrev entry-before-redeliver-shared-arg : tie.After-redeliver-shared-arg → tie.Start
+entry-before-redeliver-shared-arg c = entry-before-is-shared-arg (c .before .before .before)
+
+abbrev entry-before-redeliver-plain-arg : tie.After-redeliver-plain-arg → tie.Start
+entry-before-redeliver-plain-arg c = entry-before-is-shared-arg (c .before .before .before)
+
 is-shared-requires : tie.Need-is-shared-requires
-is-shared-requires c κs = live-in (c .before .before .before .pre .0)
+is-shared-requires c κs = live-in (entry-before-is-shared-arg c .pre .0)
 
 redeliver-shared-requires : tie.Need-redeliver-shared-requires
 redeliver-shared-requires c κs =
-    let p = c .before .before .before .before .before .before .pre in
+    let p = entry-before-redeliver-shared-arg c .pre in
     (p .0, p .1, p .2, flag-shared _ (sym (c .before .before .is-shared .ensures) ∙ c .before .if1 .taken))
 
 same-length : tie.Need-same-length
@@ -22,7 +32,7 @@ returns c = search needs
 
 redeliver-plain-requires : tie.Need-redeliver-plain-requires
 redeliver-plain-requires c κs =
-    let p = c .before .before .before .before .before .before .pre in
+    let p = entry-before-redeliver-plain-arg c .pre in
     (p .0, p .1, p .2, flag-plain _ (sym (c .before .before .is-shared .ensures) ∙ c .before .if1 .left))
 
 same-length-2 : tie.Need-same-length-2

@@ -16,48 +16,43 @@ use Rattle.store.proofs.canonical.list_canonical.Lts as lts
 use Rattle.store.proofs.stretch.is_blank.Reads as is-blank-reads
 use Rattle.store.proofs.stretch.word.Reads as word-reads
 
--- src/canonical.rt:21:9
+-- the places: what stands before each, by name
+abbrev entry-before-else1 : tie.Else1 → tie.Start
+entry-before-else1 c = c .before .before .before
+
 word-requires : tie.Need-word-requires
 word-requires c κs = search needs
 
--- src/canonical.rt:23:9
 returns : tie.Need-returns
 returns c = list-over _ _ _ _ (c .before .word .ensures) (c .if1 .taken)
 
--- src/canonical.rt:25:17
 add-first : tie.Need-add-first
 add-first c = search needs
 
--- src/canonical.rt:26:29
 mul-is-blank : tie.Need-mul-is-blank
 mul-is-blank c =
-    let a = c .before .before .before .args in
+    let a = entry-before-else1 c .args in
     let k : c .before .word .result * a .width ≤ a .most * a .width = room-le _ _ _ (c .if1 .left) in
     search needs
 
--- src/canonical.rt:26:21
 add-is-blank : tie.Need-add-is-blank
 add-is-blank c =
-    let a = c .before .before .before .args in
+    let a = entry-before-else1 c .args in
     let k : c .before .word .result * a .width ≤ a .most * a .width = room-le _ _ _ (c .if1 .left) in
     search needs
 
--- src/canonical.rt:26:48
 mul-is-blank-2 : tie.Need-mul-is-blank-2
 mul-is-blank-2 c = search needs
 
--- src/canonical.rt:26:40
 add-is-blank-2 : tie.Need-add-is-blank-2
 add-is-blank-2 c = search needs
 
--- src/canonical.rt:26:5
 is-blank-requires : tie.Need-is-blank-requires
 is-blank-requires c κs =
-    let a = c .before .before .before .args in
+    let a = entry-before-else1 c .args in
     let k : c .before .word .result * a .width ≤ a .most * a .width = room-le _ _ _ (c .if1 .left) in
     (omega arith, search needs)
 
--- src/canonical.rt:17:1
 returns-2 : tie.Need-returns-2
 returns-2 c =
     list-within _ _ _ _ (c .before .before .word .ensures) (c .before .if1 .left) (c .is-blank .ensures)

@@ -8,68 +8,80 @@ use Rattle.store.proofs.canonical.lists_canonical.Reads as reads
 use Rattle.store.proofs.canonical.lists_canonical.Lts as lts
 use Rattle.store.proofs.canonical.list_canonical.Reads as list-canonical-reads
 
--- src/canonical.rt:118:31
+-- the places: what stands before each, by name
+abbrev list-canonical-before-then2 : tie.Then2 → tie.After-list-canonical
+list-canonical-before-then2 c = c .before .before .before
+
+abbrev list-canonical2-before-then3 : tie.Then3 → tie.After-list-canonical2
+list-canonical2-before-then3 c = c .before .before .before
+
+abbrev else1-before-then3 : tie.Then3 → tie.Else1
+else1-before-then3 c = list-canonical2-before-then3 c .before
+
+abbrev list-canonical-before-then3 : tie.Then3 → tie.After-list-canonical
+list-canonical-before-then3 c = else1-before-then3 c .before
+
+abbrev else2-before-list-canonical4 : tie.After-list-canonical4 → tie.Else2
+else2-before-list-canonical4 c = c .before .before .before
+
+abbrev list-canonical2-before-list-canonical4 : tie.After-list-canonical4 → tie.After-list-canonical2
+list-canonical2-before-list-canonical4 c = else2-before-list-canonical4 c .before
+
+abbrev else1-before-list-canonical4 : tie.After-list-canonical4 → tie.Else1
+else1-before-list-canonical4 c = list-canonical2-before-list-canonical4 c .before
+
+abbrev list-canonical-before-list-canonical4 : tie.After-list-canonical4 → tie.After-list-canonical
+list-canonical-before-list-canonical4 c = else1-before-list-canonical4 c .before
+
 add-list-canonical : tie.Need-add-list-canonical
 add-list-canonical c = search needs
 
--- src/canonical.rt:118:9
 list-canonical-requires : tie.Need-list-canonical-requires
 list-canonical-requires c κs = search needs
 
--- src/canonical.rt:119:9
 returns : tie.Need-returns
 unfolding lists-canonical
 returns c = fails _ (answered-no (c .before .list-canonical .ensures) (c .if1 .taken))
 
--- src/canonical.rt:121:31
 add-list-canonical-2 : tie.Need-add-list-canonical-2
 add-list-canonical-2 c = search needs
 
--- src/canonical.rt:121:9
 list-canonical-requires-2 : tie.Need-list-canonical-requires-2
 list-canonical-requires-2 c κs = search needs
 
--- src/canonical.rt:122:9
 returns-2 : tie.Need-returns-2
 unfolding lists-canonical
 returns-2 c =
-    passes (answered-yes (c .before .before .before .list-canonical .ensures) (c .before .before .if1 .left))
+    passes (answered-yes (list-canonical-before-then2 c .list-canonical .ensures) (c .before .before .if1 .left))
     (fails _ (answered-no (c .before .list-canonical2 .ensures) (c .if2 .taken)))
 
--- src/canonical.rt:124:31
 add-list-canonical-3 : tie.Need-add-list-canonical-3
 add-list-canonical-3 c = search needs
 
--- src/canonical.rt:124:9
 list-canonical-requires-3 : tie.Need-list-canonical-requires-3
 list-canonical-requires-3 c κs = search needs
 
--- src/canonical.rt:125:9
 returns-3 : tie.Need-returns-3
 unfolding lists-canonical
 returns-3 c =
-    passes (answered-yes (c .before .before .before .before .before .list-canonical .ensures) (c .before .before .before .before .if1 .left))
-    (passes (answered-yes (c .before .before .before .list-canonical2 .ensures) (c .before .before .if2 .left))
+    passes (answered-yes (list-canonical-before-then3 c .list-canonical .ensures) (else1-before-then3 c .if1 .left))
+    (passes (answered-yes (list-canonical2-before-then3 c .list-canonical2 .ensures) (c .before .before .if2 .left))
     (fails _ (answered-no (c .before .list-canonical3 .ensures) (c .if3 .taken))))
 
--- src/canonical.rt:127:27
 add-list-canonical-4 : tie.Need-add-list-canonical-4
 add-list-canonical-4 c = search needs
 
--- src/canonical.rt:127:27
 add-list-canonical-5 : tie.Need-add-list-canonical-5
 add-list-canonical-5 c = search needs
 
--- src/canonical.rt:127:5
 list-canonical-requires-4 : tie.Need-list-canonical-requires-4
 list-canonical-requires-4 c κs = search needs
 
--- src/canonical.rt:114:1
 returns-4 : tie.Need-returns-4
 unfolding lists-canonical
 returns-4 c =
-    passes (answered-yes (c .before .before .before .before .before .before .list-canonical .ensures) (c .before .before .before .before .before .if1 .left))
-    (passes (answered-yes (c .before .before .before .before .list-canonical2 .ensures) (c .before .before .before .if2 .left))
+    passes (answered-yes (list-canonical-before-list-canonical4 c .list-canonical .ensures) (else1-before-list-canonical4 c .if1 .left))
+    (passes (answered-yes (list-canonical2-before-list-canonical4 c .list-canonical2 .ensures) (else2-before-list-canonical4 c .if2 .left))
     (passes (answered-yes (c .before .before .list-canonical3 .ensures) (c .before .if3 .left))
     (c .list-canonical4 .ensures)))
 

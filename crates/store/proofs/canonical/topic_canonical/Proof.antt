@@ -12,40 +12,40 @@ use Rattle.store.proofs.canonical.topic_canonical.Lts as lts
 use Rattle.store.proofs.canonical.list_canonical.Reads as list-canonical-reads
 use Rattle.store.proofs.stretch.is_blank.Reads as is-blank-reads
 
--- src/canonical.rt:67:25
+-- the places: what stands before each, by name
+abbrev entry-before-then1 : tie.Then1 → tie.Start
+entry-before-then1 c = c .before .before .before
+
+abbrev entry-before-list-canonical : tie.After-list-canonical → tie.Start
+entry-before-list-canonical c = c .before .before .before .before
+
 add-is-blank : tie.Need-add-is-blank
 add-is-blank c = search needs
 
--- src/canonical.rt:67:33
 add-is-blank-2 : tie.Need-add-is-blank-2
 add-is-blank-2 c = search needs
 
--- src/canonical.rt:67:9
 is-blank-requires : tie.Need-is-blank-requires
 is-blank-requires c κs = search needs
 
--- src/canonical.rt:68:9
 returns : tie.Need-returns
 returns c =
-    let a = c .before .before .before .args in
+    let a = entry-before-then1 c .args in
     fails _ (answered-no (blank-is _ (a .at + 1) (a .at + 3) 2 (omega arith) (c .before .is-blank .ensures)) (c .if1 .taken))
-    ∙ sym (topic-parts (a .store .now) (a .e) (a .at) (c .before .before .before .pre))
+    ∙ sym (topic-parts (a .store .now) (a .e) (a .at) (entry-before-then1 c .pre))
 
--- src/canonical.rt:70:27
 add-list-canonical : tie.Need-add-list-canonical
 add-list-canonical c = search needs
 
--- src/canonical.rt:70:5
 list-canonical-requires : tie.Need-list-canonical-requires
 list-canonical-requires c κs = search needs
 
--- src/canonical.rt:63:1
 returns-2 : tie.Need-returns-2
 returns-2 c =
-    let a = c .before .before .before .before .args in
+    let a = entry-before-list-canonical c .args in
     passes (answered-yes (blank-is _ (a .at + 1) (a .at + 3) 2 (omega arith) (c .before .before .is-blank .ensures)) (c .before .if1 .left))
     (c .list-canonical .ensures)
-    ∙ sym (topic-parts (a .store .now) (a .e) (a .at) (c .before .before .before .before .pre))
+    ∙ sym (topic-parts (a .store .now) (a .e) (a .at) (entry-before-list-canonical c .pre))
 
 pub topic-canonical-spec : {M : Type 1} → statement M
 topic-canonical-spec =

@@ -19,71 +19,101 @@ use Rattle.store.proofs.check.state_valid.Reads as state-valid-reads
 use Rattle.store.proofs.header.header_right.Reads as header-right-reads
 use Rattle.store.proofs.stretch.word.Reads as word-reads
 
--- src/check.rt:34:9
+-- the places: what stands before each, by name
+abbrev entry-before-then1 : tie.Then1 → tie.Start
+entry-before-then1 c = c .before .before .before
+
+abbrev entry-before-else1 : tie.Else1 → tie.Start
+entry-before-else1 c = c .before .before .before
+
+abbrev entry-before-then2 : tie.Then2 → tie.Start
+entry-before-then2 c = entry-before-else1 (c .before .before)
+
+abbrev word-before-then3 : tie.Then3 → tie.After-word
+word-before-then3 c = c .before .before .before
+
+abbrev else1-before-then3 : tie.Then3 → tie.Else1
+else1-before-then3 c = word-before-then3 c .before
+
+abbrev entry-before-then3 : tie.Then3 → tie.Start
+entry-before-then3 c = entry-before-else1 (else1-before-then3 c)
+
+abbrev word-before-else3 : tie.Else3 → tie.After-word
+word-before-else3 c = c .before .before .before
+
+abbrev else1-before-else3 : tie.Else3 → tie.Else1
+else1-before-else3 c = word-before-else3 c .before
+
+abbrev entry-before-else3 : tie.Else3 → tie.Start
+entry-before-else3 c = entry-before-else1 (else1-before-else3 c)
+
+abbrev else2-before-state-valid : tie.After-state-valid → tie.Else2
+else2-before-state-valid c = c .before .before .before
+
+abbrev word-before-state-valid : tie.After-state-valid → tie.After-word
+word-before-state-valid c = word-before-else3 (c .before)
+
+abbrev else1-before-state-valid : tie.After-state-valid → tie.Else1
+else1-before-state-valid c = else1-before-else3 (c .before)
+
+abbrev entry-before-state-valid : tie.After-state-valid → tie.Start
+entry-before-state-valid c = entry-before-else3 (c .before)
+
 header-right-requires : tie.Need-header-right-requires
 header-right-requires c κs = search needs
 
--- src/check.rt:35:9
 returns : tie.Need-returns
 returns c =
-    fails _ (answered-no (c .before .header-right .ensures) (c .if1 .taken)) ∙ spells-tests (c .before .before .before .args .store .now) refl
+    fails _ (answered-no (c .before .header-right .ensures) (c .if1 .taken)) ∙ spells-tests (entry-before-then1 c .args .store .now) refl
 
 -- the header's test passed
-right : (c : tie.Else1) → header-right (c .before .before .before .args .store .now) ≡ true
+right : (c : tie.Else1) → header-right (entry-before-else1 c .args .store .now) ≡ true
 right c = answered-yes (c .before .header-right .ensures) (c .if1 .left)
 
 -- E is in its range
 in-range : (c : tie.After-word) → c .word .result ≤ 4096
 in-range c = rw (c .word .ensures) (header-gives _ (right (c .before)) .1)
 
--- src/check.rt:37:9
 word-requires : tie.Need-word-requires
 word-requires c κs = header-gives _ (right c) .0
 
--- src/check.rt:38:29
 mul-if2 : tie.Need-mul-if2
 mul-if2 c = let h = in-range c in search needs
 
--- src/check.rt:38:22
 add-if2 : tie.Need-add-if2
 add-if2 c = let h = in-range c in search needs
 
--- src/check.rt:39:9
 returns-2 : tie.Need-returns-2
 returns-2 c =
-    let ws = c .before .before .before .before .before .args .store .now in
+    let ws = entry-before-then2 c .args .store .now in
     let e = c .before .word .result in
     passes (right (c .before .before)) (fails _ (lt-leb (4096 + 128 * e) (length ws) (c .if2 .taken))) ∙ spells-tests ws {e = e} (c .before .word .ensures)
 
--- src/check.rt:41:9
 body-canonical-requires : tie.Need-body-canonical-requires
 body-canonical-requires c κs = let h = in-range (c .before) in search needs
 
--- src/check.rt:42:9
 returns-3 : tie.Need-returns-3
 returns-3 c =
-    let ws = c .before .before .before .before .before .before .before .args .store .now in
-    let e = c .before .before .before .word .result in
-    passes (right (c .before .before .before .before))
+    let ws = entry-before-then3 c .args .store .now in
+    let e = word-before-then3 c .word .result in
+    passes (right (else1-before-then3 c))
     (passes (le-leb (4096 + 128 * e) (length ws) (c .before .before .if2 .left))
     (fails _ (answered-no (c .before .body-canonical .ensures) (c .if3 .taken))))
-    ∙ spells-tests ws {e = e} (c .before .before .before .word .ensures)
+    ∙ spells-tests ws {e = e} (word-before-then3 c .word .ensures)
 
--- src/check.rt:44:5
 state-valid-requires : tie.Need-state-valid-requires
 state-valid-requires c κs =
-    well-spelt (c .before .before .before .before .before .before .before .args .store .now) (c .before .before .before .word .ensures) (right (c .before .before .before .before)) (c .before .before .if2 .left)
+    well-spelt (entry-before-else3 c .args .store .now) (word-before-else3 c .word .ensures) (right (else1-before-else3 c)) (c .before .before .if2 .left)
     (answered-yes (c .before .body-canonical .ensures) (c .if3 .left))
 
--- src/check.rt:31:1
 returns-4 : tie.Need-returns-4
 returns-4 c =
-    let ws = c .before .before .before .before .before .before .before .before .args .store .now in
-    let e = c .before .before .before .before .word .result in
-    passes (right (c .before .before .before .before .before))
-    (passes (le-leb (4096 + 128 * e) (length ws) (c .before .before .before .if2 .left))
+    let ws = entry-before-state-valid c .args .store .now in
+    let e = word-before-state-valid c .word .result in
+    passes (right (else1-before-state-valid c))
+    (passes (le-leb (4096 + 128 * e) (length ws) (else2-before-state-valid c .if2 .left))
     (passes (answered-yes (c .before .before .body-canonical .ensures) (c .before .if3 .left)) (c .state-valid .ensures)))
-    ∙ spells-tests ws {e = e} (c .before .before .before .before .word .ensures)
+    ∙ spells-tests ws {e = e} (word-before-state-valid c .word .ensures)
 
 pub spells-spec : {M : Type 1} → statement M
 spells-spec =

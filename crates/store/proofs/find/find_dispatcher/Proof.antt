@@ -24,6 +24,31 @@ Inv-loop store e topic subscription n d₀ d =
 abbrev μ-loop : tie.MeasureT-loop
 μ-loop store e topic subscription n d₀ d = n - d
 
+-- the places: what stands before each, by name
+abbrev entry-before-in-loop : tie.In-loop Inv-loop μ-loop → tie.Start Inv-loop μ-loop
+entry-before-in-loop c = c .before .before .before .before
+
+abbrev entry-before-after-loop : tie.After-loop Inv-loop μ-loop → tie.Start Inv-loop μ-loop
+entry-before-after-loop c = c .before .before .before .before
+
+abbrev at-loop-before-then1 : tie.Then1 Inv-loop μ-loop → tie.At-loop Inv-loop μ-loop
+at-loop-before-then1 c = c .before .before .before
+
+abbrev word-before-then1 : tie.Then1 Inv-loop μ-loop → tie.After-word Inv-loop μ-loop
+word-before-then1 c = at-loop-before-then1 c .before
+
+abbrev entry-before-then1 : tie.Then1 Inv-loop μ-loop → tie.Start Inv-loop μ-loop
+entry-before-then1 c = entry-before-in-loop (c .before .before)
+
+abbrev at-loop-before-else1 : tie.Else1 Inv-loop μ-loop → tie.At-loop Inv-loop μ-loop
+at-loop-before-else1 c = c .before .before .before
+
+abbrev word-before-else1 : tie.Else1 Inv-loop μ-loop → tie.After-word Inv-loop μ-loop
+word-before-else1 c = at-loop-before-else1 c .before
+
+abbrev entry-before-else1 : tie.Else1 Inv-loop μ-loop → tie.Start Inv-loop μ-loop
+entry-before-else1 c = entry-before-in-loop (c .before .before)
+
 -- the pair that is sought
 abbrev wanted : tie.After-word Inv-loop μ-loop → Pair
 wanted c = record { topic = c .before .before .args .topic; subscription = c .before .before .args .subscription }
@@ -33,7 +58,7 @@ counted : (c : tie.After-word Inv-loop μ-loop) → c .word .result ≡ length (
 counted c = c .word .ensures ∙ read-dispatcher-count (c .before .before .pre)
 
 -- the slot of a turn lies in the table
-here : (c : tie.In-loop Inv-loop μ-loop) → c .before .loop .d < length (decode (c .before .before .before .before .args .store .now) .dispatchers)
+here : (c : tie.In-loop Inv-loop μ-loop) → c .before .loop .d < length (decode (entry-before-in-loop c .args .store .now) .dispatchers)
 here c = let n = counted (c .before .before) in omega arith
 
 mul-word : tie.Need-mul-word Inv-loop μ-loop
@@ -53,7 +78,7 @@ is-of-pair-requires c κs = let k = here c in search needs
 
 returns : tie.Need-returns Inv-loop μ-loop
 returns c =
-    sought-here by-pair (wanted (c .before .before .before .before)) (decode (c .before .before .before .before .before .before .args .store .now) .dispatchers) (c .before .before .before .loop .d) zero-dispatcher (here (c .before .before)) (c .before .before .before .loop .inv .1)
+    sought-here by-pair (wanted (word-before-then1 c)) (decode (entry-before-then1 c .args .store .now) .dispatchers) (at-loop-before-then1 c .loop .d) zero-dispatcher (here (c .before .before)) (at-loop-before-then1 c .loop .inv .1)
     (sym (c .before .is-of-pair .ensures) ∙ c .if1 .taken)
 
 add-d : tie.Need-add-d Inv-loop μ-loop
@@ -65,15 +90,15 @@ loop-less c = search needs
 loop-again : tie.Need-loop-again Inv-loop μ-loop
 loop-again c = (
   search needs,
-  sought-on by-pair (wanted (c .before .before .before .before)) (decode (c .before .before .before .before .before .before .args .store .now) .dispatchers) (c .before .before .before .loop .d) zero-dispatcher (here (c .before .before)) (c .before .before .before .loop .inv .1)
+  sought-on by-pair (wanted (word-before-else1 c)) (decode (entry-before-else1 c .args .store .now) .dispatchers) (at-loop-before-else1 c .loop .d) zero-dispatcher (here (c .before .before)) (at-loop-before-else1 c .loop .inv .1)
       (sym (c .before .is-of-pair .ensures) ∙ c .if1 .left),
 )
 
 returns-2 : tie.Need-returns-2 Inv-loop μ-loop
 returns-2 c =
     let n = counted (c .before .before) in
-    let l : length (decode (c .before .before .before .before .args .store .now) .dispatchers) ≤ c .before .loop .d = omega arith in
-    sought-end by-pair (wanted (c .before .before)) (decode (c .before .before .before .before .args .store .now) .dispatchers) (c .before .loop .d) l (c .before .loop .inv .1)
+    let l : length (decode (entry-before-after-loop c .args .store .now) .dispatchers) ≤ c .before .loop .d = omega arith in
+    sought-end by-pair (wanted (c .before .before)) (decode (entry-before-after-loop c .args .store .now) .dispatchers) (c .before .loop .d) l (c .before .loop .inv .1)
 
 pub find-dispatcher-spec : {M : Type 1} → statement M
 find-dispatcher-spec =

@@ -24,82 +24,88 @@ Inv-loop store e topic n width i₀ i = (i ≤ n) × Sought by-number topic (dec
 abbrev μ-loop : tie.MeasureT-loop
 μ-loop store e topic n width i₀ i = n - i
 
+-- the places: what stands before each, by name
+abbrev entry-before-in-loop : tie.In-loop Inv-loop μ-loop → tie.Start Inv-loop μ-loop
+entry-before-in-loop c = c .before .before .before .before
+
+abbrev entry-before-after-loop : tie.After-loop Inv-loop μ-loop → tie.Start Inv-loop μ-loop
+entry-before-after-loop c = c .before .before .before .before
+
+abbrev at-loop-before-then1 : tie.Then1 Inv-loop μ-loop → tie.At-loop Inv-loop μ-loop
+at-loop-before-then1 c = c .before .before .before
+
+abbrev entry-before-then1 : tie.Then1 Inv-loop μ-loop → tie.Start Inv-loop μ-loop
+entry-before-then1 c = entry-before-in-loop (c .before .before)
+
+abbrev at-loop-before-else1 : tie.Else1 Inv-loop μ-loop → tie.At-loop Inv-loop μ-loop
+at-loop-before-else1 c = c .before .before .before
+
+abbrev entry-before-else1 : tie.Else1 Inv-loop μ-loop → tie.Start Inv-loop μ-loop
+entry-before-else1 c = entry-before-in-loop (c .before .before)
+
 -- there are as many topics as the count says
 counted : (c : tie.After-word Inv-loop μ-loop) → c .word .result ≡ length (decode (c .before .before .args .store .now) .topics)
 counted c = c .word .ensures ∙ read-topic-count (c .before .before .pre)
 
 -- the slot of a turn lies in the table
-here : (c : tie.In-loop Inv-loop μ-loop) → c .before .loop .i < length (decode (c .before .before .before .before .args .store .now) .topics)
+here : (c : tie.In-loop Inv-loop μ-loop) → c .before .loop .i < length (decode (entry-before-in-loop c .args .store .now) .topics)
 here c = let n = counted (c .before .before) in omega arith
 
 -- and in the store
-inside : (c : tie.In-loop Inv-loop μ-loop) → 2322 + (c .before .loop .i * (4 + 4 * c .before .before .before .before .args .e) + (4 + 4 * c .before .before .before .before .args .e)) ≤ length (c .before .before .before .before .args .store .now)
-inside c = topic-inside (c .before .before .before .before .pre) (c .before .loop .i) (here c)
+inside : (c : tie.In-loop Inv-loop μ-loop) → 2322 + (c .before .loop .i * (4 + 4 * entry-before-in-loop c .args .e) + (4 + 4 * entry-before-in-loop c .args .e)) ≤ length (entry-before-in-loop c .args .store .now)
+inside c = topic-inside (entry-before-in-loop c .pre) (c .before .loop .i) (here c)
 
--- src/find.rt:16:9
 word-requires : tie.Need-word-requires Inv-loop μ-loop
 word-requires c κs = search needs
 
--- src/find.rt:17:21
 mul-width : tie.Need-mul-width Inv-loop μ-loop
 mul-width c = search needs
 
--- src/find.rt:17:17
 add-width : tie.Need-add-width Inv-loop μ-loop
 add-width c = search needs
 
--- src/find.rt:19:5
 loop-holds : tie.Need-loop-holds Inv-loop μ-loop
 loop-holds c = (search needs, sought-start by-number (c .before .before .args .topic) (decode (c .before .before .args .store .now) .topics))
 
--- src/find.rt:20:25
 mul-if1 : tie.Need-mul-if1 Inv-loop μ-loop
 mul-if1 c = let k = inside c in search needs
 
--- src/find.rt:20:18
 add-if1 : tie.Need-add-if1 Inv-loop μ-loop
 add-if1 c = let k = inside c in search needs
 
--- src/find.rt:20:12
 mul-if1-2 : tie.Need-mul-if1-2 Inv-loop μ-loop
 mul-if1-2 c = let k = inside c in search needs
 
--- src/find.rt:20:12
 shared-slice-read-if1 : tie.Need-shared-slice-read-if1 Inv-loop μ-loop
 shared-slice-read-if1 c = let k = inside (c .before) in omega arith
 
--- src/find.rt:21:13
 returns : tie.Need-returns Inv-loop μ-loop
 returns c =
-    let ws = c .before .before .before .before .before .before .args .store .now in
-    let r = read-topic-number (c .before .before .before .before .before .before .pre) (c .before .before .before .loop .i) (here (c .before .before)) in
-    sought-here by-number (c .before .before .before .before .before .before .args .topic) (decode ws .topics) (c .before .before .before .loop .i) zero-topic (here (c .before .before)) (c .before .before .before .loop .inv .1)
+    let ws = entry-before-then1 c .args .store .now in
+    let r = read-topic-number (entry-before-then1 c .pre) (at-loop-before-then1 c .loop .i) (here (c .before .before)) in
+    sought-here by-number (entry-before-then1 c .args .topic) (decode ws .topics) (at-loop-before-then1 c .loop .i) zero-topic (here (c .before .before)) (at-loop-before-then1 c .loop .inv .1)
     (eq-eqb _ _ (sym (sym r ∙ c .if1 .taken)))
 
--- src/find.rt:23:9
 add-i : tie.Need-add-i Inv-loop μ-loop
 add-i c = search needs
 
--- src/find.rt:19:5
 loop-less : tie.Need-loop-less Inv-loop μ-loop
 loop-less c = search needs
 
--- src/find.rt:19:5
 loop-again : tie.Need-loop-again Inv-loop μ-loop
 loop-again c =
-    let ws = c .before .before .before .before .before .before .args .store .now in
-    let r = read-topic-number (c .before .before .before .before .before .before .pre) (c .before .before .before .loop .i) (here (c .before .before)) in (
+    let ws = entry-before-else1 c .args .store .now in
+    let r = read-topic-number (entry-before-else1 c .pre) (at-loop-before-else1 c .loop .i) (here (c .before .before)) in (
       search needs,
-      sought-on by-number (c .before .before .before .before .before .before .args .topic) (decode ws .topics) (c .before .before .before .loop .i) zero-topic (here (c .before .before)) (c .before .before .before .loop .inv .1)
+      sought-on by-number (entry-before-else1 c .args .topic) (decode ws .topics) (at-loop-before-else1 c .loop .i) zero-topic (here (c .before .before)) (at-loop-before-else1 c .loop .inv .1)
           (ne-eqb _ _ (λ q. c .if1 .left (r ∙ sym q))),
     )
 
--- src/find.rt:12:1
 returns-2 : tie.Need-returns-2 Inv-loop μ-loop
 returns-2 c =
     let n = counted (c .before .before) in
-    let l : length (decode (c .before .before .before .before .args .store .now) .topics) ≤ c .before .loop .i = omega arith in
-    sought-end by-number (c .before .before .before .before .args .topic) (decode (c .before .before .before .before .args .store .now) .topics) (c .before .loop .i) l (c .before .loop .inv .1)
+    let l : length (decode (entry-before-after-loop c .args .store .now) .topics) ≤ c .before .loop .i = omega arith in
+    sought-end by-number (entry-before-after-loop c .args .topic) (decode (entry-before-after-loop c .args .store .now) .topics) (c .before .loop .i) l (c .before .loop .inv .1)
 
 pub find-topic-spec : {M : Type 1} → statement M
 find-topic-spec =

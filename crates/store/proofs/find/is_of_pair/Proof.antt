@@ -15,6 +15,10 @@ use Rattle.store.proofs.find.is_of_pair.Tie as tie
 use Rattle.store.proofs.find.is_of_pair.Reads as reads
 use Rattle.store.proofs.find.is_of_pair.Lts as lts
 
+-- the places: what stands before each, by name
+abbrev entry-before-shared-slice-known2 : tie.After-shared-slice-known2 → tie.Start
+entry-before-shared-slice-known2 c = c .before .before .before
+
 mul-at : tie.Need-mul-at
 mul-at c = search needs
 
@@ -52,14 +56,14 @@ mul-result : tie.Need-mul-result
 mul-result c = let k = dispatcher-inside (c .before .before .pre .0) (c .before .before .args .d) (c .before .before .pre .1) in search needs
 
 shared-slice-read-result : tie.Need-shared-slice-read-result
-shared-slice-read-result c = let k = dispatcher-inside (c .before .before .before .pre .0) (c .before .before .before .args .d) (c .before .before .before .pre .1) in omega arith
+shared-slice-read-result c = let k = dispatcher-inside (entry-before-shared-slice-known2 c .pre .0) (entry-before-shared-slice-known2 c .args .d) (entry-before-shared-slice-known2 c .pre .1) in omega arith
 
 returns-2 : tie.Need-returns-2
 unfolding same-pair
 returns-2 c =
-    let a = c .before .before .before .args in
-    let r = read-dispatcher-topic (c .before .before .before .pre .0) (a .d) (c .before .before .before .pre .1) in
-    let u = read-dispatcher-subscription (c .before .before .before .pre .0) (a .d) (c .before .before .before .pre .1) in
+    let a = entry-before-shared-slice-known2 c .args in
+    let r = read-dispatcher-topic (entry-before-shared-slice-known2 c .pre .0) (a .d) (entry-before-shared-slice-known2 c .pre .1) in
+    let u = read-dispatcher-subscription (entry-before-shared-slice-known2 c .pre .0) (a .d) (entry-before-shared-slice-known2 c .pre .1) in
     passes (eq-eqb _ _ (sym (c .before .if1 .left) ∙ r))
     (same-comm decides-numbers _ (a .subscription) ∙ ap (λ (n : ℕ). eqb (a .subscription) n) u)
 

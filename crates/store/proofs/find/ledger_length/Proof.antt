@@ -19,64 +19,68 @@ use Rattle.store.proofs.find.ledger_length.Lts as lts
 use Rattle.store.proofs.find.find_topic.Reads as find-topic-reads
 use Rattle.store.proofs.stretch.word.Reads as word-reads
 
+-- the places: what stands before each, by name
+abbrev entry-before-then1 : tie.Then1 → tie.Start
+entry-before-then1 c = c .before .before .before .before
+
+abbrev entry-before-else1 : tie.Else1 → tie.Start
+entry-before-else1 c = c .before .before .before .before
+
+abbrev find-topic-before-word2 : tie.After-word2 → tie.After-find-topic
+find-topic-before-word2 c = c .before .before .before
+
+abbrev entry-before-word2 : tie.After-word2 → tie.Start
+entry-before-word2 c = entry-before-then1 (c .before)
+
 -- the slot that was found lies in the table
-here : (c : tie.Then1) → c .before .before .find-topic .result < length (decode (c .before .before .before .before .args .store .now) .topics)
-here c = let e = c .before .word .ensures ∙ read-topic-count (c .before .before .before .before .pre) in let t = c .if1 .taken in omega arith
+here : (c : tie.Then1) → c .before .before .find-topic .result < length (decode (entry-before-then1 c .args .store .now) .topics)
+here c = let e = c .before .word .ensures ∙ read-topic-count (entry-before-then1 c .pre) in let t = c .if1 .taken in omega arith
 
 -- and in the store
-inside : (c : tie.Then1) → 2322 + (c .before .before .find-topic .result * (4 + 4 * c .before .before .before .before .args .e) + (4 + 4 * c .before .before .before .before .args .e)) ≤ length (c .before .before .before .before .args .store .now)
-inside c = topic-inside (c .before .before .before .before .pre) (c .before .before .find-topic .result) (here c)
+inside : (c : tie.Then1) → 2322 + (c .before .before .find-topic .result * (4 + 4 * entry-before-then1 c .args .e) + (4 + 4 * entry-before-then1 c .args .e)) ≤ length (entry-before-then1 c .args .store .now)
+inside c = topic-inside (entry-before-then1 c .pre) (c .before .before .find-topic .result) (here c)
 
--- src/find.rt:33:9
 find-topic-requires : tie.Need-find-topic-requires
 find-topic-requires c κs = search needs
 
--- src/find.rt:34:12
 word-requires : tie.Need-word-requires
 word-requires c κs = search needs
 
--- src/find.rt:35:37
 mul-word : tie.Need-mul-word
 mul-word c = search needs
 
--- src/find.rt:35:33
 add-word : tie.Need-add-word
 add-word c = search needs
 
--- src/find.rt:35:28
 mul-word-2 : tie.Need-mul-word-2
 mul-word-2 c = let k = inside c in search needs
 
--- src/find.rt:35:21
 add-word-2 : tie.Need-add-word-2
 add-word-2 c = let k = inside c in search needs
 
--- src/find.rt:35:9
 word-requires-2 : tie.Need-word-requires-2
 word-requires-2 c κs = let k = inside c in omega arith
 
--- src/find.rt:29:1
 returns : tie.Need-returns
 returns c =
-    let a = c .before .before .before .before .before .args in
+    let a = entry-before-word2 c .args in
     let ws = a .store .now in
-    let t = c .before .before .before .find-topic .result in
-    let e : t ≡ slot by-number (a .topic) (decode ws .topics) = c .before .before .before .find-topic .ensures in
+    let t = find-topic-before-word2 c .find-topic .result in
+    let e : t ≡ slot by-number (a .topic) (decode ws .topics) = find-topic-before-word2 c .find-topic .ensures in
     let n : 2325 + t * (4 + 4 * a .e) ≡ 2322 + t * (4 + 4 * a .e) + 3 = omega arith in
-    let h : slot by-number (a .topic) (decode ws .topics) < length (decode ws .topics) = rw e at (here (c .before)) in
+    let h : slot by-number (a .topic) (decode ws .topics) < length (decode ws .topics) = rw (e, entry-before-then1) at (here (c .before)) in
     c .word2 .ensures
     ∙ ap (λ (k : ℕ). getD ws k 0) n
-    ∙ read-message-count (c .before .before .before .before .before .pre) t (here (c .before))
+    ∙ read-message-count (entry-before-word2 c .pre) t (here (c .before))
     ∙ ap (λ (k : ℕ). length (topic-nth (decode ws) k .messages)) e
     ∙ ap (λ (l : List StoredMessage). length l) (sym (ledger-at (decode ws) (a .topic) h))
 
--- src/find.rt:29:1
 returns-2 : tie.Need-returns-2
 returns-2 c =
-    let a = c .before .before .before .before .args in
+    let a = entry-before-else1 c .args in
     let ws = a .store .now in
     let t : c .before .before .find-topic .result ≡ slot by-number (a .topic) (decode ws .topics) = c .before .before .find-topic .ensures in
-    let n = c .before .word .ensures ∙ read-topic-count (c .before .before .before .before .pre) in
+    let n = c .before .word .ensures ∙ read-topic-count (entry-before-else1 c .pre) in
     let h : length (decode ws .topics) ≤ slot by-number (a .topic) (decode ws .topics) = omega (arith, c .if1 .left) in
     ap (λ (l : List StoredMessage). length l) (sym (ledger-none (decode ws) (a .topic) h))
 

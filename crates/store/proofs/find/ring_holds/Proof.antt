@@ -27,6 +27,31 @@ Inv-loop store e d id first n j₀ j = (j ≤ n) × Passed (λ l. not (any (eqb 
 abbrev μ-loop : tie.MeasureT-loop
 μ-loop store e d id first n j₀ j = n - j
 
+-- the places: what stands before each, by name
+abbrev entry-before-in-loop : tie.In-loop Inv-loop μ-loop → tie.Start Inv-loop μ-loop
+entry-before-in-loop c = c .before .before .before .before
+
+abbrev entry-before-after-loop : tie.After-loop Inv-loop μ-loop → tie.Start Inv-loop μ-loop
+entry-before-after-loop c = c .before .before .before .before
+
+abbrev at-loop-before-then1 : tie.Then1 Inv-loop μ-loop → tie.At-loop Inv-loop μ-loop
+at-loop-before-then1 c = c .before .before .before
+
+abbrev word-before-then1 : tie.Then1 Inv-loop μ-loop → tie.After-word Inv-loop μ-loop
+word-before-then1 c = at-loop-before-then1 c .before
+
+abbrev entry-before-then1 : tie.Then1 Inv-loop μ-loop → tie.Start Inv-loop μ-loop
+entry-before-then1 c = entry-before-in-loop (c .before .before)
+
+abbrev at-loop-before-else1 : tie.Else1 Inv-loop μ-loop → tie.At-loop Inv-loop μ-loop
+at-loop-before-else1 c = c .before .before .before
+
+abbrev word-before-else1 : tie.Else1 Inv-loop μ-loop → tie.After-word Inv-loop μ-loop
+word-before-else1 c = at-loop-before-else1 c .before
+
+abbrev entry-before-else1 : tie.Else1 Inv-loop μ-loop → tie.Start Inv-loop μ-loop
+entry-before-else1 c = entry-before-in-loop (c .before .before)
+
 -- the ring
 abbrev ring : tie.After-word Inv-loop μ-loop → List ℕ
 ring c = dispatcher-nth (decode (c .before .before .args .store .now)) (c .before .before .args .d) .attached
@@ -44,20 +69,20 @@ here c = let n = counted (c .before .before) in omega arith
 
 -- and in the store
 inside : (c : tie.In-loop Inv-loop μ-loop)
-    → 2367 + 32 * c .before .before .before .before .args .e + c .before .before .before .before .args .d * (176 + 9 * c .before .before .before .before .args .e) + c .before .loop .j < length (c .before .before .before .before .args .store .now)
+    → 2367 + 32 * entry-before-in-loop c .args .e + entry-before-in-loop c .args .d * (176 + 9 * entry-before-in-loop c .args .e) + c .before .loop .j < length (entry-before-in-loop c .args .store .now)
 inside c =
-    let k = dispatcher-inside (c .before .before .before .before .pre .0) (c .before .before .before .before .args .d) (c .before .before .before .before .pre .1) in
-    let f = dispatcher-short (c .before .before .before .before .pre .0) (c .before .before .before .before .args .d) (c .before .before .before .before .pre .1) .ring-fits in
+    let k = dispatcher-inside (entry-before-in-loop c .pre .0) (entry-before-in-loop c .args .d) (entry-before-in-loop c .pre .1) in
+    let f = dispatcher-short (entry-before-in-loop c .pre .0) (entry-before-in-loop c .args .d) (entry-before-in-loop c .pre .1) .ring-fits in
     let l = here c in
     omega arith
 
 -- the id that is read there
 read : (c : tie.In-loop Inv-loop μ-loop)
-    → getD (c .before .before .before .before .args .store .now) (2367 + 32 * c .before .before .before .before .args .e + c .before .before .before .before .args .d * (176 + 9 * c .before .before .before .before .args .e) + c .before .loop .j) 0 ≡ getD (ring (c .before .before)) (c .before .loop .j) 0
+    → getD (entry-before-in-loop c .args .store .now) (2367 + 32 * entry-before-in-loop c .args .e + entry-before-in-loop c .args .d * (176 + 9 * entry-before-in-loop c .args .e) + c .before .loop .j) 0 ≡ getD (ring (c .before .before)) (c .before .loop .j) 0
 read c =
-    let a = c .before .before .before .before .args in
+    let a = entry-before-in-loop c .args in
     let n : 2367 + 32 * a .e + a .d * (176 + 9 * a .e) + c .before .loop .j ≡ dispatcher-at (a .e) (a .d) + 12 + c .before .loop .j = omega arith in
-    ap (λ (k : ℕ). getD (a .store .now) k 0) n ∙ read-ring (c .before .before .before .before .pre .0) (a .d) (c .before .before .before .before .pre .1) (c .before .loop .j) (here c)
+    ap (λ (k : ℕ). getD (a .store .now) k 0) n ∙ read-ring (entry-before-in-loop c .pre .0) (a .d) (entry-before-in-loop c .pre .1) (c .before .loop .j) (here c)
 
 mul-first : tie.Need-mul-first Inv-loop μ-loop
 mul-first c = search needs
@@ -98,7 +123,7 @@ shared-slice-read-if1 c = let k = inside (c .before) in omega arith
 returns : tie.Need-returns Inv-loop μ-loop
 unfolding member
 returns c =
-    let q = passed-stop (none-steps (eqb (c .before .before .before .before .before .before .args .id))) (ring (c .before .before .before .before)) (c .before .before .before .loop .j) 0 (here (c .before .before)) (c .before .before .before .loop .inv .1)
+    let q = passed-stop (none-steps (eqb (entry-before-then1 c .args .id))) (ring (word-before-then1 c)) (at-loop-before-then1 c .loop .j) 0 (here (c .before .before)) (at-loop-before-then1 c .loop .inv .1)
     (ap not (eq-eqb _ _ (sym (c .if1 .taken) ∙ read (c .before .before)))) in
     sym (not-false _ (sym q))
 
@@ -111,7 +136,7 @@ loop-less c = search needs
 loop-again : tie.Need-loop-again Inv-loop μ-loop
 loop-again c = (
   search needs,
-  passed-turn (none-steps (eqb (c .before .before .before .before .before .before .args .id))) (ring (c .before .before .before .before)) (c .before .before .before .loop .j) 0 (here (c .before .before)) (c .before .before .before .loop .inv .1)
+  passed-turn (none-steps (eqb (entry-before-else1 c .args .id))) (ring (word-before-else1 c)) (at-loop-before-else1 c .loop .j) 0 (here (c .before .before)) (at-loop-before-else1 c .loop .inv .1)
       (ap not (ne-eqb _ _ (λ q. c .if1 .left (read (c .before .before) ∙ sym q)))),
 )
 
@@ -120,7 +145,7 @@ unfolding member
 returns-2 c =
     let n = counted (c .before .before) in
     let l : length (ring (c .before .before)) ≤ c .before .loop .j = omega arith in
-    sym (not-true _ (sym (passed-end (none-steps (eqb (c .before .before .before .before .args .id))) (ring (c .before .before)) (c .before .loop .j) l (c .before .loop .inv .1))))
+    sym (not-true _ (sym (passed-end (none-steps (eqb (entry-before-after-loop c .args .id))) (ring (c .before .before)) (c .before .loop .j) l (c .before .loop .inv .1))))
 
 pub ring-holds-spec : {M : Type 1} → statement M
 ring-holds-spec =

@@ -4,6 +4,13 @@ use borrow.Author.Needs.{needs}
 use Rattle.store.proofs.movers.close_gap.Statement.{statement}
 use Rattle.store.proofs.movers.close_gap.Tie as tie
 
+-- the places: what stands before each, by name
+abbrev move-down-before-slice-known3 : tie.After-slice-known3 → tie.After-move-down
+move-down-before-slice-known3 c = c .before .before .before .before .before .before
+
+abbrev entry-before-slice-known3 : tie.After-slice-known3 → tie.Start
+entry-before-slice-known3 c = move-down-before-slice-known3 c .before .before .before
+
 move-down-requires : tie.Need-move-down-requires
 move-down-requires c κs = search needs
 
@@ -23,7 +30,7 @@ same-length : tie.Need-same-length
 same-length c = search needs
 
 returns : tie.Need-returns
-returns c = closed (c .before .before .before .before .before .before .before .before .before .args .store .now) (c .before .before .before .before .before .before .before .before .before .args .at) (c .before .before .before .before .before .before .before .before .before .args .width) (c .before .before .before .before .before .before .before .before .before .args .count) (c .before .before .before .before .before .before .move-down .ensures) (c .before .before .clear-words .ensures)
+returns c = closed (entry-before-slice-known3 c .args .store .now) (entry-before-slice-known3 c .args .at) (entry-before-slice-known3 c .args .width) (entry-before-slice-known3 c .args .count) (move-down-before-slice-known3 c .move-down .ensures) (c .before .before .clear-words .ensures)
 
 pub close-gap-spec : {M : Type 1} → statement M
 close-gap-spec =

@@ -16,6 +16,10 @@ Inv-loop store₀ at width count i₀ store i = (i ≤ count) × (at + width + c
 abbrev μ-loop : tie.MeasureT-loop
 μ-loop store₀ at width count i₀ store i = count - i
 
+-- the places: what stands before each, by name
+abbrev entry-before-slice-known : tie.After-slice-known Inv-loop μ-loop → tie.Start Inv-loop μ-loop
+entry-before-slice-known c = c .before .before .before
+
 loop-holds : tie.Need-loop-holds Inv-loop μ-loop
 loop-holds c = (search needs, search needs, refl, sym (down-none (c .args .width) (c .args .at) (c .args .store .now)))
 
@@ -48,7 +52,7 @@ loop-less c = search needs
 
 loop-again : tie.Need-loop-again Inv-loop μ-loop
 loop-again c =
-    let a = c .before .before .before .args in
+    let a = entry-before-slice-known c .args in
     let h : a .at + a .width + c .before .before .loop .i < length (a .store .now) = omega arith in
     (search needs, search needs, search needs, down-turn (a .width) (c .before .before .loop .i) (a .at) (a .store .now) (c .before .before .loop .inv .3) h)
 

@@ -16,6 +16,10 @@ Inv-loop store₀ at width count i₀ store i = (i ≤ count) × (at + width + c
 abbrev μ-loop : tie.MeasureT-loop
 μ-loop store₀ at width count i₀ store i = i
 
+-- the places: what stands before each, by name
+abbrev entry-before-slice-known : tie.After-slice-known Inv-loop μ-loop → tie.Start Inv-loop μ-loop
+entry-before-slice-known c = c .before .before .before
+
 loop-holds : tie.Need-loop-holds Inv-loop μ-loop
 loop-holds c = (search needs, search needs, refl, up-begins (c .args .store .now) (c .args .at) (c .args .width) (c .args .count))
 
@@ -48,7 +52,7 @@ loop-less c = search needs
 
 loop-again : tie.Need-loop-again Inv-loop μ-loop
 loop-again c =
-    let a = c .before .before .before .args in
+    let a = entry-before-slice-known c .args in
     let i = c .before .before .loop .i in
     let p : 0 < i = search needs in
     let q : i ≤ a .count = search needs in

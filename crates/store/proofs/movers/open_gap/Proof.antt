@@ -4,6 +4,13 @@ use borrow.Author.Needs.{needs}
 use Rattle.store.proofs.movers.open_gap.Statement.{statement}
 use Rattle.store.proofs.movers.open_gap.Tie as tie
 
+-- the places: what stands before each, by name
+abbrev move-up-before-slice-known3 : tie.After-slice-known3 → tie.After-move-up
+move-up-before-slice-known3 c = c .before .before .before .before .before .before
+
+abbrev entry-before-slice-known3 : tie.After-slice-known3 → tie.Start
+entry-before-slice-known3 c = move-up-before-slice-known3 c .before .before .before
+
 move-up-requires : tie.Need-move-up-requires
 move-up-requires c κs = search needs
 
@@ -17,7 +24,7 @@ same-length : tie.Need-same-length
 same-length c = search needs
 
 returns : tie.Need-returns
-returns c = gap-opened (c .before .before .before .before .before .before .before .before .before .args .store .now) (c .before .before .before .before .before .before .before .before .before .args .at) (c .before .before .before .before .before .before .before .before .before .args .width) (c .before .before .before .before .before .before .before .before .before .args .count) (c .before .before .before .before .before .before .move-up .ensures) (c .before .before .clear-words .ensures)
+returns c = gap-opened (entry-before-slice-known3 c .args .store .now) (entry-before-slice-known3 c .args .at) (entry-before-slice-known3 c .args .width) (entry-before-slice-known3 c .args .count) (move-up-before-slice-known3 c .move-up .ensures) (c .before .before .clear-words .ensures)
 
 pub open-gap-spec : {M : Type 1} → statement M
 open-gap-spec =

@@ -7,31 +7,24 @@ use Rattle.store.proofs.offsets.dispatcher_at.Tie as tie
 use Rattle.store.proofs.offsets.dispatcher_at.Reads as reads
 use Rattle.store.proofs.offsets.dispatcher_at.Lts as lts
 
--- src/offsets.rt:27:12
 mul-result : tie.Need-mul-result
 mul-result c = search needs
 
--- src/offsets.rt:27:5
 add-result : tie.Need-add-result
 add-result c = search needs
 
--- src/offsets.rt:27:32
 mul-result-2 : tie.Need-mul-result-2
 mul-result-2 c = search needs
 
--- src/offsets.rt:27:26
 add-result-2 : tie.Need-add-result-2
 add-result-2 c = search needs
 
--- src/offsets.rt:27:21
 mul-result-3 : tie.Need-mul-result-3
 mul-result-3 c = let k = room-le (c .args .d) 8 (176 + 9 * c .args .e) (c .pre .1) in search needs
 
--- src/offsets.rt:27:5
 add-result-3 : tie.Need-add-result-3
 add-result-3 c = let k = room-le (c .args .d) 8 (176 + 9 * c .args .e) (c .pre .1) in search needs
 
--- src/offsets.rt:23:1
 returns : tie.Need-returns
 returns c = search needs
 

@@ -7,23 +7,18 @@ use Rattle.store.proofs.offsets.topic_at.Tie as tie
 use Rattle.store.proofs.offsets.topic_at.Reads as reads
 use Rattle.store.proofs.offsets.topic_at.Lts as lts
 
--- src/offsets.rt:19:21
 mul-result : tie.Need-mul-result
 mul-result c = search needs
 
--- src/offsets.rt:19:17
 add-result : tie.Need-add-result
 add-result c = search needs
 
--- src/offsets.rt:19:12
 mul-result-2 : tie.Need-mul-result-2
 mul-result-2 c = let k = room-le (c .args .t) 8 (4 + 4 * c .args .e) (c .pre .1) in search needs
 
--- src/offsets.rt:19:5
 add-result-2 : tie.Need-add-result-2
 add-result-2 c = let k = room-le (c .args .t) 8 (4 + 4 * c .args .e) (c .pre .1) in search needs
 
--- src/offsets.rt:15:1
 returns : tie.Need-returns
 returns c = search needs
 

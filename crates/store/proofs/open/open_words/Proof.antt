@@ -10,31 +10,24 @@ use Rattle.store.proofs.open.open_words.Reads as reads
 use Rattle.store.proofs.open.open_words.Lts as lts
 use Rattle.store.proofs.stretch.clear_words.Reads as clear-words-reads
 
--- src/open.rt:40:5
 clear-words-requires : tie.Need-clear-words-requires
 clear-words-requires c κs = search needs
 
--- src/open.rt:41:5
 slice-write-store : tie.Need-slice-write-store
 slice-write-store c = search needs
 
--- src/open.rt:42:5
 slice-write-store-2 : tie.Need-slice-write-store-2
 slice-write-store-2 c = simp length-set (omega (arith, c .before .before .clear-words .kept))
 
--- src/open.rt:43:5
 slice-write-store-3 : tie.Need-slice-write-store-3
 slice-write-store-3 c = simp length-set (omega (arith, c .before .before .clear-words .kept))
 
--- src/open.rt:44:5
 slice-write-store-4 : tie.Need-slice-write-store-4
 slice-write-store-4 c = simp length-set (omega (arith, c .before .before .clear-words .kept))
 
--- src/open.rt:36:1
 same-length : tie.Need-same-length
 same-length c = search needs
 
--- src/open.rt:36:1
 returns : tie.Need-returns
 unfolding opened-words
 returns c = rw (c .before .before .clear-words .ensures, sub-zero)

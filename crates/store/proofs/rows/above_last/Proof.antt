@@ -10,6 +10,13 @@ use Rattle.store.proofs.Spelt.{fails, passes}
 use Rattle.store.proofs.rows.above_last.Statement.{statement}
 use Rattle.store.proofs.rows.above_last.Tie as tie
 
+-- the places: what stands before each, by name
+abbrev else1-before-is-above : tie.After-is-above → tie.Else1
+else1-before-is-above c = c .before .before .before
+
+abbrev entry-before-is-above : tie.After-is-above → tie.Start
+entry-before-is-above c = else1-before-is-above c .before .before
+
 -- there is a row
 some : (c : tie.Else1) → 0 < c .before .before .args .n
 some c = omega (arith, c .if1 .left)
@@ -54,7 +61,7 @@ is-above-requires c κs = search needs
 
 returns-2 : tie.Need-returns-2
 unfolding above-last
-returns-2 c = passes (lt-ltb 0 (c .before .before .before .before .before .args .n) (some (c .before .before .before))) (c .is-above .ensures)
+returns-2 c = passes (lt-ltb 0 (entry-before-is-above c .args .n) (some (else1-before-is-above c))) (c .is-above .ensures)
 
 pub above-last-spec : {M : Type 1} → statement M
 above-last-spec =

@@ -6,6 +6,10 @@ use Rattle.store.proofs.Among.{among-above, first-among}
 use Rattle.store.proofs.rows.repeated.Statement.{statement}
 use Rattle.store.proofs.rows.repeated.Tie as tie
 
+-- the places: what stands before each, by name
+abbrev entry-before-row-of : tie.After-row-of → tie.Start
+entry-before-row-of c = c .before .before .before
+
 returns : tie.Need-returns
 returns c =
     let a = c .before .before .args in
@@ -16,7 +20,7 @@ row-of-requires c κs = c .before .before .pre .0
 
 returns-2 : tie.Need-returns-2
 returns-2 c =
-    let a = c .before .before .before .args in
+    let a = entry-before-row-of c .args in
     ap (λ (k : ℕ). ltb k (a .n)) (c .row-of .ensures) ∙ first-among (a .store .now) (a .first) (a .width) (a .n) (a .a)
 
 pub repeated-spec : {M : Type 1} → statement M

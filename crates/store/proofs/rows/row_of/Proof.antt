@@ -16,6 +16,19 @@ Inv-loop store first width n a i₀ i = (i ≤ n) × (among store first width i 
 abbrev μ-loop : tie.MeasureT-loop
 μ-loop store first width n a i₀ i = n - i
 
+-- the places: what stands before each, by name
+abbrev at-loop-before-then1 : tie.Then1 Inv-loop μ-loop → tie.At-loop Inv-loop μ-loop
+at-loop-before-then1 c = c .before .before .before
+
+abbrev entry-before-then1 : tie.Then1 Inv-loop μ-loop → tie.Start Inv-loop μ-loop
+entry-before-then1 c = at-loop-before-then1 c .before
+
+abbrev at-loop-before-else1 : tie.Else1 Inv-loop μ-loop → tie.At-loop Inv-loop μ-loop
+at-loop-before-else1 c = c .before .before .before
+
+abbrev entry-before-else1 : tie.Else1 Inv-loop μ-loop → tie.Start Inv-loop μ-loop
+entry-before-else1 c = at-loop-before-else1 c .before
+
 -- the row of a turn lies in the store
 inside : (c : tie.In-loop Inv-loop μ-loop) → c .before .before .args .first + (c .before .loop .i * c .before .before .args .width + c .before .before .args .width)
     ≤ length (c .before .before .args .store .now)
@@ -40,9 +53,9 @@ shared-slice-read-if1 c = let k = inside (c .before) in search needs
 
 returns : tie.Need-returns Inv-loop μ-loop
 returns c =
-    let a = c .before .before .before .before .args in
-    first-here (a .store .now) (a .first) (a .width) (a .n) (c .before .before .before .loop .i) (a .a) (c .before .before .loop-test .taken)
-    (c .before .before .before .loop .inv .1) (c .if1 .taken)
+    let a = entry-before-then1 c .args in
+    first-here (a .store .now) (a .first) (a .width) (a .n) (at-loop-before-then1 c .loop .i) (a .a) (c .before .before .loop-test .taken)
+    (at-loop-before-then1 c .loop .inv .1) (c .if1 .taken)
 
 add-i : tie.Need-add-i Inv-loop μ-loop
 add-i c = search needs
@@ -52,8 +65,8 @@ loop-less c = search needs
 
 loop-again : tie.Need-loop-again Inv-loop μ-loop
 loop-again c =
-    let a = c .before .before .before .before .args in
-    (search needs, among-turn (a .store .now) (a .first) (a .width) (c .before .before .before .loop .i) (a .a) (c .before .before .before .loop .inv .1) (c .if1 .left))
+    let a = entry-before-else1 c .args in
+    (search needs, among-turn (a .store .now) (a .first) (a .width) (at-loop-before-else1 c .loop .i) (a .a) (at-loop-before-else1 c .loop .inv .1) (c .if1 .left))
 
 returns-2 : tie.Need-returns-2 Inv-loop μ-loop
 returns-2 c =

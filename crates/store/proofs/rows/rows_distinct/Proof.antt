@@ -21,13 +21,35 @@ Inv-loop store first width n greatest₀ i₀ greatest i =
 abbrev μ-loop : tie.MeasureT-loop
 μ-loop store first width n greatest₀ i₀ greatest i = n - i
 
+-- the places: what stands before each, by name
+abbrev entry-before-in-loop : tie.In-loop Inv-loop μ-loop → tie.Start Inv-loop μ-loop
+entry-before-in-loop c = c .before .before .before
+
+abbrev entry-before-after-loop : tie.After-loop Inv-loop μ-loop → tie.Start Inv-loop μ-loop
+entry-before-after-loop c = c .before .before .before
+
+abbrev in-loop-before-then1 : tie.Then1 Inv-loop μ-loop → tie.In-loop Inv-loop μ-loop
+in-loop-before-then1 c = c .before .before .before
+
+abbrev at-loop-before-then1 : tie.Then1 Inv-loop μ-loop → tie.At-loop Inv-loop μ-loop
+at-loop-before-then1 c = in-loop-before-then1 c .before
+
+abbrev entry-before-then1 : tie.Then1 Inv-loop μ-loop → tie.Start Inv-loop μ-loop
+entry-before-then1 c = entry-before-in-loop (in-loop-before-then1 c)
+
+abbrev at-loop-before-greater : tie.After-greater Inv-loop μ-loop → tie.At-loop Inv-loop μ-loop
+at-loop-before-greater c = c .before .before .before .before .before
+
+abbrev entry-before-greater : tie.After-greater Inv-loop μ-loop → tie.Start Inv-loop μ-loop
+entry-before-greater c = at-loop-before-greater c .before .before
+
 -- the row of a turn lies in the store
 inside : (c : tie.In-loop Inv-loop μ-loop)
-    → c .before .before .before .args .first + (c .before .loop .i * c .before .before .before .args .width + c .before .before .before .args .width) ≤ length
-    (c .before .before .before .args .store .now)
+    → entry-before-in-loop c .args .first + (c .before .loop .i * entry-before-in-loop c .args .width + entry-before-in-loop c .args .width) ≤ length
+    (entry-before-in-loop c .args .store .now)
 inside c =
-    row-ends (c .before .before .before .args .first) (c .before .before .before .args .width) (c .before .before .before .args .n) (c .before .loop .i)
-    (length (c .before .before .before .args .store .now)) (c .loop-test .taken) (c .before .before .before .pre .1)
+    row-ends (entry-before-in-loop c .args .first) (entry-before-in-loop c .args .width) (entry-before-in-loop c .args .n) (c .before .loop .i)
+    (length (entry-before-in-loop c .args .store .now)) (c .loop-test .taken) (entry-before-in-loop c .pre .1)
 
 loop-holds : tie.Need-loop-holds Inv-loop μ-loop
 unfolding rows-distinct each-below
@@ -51,8 +73,8 @@ repeated-requires c κs = let k = inside (c .before) in ((search needs, omega ar
 returns : tie.Need-returns Inv-loop μ-loop
 unfolding rows-distinct
 returns c =
-    let a = c .before .before .before .before .before .before .args in
-    each-stop (differs (a .store .now) (a .first) (a .width)) (a .n) (c .before .before .before .before .loop .i) (c .before .before .before .loop-test .taken)
+    let a = entry-before-then1 c .args in
+    each-stop (differs (a .store .now) (a .first) (a .width)) (a .n) (at-loop-before-then1 c .loop .i) (in-loop-before-then1 c .loop-test .taken)
     (refuted (c .before .repeated .ensures) (c .if1 .taken))
 
 greater-requires : tie.Need-greater-requires Inv-loop μ-loop
@@ -67,20 +89,20 @@ loop-less c = search needs
 loop-again : tie.Need-loop-again Inv-loop μ-loop
 unfolding rows-distinct
 loop-again c =
-    let a = c .before .before .before .before .before .before .before .args in
-    let i = c .before .before .before .before .before .loop .i in (
+    let a = entry-before-greater c .args in
+    let i = at-loop-before-greater c .loop .i in (
       search needs,
-      each-turn (differs (a .store .now) (a .first) (a .width)) i (c .before .before .before .before .before .loop .inv .1)
+      each-turn (differs (a .store .now) (a .first) (a .width)) i (at-loop-before-greater c .loop .inv .1)
           (upheld (c .before .before .repeated .ensures) (c .before .if1 .left)),
-      rows-most (a .store .now) (a .first) (a .width) i (c .before .before .before .before .before .loop .greatest) (c .greater .result)
-          (c .before .before .before .before .before .loop .inv .2)
+      rows-most (a .store .now) (a .first) (a .width) i (at-loop-before-greater c .loop .greatest) (c .greater .result)
+          (at-loop-before-greater c .loop .inv .2)
           (c .greater .ensures .0) (c .greater .ensures .1),
     )
 
 returns-2 : tie.Need-returns-2 Inv-loop μ-loop
 unfolding rows-distinct
 returns-2 c =
-    let a = c .before .before .before .args in
+    let a = entry-before-after-loop c .args in
     each-end (differs (a .store .now) (a .first) (a .width)) (a .n) (c .before .loop .i)
     (c .before .loop .inv .0) (c .loop-test .left) (c .before .loop .inv .1)
 

@@ -17,6 +17,25 @@ Inv-loop store first width n a b i₀ i = (i ≤ n) × (two-among store first wi
 abbrev μ-loop : tie.MeasureT-loop
 μ-loop store first width n a b i₀ i = n - i
 
+-- the places: what stands before each, by name
+abbrev at-loop-before-joined1 : tie.Joined1 Inv-loop μ-loop → tie.At-loop Inv-loop μ-loop
+at-loop-before-joined1 c = c .before .before .before
+
+abbrev entry-before-joined1 : tie.Joined1 Inv-loop μ-loop → tie.Start Inv-loop μ-loop
+entry-before-joined1 c = at-loop-before-joined1 c .before
+
+abbrev in-loop-before-shared-slice-known2 : tie.After-shared-slice-known2 Inv-loop μ-loop → tie.In-loop Inv-loop μ-loop
+in-loop-before-shared-slice-known2 c = c .before .before .before
+
+abbrev in-loop-before-then2 : tie.Then2 Inv-loop μ-loop → tie.In-loop Inv-loop μ-loop
+in-loop-before-then2 c = in-loop-before-shared-slice-known2 (c .before)
+
+abbrev at-loop-before-then2 : tie.Then2 Inv-loop μ-loop → tie.At-loop Inv-loop μ-loop
+at-loop-before-then2 c = in-loop-before-then2 c .before
+
+abbrev entry-before-then2 : tie.Then2 Inv-loop μ-loop → tie.Start Inv-loop μ-loop
+entry-before-then2 c = at-loop-before-then2 c .before
+
 -- the row of a turn lies in the store
 inside : (c : tie.In-loop Inv-loop μ-loop) → c .before .before .args .first + (c .before .loop .i * c .before .before .args .width + c .before .before .args .width)
     ≤ length (c .before .before .args .store .now)
@@ -46,13 +65,13 @@ mul-if2 : tie.Need-mul-if2 Inv-loop μ-loop
 mul-if2 c = let k = inside (c .before .before) in search needs
 
 shared-slice-read-if2 : tie.Need-shared-slice-read-if2 Inv-loop μ-loop
-shared-slice-read-if2 c = let k = inside (c .before .before .before) in search needs
+shared-slice-read-if2 c = let k = inside (in-loop-before-shared-slice-known2 c) in search needs
 
 returns : tie.Need-returns Inv-loop μ-loop
 returns c =
-    let a = c .before .before .before .before .before .before .args in
-    sym (two-found (a .store .now) (a .first) (a .width) (a .n) (c .before .before .before .before .before .loop .i) (a .a) (a .b)
-    (c .before .before .before .before .loop-test .taken) (c .before .before .if1 .taken) (c .if2 .taken))
+    let a = entry-before-then2 c .args in
+    sym (two-found (a .store .now) (a .first) (a .width) (a .n) (at-loop-before-then2 c .loop .i) (a .a) (a .b)
+    (in-loop-before-then2 c .loop-test .taken) (c .before .before .if1 .taken) (c .if2 .taken))
 
 add-i : tie.Need-add-i Inv-loop μ-loop
 add-i c = search needs
@@ -62,9 +81,9 @@ loop-less c = search needs
 
 loop-again : tie.Need-loop-again Inv-loop μ-loop
 loop-again c =
-    let a = c .before .before .before .before .args in
-    let i = c .before .before .before .loop .i in
-    let e = c .before .before .before .loop .inv .1 in (
+    let a = entry-before-joined1 c .args in
+    let i = at-loop-before-joined1 c .loop .i in
+    let e = at-loop-before-joined1 c .loop .inv .1 in (
       search needs,
       ⊎-elim (λ w. two-turn-second (a .store .now) (a .first) (a .width) i (a .a) (a .b) e (w .2 .left))
           (λ w. two-turn-first (a .store .now) (a .first) (a .width) i (a .a) (a .b) e (w .left)) (c .if1 .came),

@@ -6,17 +6,24 @@ use Rattle.store.proofs.RowOrder.{last-none}
 use Rattle.store.proofs.rows.two_found.Statement.{statement}
 use Rattle.store.proofs.rows.two_found.Tie as tie
 
+-- the places: what stands before each, by name
+abbrev entry-before-then2 : tie.Then2 → tie.Start
+entry-before-then2 c = c .before .before .before .before
+
+abbrev entry-before-else2 : tie.Else2 → tie.Start
+entry-before-else2 c = c .before .before .before .before
+
 above-last-requires : tie.Need-above-last-requires
 above-last-requires c κs = search needs
 
 returns : tie.Need-returns
 returns c =
-    let x = c .before .before .before .before .args in
-    sym (last-none (x .store .now) (x .first) (x .width) (x .n) (x .a) (x .b) (c .before .before .before .before .pre .1 (c .before .before .if1 .taken))
+    let x = entry-before-then2 c .args in
+    sym (last-none (x .store .now) (x .first) (x .width) (x .n) (x .a) (x .b) (entry-before-then2 c .pre .1 (c .before .before .if1 .taken))
     (sym (c .before .above-last .ensures) ∙ c .if2 .taken))
 
 two-searched-requires : tie.Need-two-searched-requires
-two-searched-requires c κs = (c .before .before .before .before .pre .0, c .before .before .before .before .pre .1 (c .before .before .if1 .taken))
+two-searched-requires c κs = (entry-before-else2 c .pre .0, entry-before-else2 c .pre .1 (c .before .before .if1 .taken))
 
 returns-2 : tie.Need-returns-2
 returns-2 c = search needs

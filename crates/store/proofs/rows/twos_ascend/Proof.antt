@@ -23,6 +23,31 @@ Inv-loop store first width n a₀ b₀ i₀ a b i =
 abbrev μ-loop : tie.MeasureT-loop
 μ-loop store first width n a₀ b₀ i₀ a b i = n - i
 
+-- the places: what stands before each, by name
+abbrev entry-before-shared-slice-known3 : tie.After-shared-slice-known3 Inv-loop μ-loop → tie.Start Inv-loop μ-loop
+entry-before-shared-slice-known3 c = c .before .before .before .before
+
+abbrev entry-before-in-loop : tie.In-loop Inv-loop μ-loop → tie.Start Inv-loop μ-loop
+entry-before-in-loop c = entry-before-shared-slice-known3 (c .before .before)
+
+abbrev entry-before-after-loop : tie.After-loop Inv-loop μ-loop → tie.Start Inv-loop μ-loop
+entry-before-after-loop c = entry-before-shared-slice-known3 (c .before .before)
+
+abbrev in-loop-before-then2 : tie.Then2 Inv-loop μ-loop → tie.In-loop Inv-loop μ-loop
+in-loop-before-then2 c = c .before .before .before .before
+
+abbrev at-loop-before-then2 : tie.Then2 Inv-loop μ-loop → tie.At-loop Inv-loop μ-loop
+at-loop-before-then2 c = in-loop-before-then2 c .before
+
+abbrev entry-before-then2 : tie.Then2 Inv-loop μ-loop → tie.Start Inv-loop μ-loop
+entry-before-then2 c = entry-before-in-loop (in-loop-before-then2 c)
+
+abbrev at-loop-before-else2 : tie.Else2 Inv-loop μ-loop → tie.At-loop Inv-loop μ-loop
+at-loop-before-else2 c = c .before .before .before .before .before
+
+abbrev entry-before-else2 : tie.Else2 Inv-loop μ-loop → tie.Start Inv-loop μ-loop
+entry-before-else2 c = entry-before-shared-slice-known3 (at-loop-before-else2 c .before)
+
 -- the first row lies in the store
 first-inside : (c : tie.Else1 Inv-loop μ-loop)
     → c .before .before .args .first + c .before .before .args .width ≤ length (c .before .before .args .store .now)
@@ -33,9 +58,9 @@ first-inside c =
 
 -- so does the row of a turn
 inside : (c : tie.In-loop Inv-loop μ-loop)
-    → c .before .before .before .before .before .before .args .first + (c .before .loop .i * c .before .before .before .before .before .before .args .width + c .before .before .before .before .before .before .args .width) ≤ length (c .before .before .before .before .before .before .args .store .now)
+    → entry-before-in-loop c .args .first + (c .before .loop .i * entry-before-in-loop c .args .width + entry-before-in-loop c .args .width) ≤ length (entry-before-in-loop c .args .store .now)
 inside c =
-    row-ends (c .before .before .before .before .before .before .args .first) (c .before .before .before .before .before .before .args .width) (c .before .before .before .before .before .before .args .n) (c .before .loop .i) (length (c .before .before .before .before .before .before .args .store .now)) (c .loop-test .taken) (c .before .before .before .before .before .before .pre .1)
+    row-ends (entry-before-in-loop c .args .first) (entry-before-in-loop c .args .width) (entry-before-in-loop c .args .n) (c .before .loop .i) (length (entry-before-in-loop c .args .store .now)) (c .loop-test .taken) (entry-before-in-loop c .pre .1)
 
 returns : tie.Need-returns Inv-loop μ-loop
 unfolding twos-ascend each-below
@@ -59,7 +84,7 @@ shared-slice-read-b c = let k = first-inside (c .before .before) in search needs
 loop-holds : tie.Need-loop-holds Inv-loop μ-loop
 unfolding each-below
 loop-holds c =
-    let x = c .before .before .before .before .args in
+    let x = entry-before-shared-slice-known3 c .args in
     let n = c .before .before .if1 .left in
     (omega arith, omega arith, row-none (x .store .now) (x .first) (x .width), second-none (x .store .now) (x .first) (x .width), refl)
 
@@ -90,10 +115,10 @@ is-above-requires c κs = search needs
 returns-2 : tie.Need-returns-2 Inv-loop μ-loop
 unfolding twos-ascend
 returns-2 c =
-    let x = c .before .before .before .before .before .before .before .before .before .before .args in
-    let l = c .before .before .before .before .before .loop in
+    let x = entry-before-then2 c .args in
+    let l = at-loop-before-then2 c .loop in
     let h : 1 ≤ l .i = l .inv .0 in
-    let k = c .before .before .before .before .loop-test .taken in
+    let k = in-loop-before-then2 c .loop-test .taken in
     each-stop (two-ascends (x .store .now) (x .first) (x .width)) (x .n - 1) (l .i - 1) (omega arith)
     (ascend-turn (x .store .now) (x .first) (x .width) (l .i) (l .a) (l .b) h (l .inv .2) (l .inv .3) (answered-no (c .before .is-above .ensures) (c .if2 .taken)))
 
@@ -105,8 +130,8 @@ loop-less c = search needs
 
 loop-again : tie.Need-loop-again Inv-loop μ-loop
 loop-again c =
-    let x = c .before .before .before .before .before .before .before .before .before .before .args in
-    let l = c .before .before .before .before .before .loop in
+    let x = entry-before-else2 c .args in
+    let l = at-loop-before-else2 c .loop in
     let e : l .i + 1 - 1 ≡ l .i = omega arith in (
       omega arith,
       omega arith,
@@ -120,7 +145,7 @@ loop-again c =
 returns-3 : tie.Need-returns-3 Inv-loop μ-loop
 unfolding twos-ascend
 returns-3 c =
-    let x = c .before .before .before .before .before .before .args in
+    let x = entry-before-after-loop c .args in
     let l = c .before .loop in
     let k = c .loop-test .left in
     each-end (two-ascends (x .store .now) (x .first) (x .width)) (x .n - 1) (l .i - 1) (omega arith) (omega arith) (l .inv .4)

@@ -24,17 +24,42 @@ Inv-loop store first width n x₀ y₀ i₀ x y i =
 abbrev μ-loop : tie.MeasureT-loop
 μ-loop store first width n x₀ y₀ i₀ x y i = n - i
 
+-- the places: what stands before each, by name
+abbrev entry-before-in-loop : tie.In-loop Inv-loop μ-loop → tie.Start Inv-loop μ-loop
+entry-before-in-loop c = c .before .before .before
+
+abbrev entry-before-after-loop : tie.After-loop Inv-loop μ-loop → tie.Start Inv-loop μ-loop
+entry-before-after-loop c = c .before .before .before
+
+abbrev in-loop-before-else1 : tie.Else1 Inv-loop μ-loop → tie.In-loop Inv-loop μ-loop
+in-loop-before-else1 c = c .before .before .before .before
+
+abbrev at-loop-before-joined1 : tie.Joined1 Inv-loop μ-loop → tie.At-loop Inv-loop μ-loop
+at-loop-before-joined1 c = c .before .before .before .before .before
+
+abbrev entry-before-joined1 : tie.Joined1 Inv-loop μ-loop → tie.Start Inv-loop μ-loop
+entry-before-joined1 c = at-loop-before-joined1 c .before .before
+
+abbrev in-loop-before-then2 : tie.Then2 Inv-loop μ-loop → tie.In-loop Inv-loop μ-loop
+in-loop-before-then2 c = in-loop-before-else1 (c .before .before)
+
+abbrev at-loop-before-then2 : tie.Then2 Inv-loop μ-loop → tie.At-loop Inv-loop μ-loop
+at-loop-before-then2 c = in-loop-before-then2 c .before
+
+abbrev entry-before-then2 : tie.Then2 Inv-loop μ-loop → tie.Start Inv-loop μ-loop
+entry-before-then2 c = entry-before-in-loop (in-loop-before-then2 c)
+
 -- the row of a turn lies in the store
 inside : (c : tie.In-loop Inv-loop μ-loop)
-    → c .before .before .before .args .first + (c .before .loop .i * c .before .before .before .args .width + c .before .before .before .args .width) ≤ length (c .before .before .before .args .store .now)
+    → entry-before-in-loop c .args .first + (c .before .loop .i * entry-before-in-loop c .args .width + entry-before-in-loop c .args .width) ≤ length (entry-before-in-loop c .args .store .now)
 inside c =
-    row-ends (c .before .before .before .args .first) (c .before .before .before .args .width) (c .before .before .before .args .n) (c .before .loop .i) (length (c .before .before .before .args .store .now)) (c .loop-test .taken) (c .before .before .before .pre .1)
+    row-ends (entry-before-in-loop c .args .first) (entry-before-in-loop c .args .width) (entry-before-in-loop c .args .n) (c .before .loop .i) (length (entry-before-in-loop c .args .store .now)) (c .loop-test .taken) (entry-before-in-loop c .pre .1)
 
 -- it differs from those before it
-new : (c : tie.Joined1 Inv-loop μ-loop) → two-differs (c .before .before .before .before .before .before .before .args .store .now) (c .before .before .before .before .before .before .before .args .first) (c .before .before .before .before .before .before .before .args .width) (c .before .before .before .before .before .loop .i) ≡ true
+new : (c : tie.Joined1 Inv-loop μ-loop) → two-differs (entry-before-joined1 c .args .store .now) (entry-before-joined1 c .args .first) (entry-before-joined1 c .args .width) (at-loop-before-joined1 c .loop .i) ≡ true
 new c =
-    let a = c .before .before .before .before .before .before .before .args in
-    let l = c .before .before .before .before .before .loop in
+    let a = entry-before-joined1 c .args in
+    let l = at-loop-before-joined1 c .loop in
     ⊎-elim
     (λ w. ap not (most-new (a .store .now) (a .first) (a .width) (l .i) (l .x) (l .y) (l .inv .2) (row (a .store .now) (a .first) (a .width) (l .i))
     (row-second (a .store .now) (a .first) (a .width) (l .i)) (sym (c .before .is-above .ensures) ∙ w .0 .taken)))
@@ -42,15 +67,15 @@ new c =
     (c .if1 .came)
 
 -- and none up to it is above the two words that are kept
-most : (c : tie.Joined1 Inv-loop μ-loop) (j : ℕ) → j < c .before .before .before .before .before .loop .i + 1
-    → pair-above (row (c .before .before .before .before .before .before .before .args .store .now) (c .before .before .before .before .before .before .before .args .first) (c .before .before .before .before .before .before .before .args .width) j) (row-second (c .before .before .before .before .before .before .before .args .store .now) (c .before .before .before .before .before .before .before .args .first) (c .before .before .before .before .before .before .before .args .width) j) (c .if1 .x) (c .if1 .y) ≡ false
+most : (c : tie.Joined1 Inv-loop μ-loop) (j : ℕ) → j < at-loop-before-joined1 c .loop .i + 1
+    → pair-above (row (entry-before-joined1 c .args .store .now) (entry-before-joined1 c .args .first) (entry-before-joined1 c .args .width) j) (row-second (entry-before-joined1 c .args .store .now) (entry-before-joined1 c .args .first) (entry-before-joined1 c .args .width) j) (c .if1 .x) (c .if1 .y) ≡ false
 most c j h =
-    let a = c .before .before .before .before .before .before .before .args in
-    let l = c .before .before .before .before .before .loop in
+    let a = entry-before-joined1 c .args in
+    let l = at-loop-before-joined1 c .loop in
     ⊎-elim
-    (λ w. rw (w .1, w .2)
+    (λ w. rw (w .1, w .2, entry-before-joined1)
     (most-raised (a .store .now) (a .first) (a .width) (l .i) (l .x) (l .y) (l .inv .2) (sym (c .before .is-above .ensures) ∙ w .0 .taken) j h))
-    (λ w. rw (w .3, w .4)
+    (λ w. rw (w .3, w .4, entry-before-joined1)
     (most-kept (a .store .now) (a .first) (a .width) (l .i) (l .x) (l .y) (l .inv .2) (sym (c .before .is-above .ensures) ∙ w .0 .left) j h))
     (c .if1 .came)
 
@@ -83,13 +108,13 @@ is-above-requires : tie.Need-is-above-requires Inv-loop μ-loop
 is-above-requires c κs = search needs
 
 two-among-requires : tie.Need-two-among-requires Inv-loop μ-loop
-two-among-requires c κs = let k = inside (c .before .before .before .before) in (search needs, omega arith)
+two-among-requires c κs = let k = inside (in-loop-before-else1 c) in (search needs, omega arith)
 
 returns : tie.Need-returns Inv-loop μ-loop
 unfolding twos-distinct
 returns c =
-    let a = c .before .before .before .before .before .before .before .before .before .args in
-    each-stop (two-differs (a .store .now) (a .first) (a .width)) (a .n) (c .before .before .before .before .before .before .before .loop .i) (c .before .before .before .before .before .before .loop-test .taken)
+    let a = entry-before-then2 c .args in
+    each-stop (two-differs (a .store .now) (a .first) (a .width)) (a .n) (at-loop-before-then2 c .loop .i) (in-loop-before-then2 c .loop-test .taken)
     (refuted (c .before .two-among .ensures) (c .if2 .taken))
 
 add-i : tie.Need-add-i Inv-loop μ-loop
@@ -101,16 +126,16 @@ loop-less c = search needs
 loop-again : tie.Need-loop-again Inv-loop μ-loop
 unfolding twos-distinct
 loop-again c =
-    let a = c .before .before .before .before .before .before .before .args in (
+    let a = entry-before-joined1 c .args in (
       search needs,
-      each-turn (two-differs (a .store .now) (a .first) (a .width)) (c .before .before .before .before .before .loop .i) (c .before .before .before .before .before .loop .inv .1) (new c),
+      each-turn (two-differs (a .store .now) (a .first) (a .width)) (at-loop-before-joined1 c .loop .i) (at-loop-before-joined1 c .loop .inv .1) (new c),
       most c,
     )
 
 returns-2 : tie.Need-returns-2 Inv-loop μ-loop
 unfolding twos-distinct
 returns-2 c =
-    let a = c .before .before .before .args in
+    let a = entry-before-after-loop c .args in
     each-end (two-differs (a .store .now) (a .first) (a .width)) (a .n)
     (c .before .loop .i) (c .before .loop .inv .0) (c .loop-test .left) (c .before .loop .inv .1)
 

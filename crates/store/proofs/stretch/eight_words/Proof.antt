@@ -4,6 +4,10 @@ use Rattle.store.proofs.Blank.{eight-blank}
 use Rattle.store.proofs.stretch.eight_words.Statement.{statement}
 use Rattle.store.proofs.stretch.eight_words.Tie as tie
 
+-- the places: what stands before each, by name
+abbrev entry-before-shared-slice-known8 : tie.After-shared-slice-known8 → tie.Start
+entry-before-shared-slice-known8 c = c .before .before .before .before .before .before .before .before
+
 mul-result : tie.Need-mul-result
 mul-result c = search needs
 
@@ -74,7 +78,7 @@ shared-slice-read-result-8 : tie.Need-shared-slice-read-result-8
 shared-slice-read-result-8 c = search needs
 
 returns : tie.Need-returns
-returns c = eight-blank (c .before .before .before .before .before .before .before .before .args .store .now) (c .before .before .before .before .before .before .before .before .args .at) (search needs)
+returns c = eight-blank (entry-before-shared-slice-known8 c .args .store .now) (entry-before-shared-slice-known8 c .args .at) (search needs)
 
 pub eight-words-spec : {M : Type 1} → statement M
 eight-words-spec =

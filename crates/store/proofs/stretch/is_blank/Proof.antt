@@ -19,6 +19,13 @@ Inv-loop store from to any₀ i₀ any i =
 abbrev μ-loop : tie.MeasureT-loop
 μ-loop store from to any₀ i₀ any i = to - i
 
+-- the places: what stands before each, by name
+abbrev at-loop-before-eight-words2 : tie.After-eight-words2 Inv-loop μ-loop → tie.At-loop Inv-loop μ-loop
+at-loop-before-eight-words2 c = c .before .before .before
+
+abbrev entry-before-eight-words2 : tie.After-eight-words2 Inv-loop μ-loop → tie.Start Inv-loop μ-loop
+entry-before-eight-words2 c = at-loop-before-eight-words2 c .before .before
+
 loop-holds : tie.Need-loop-holds Inv-loop μ-loop
 loop-holds c = (search needs, search needs, refl)
 
@@ -44,9 +51,9 @@ loop-again : tie.Need-loop-again Inv-loop μ-loop
 loop-again c = (
   search needs,
   search needs,
-  or-sixteen (c .before .before .before .loop .any) (c .before .eight-words .result) (c .eight-words2 .result) (c .before .before .before .before .before .args .store .now) (c .before .before .before .loop .i) (c .before .before .before .before .before .args .to)
+  or-sixteen (at-loop-before-eight-words2 c .loop .any) (c .before .eight-words .result) (c .eight-words2 .result) (entry-before-eight-words2 c .args .store .now) (at-loop-before-eight-words2 c .loop .i) (entry-before-eight-words2 c .args .to)
       (c .before .before .loop-test .taken) (c .before .eight-words .ensures) (c .eight-words2 .ensures)
-      ∙ c .before .before .before .loop .inv .2,
+      ∙ at-loop-before-eight-words2 c .loop .inv .2,
 )
 
 rest-blank-requires : tie.Need-rest-blank-requires Inv-loop μ-loop

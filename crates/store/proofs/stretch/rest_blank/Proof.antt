@@ -22,6 +22,10 @@ Inv-loop store from to before any₀ i₀ any i =
 abbrev μ-loop : tie.MeasureT-loop
 μ-loop store from to before any₀ i₀ any i = to - i
 
+-- the places: what stands before each, by name
+abbrev entry-before-shared-slice-known : tie.After-shared-slice-known Inv-loop μ-loop → tie.Start Inv-loop μ-loop
+entry-before-shared-slice-known c = c .before .before .before
+
 loop-holds : tie.Need-loop-holds Inv-loop μ-loop
 loop-holds c = (search needs, search needs, refl)
 
@@ -39,9 +43,9 @@ loop-less c = search needs
 
 loop-again : tie.Need-loop-again Inv-loop μ-loop
 loop-again c =
-    let ws = c .before .before .before .args .store .now in
+    let ws = entry-before-shared-slice-known c .args .store .now in
     let i = c .before .before .loop .i in
-    let to = c .before .before .before .args .to in
+    let to = entry-before-shared-slice-known c .args .to in
     let h : i < to = omega arith in
     let l : i < length ws = omega arith in (
       search needs,

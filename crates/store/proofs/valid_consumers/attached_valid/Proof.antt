@@ -11,6 +11,16 @@ use Rattle.store.proofs.valid_consumers.attached_valid.Reads as reads
 use Rattle.store.proofs.valid_consumers.attached_valid.Lts as lts
 use Rattle.store.proofs.find.in_ring.Reads as in-ring-reads
 
+-- the places: what stands before each, by name
+abbrev entry-before-then1 : tie.Then1 → tie.Start
+entry-before-then1 c = c .before .before .before
+
+abbrev else1-before-in-ring : tie.After-in-ring → tie.Else1
+else1-before-in-ring c = c .before .before .before .before
+
+abbrev entry-before-in-ring : tie.After-in-ring → tie.Start
+entry-before-in-ring c = else1-before-in-ring c .before .before .before
+
 mul-at : tie.Need-mul-at
 mul-at c = search needs
 
@@ -28,9 +38,9 @@ shared-slice-read-if1 c = search needs
 
 returns : tie.Need-returns
 returns c =
-    let s = decode (c .before .before .before .args .store .now) in
-    let r = read-consumer-kind (c .before .before .before .pre .0) (c .before .before .before .args .i) (c .before .before .before .pre .1) in
-    plain-passes s (consumer-nth s (c .before .before .before .args .i)) (sym r ∙ c .if1 .taken)
+    let s = decode (entry-before-then1 c .args .store .now) in
+    let r = read-consumer-kind (entry-before-then1 c .pre .0) (entry-before-then1 c .args .i) (entry-before-then1 c .pre .1) in
+    plain-passes s (consumer-nth s (entry-before-then1 c .args .i)) (sym r ∙ c .if1 .taken)
 
 add-in-ring : tie.Need-add-in-ring
 add-in-ring c = search needs
@@ -61,11 +71,11 @@ in-ring-requires c κs = search needs
 
 returns-2 : tie.Need-returns-2
 returns-2 c =
-    let s = decode (c .before .before .before .before .before .before .before .args .store .now) in
-    let h = c .before .before .before .before .before .before .before .pre .0 in
-    let i = c .before .before .before .before .before .before .before .args .i in
-    let k = c .before .before .before .before .before .before .before .pre .1 in
-    ring-decides s (consumer-nth s i) (λ q. c .before .before .before .before .if1 .left (read-consumer-kind h i k ∙ q))
+    let s = decode (entry-before-in-ring c .args .store .now) in
+    let h = entry-before-in-ring c .pre .0 in
+    let i = entry-before-in-ring c .args .i in
+    let k = entry-before-in-ring c .pre .1 in
+    ring-decides s (consumer-nth s i) (λ q. else1-before-in-ring c .if1 .left (read-consumer-kind h i k ∙ q))
     (read-consumer-id h i k) (read-consumer-topic h i k) (read-consumer-subscription h i k) (c .in-ring .ensures)
 
 pub attached-valid-spec : {M : Type 1} → statement M

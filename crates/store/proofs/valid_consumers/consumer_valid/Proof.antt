@@ -19,6 +19,22 @@ use Rattle.store.proofs.valid_consumers.attached_valid.Reads as attache
 use Rattle.store.proofs.valid_consumers.numbers_valid.Reads as numbers-valid-reads
 use Rattle.store.proofs.valid_consumers.places_valid.Reads as places-valid-reads
 
+-- the places: what stands before each, by name
+abbrev numbers-valid-before-then2 : tie.Then2 → tie.After-numbers-valid
+numbers-valid-before-then2 c = c .before .before .before
+
+abbrev shared-slice-known-before-then2 : tie.Then2 → tie.After-shared-slice-known
+shared-slice-known-before-then2 c = numbers-valid-before-then2 c .before
+
+abbrev else1-before-attached-valid : tie.After-attached-valid → tie.Else1
+else1-before-attached-valid c = c .before .before .before
+
+abbrev numbers-valid-before-attached-valid : tie.After-attached-valid → tie.After-numbers-valid
+numbers-valid-before-attached-valid c = else1-before-attached-valid c .before
+
+abbrev shared-slice-known-before-attached-valid : tie.After-attached-valid → tie.After-shared-slice-known
+shared-slice-known-before-attached-valid c = numbers-valid-before-attached-valid c .before
+
 -- the three parts make up the rule
 parts : (c : tie.After-shared-slice-known)
     → (numbers-valid (consumer-nth (decode (c .before .args .store .now)) (c .before .args .i))
@@ -42,17 +58,17 @@ places-valid-requires c κs = search needs
 
 returns-2 : tie.Need-returns-2
 returns-2 c =
-    passes (answered-yes (c .before .before .before .numbers-valid .ensures) (c .before .before .if1 .left)) (fails _ (answered-no (c .before .places-valid .ensures) (c .if2 .taken)))
-    ∙ parts (c .before .before .before .before)
+    passes (answered-yes (numbers-valid-before-then2 c .numbers-valid .ensures) (c .before .before .if1 .left)) (fails _ (answered-no (c .before .places-valid .ensures) (c .if2 .taken)))
+    ∙ parts (shared-slice-known-before-then2 c)
 
 attached-valid-requires : tie.Need-attached-valid-requires
 attached-valid-requires c κs = search needs
 
 returns-3 : tie.Need-returns-3
 returns-3 c =
-    passes (answered-yes (c .before .before .before .before .numbers-valid .ensures) (c .before .before .before .if1 .left))
+    passes (answered-yes (numbers-valid-before-attached-valid c .numbers-valid .ensures) (else1-before-attached-valid c .if1 .left))
     (passes (answered-yes (c .before .before .places-valid .ensures) (c .before .if2 .left)) (c .attached-valid .ensures))
-    ∙ parts (c .before .before .before .before .before)
+    ∙ parts (shared-slice-known-before-attached-valid c)
 
 pub consumer-valid-spec : {M : Type 1} → statement M
 consumer-valid-spec =

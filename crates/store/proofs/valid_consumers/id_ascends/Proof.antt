@@ -15,6 +15,10 @@ use Rattle.store.proofs.valid_consumers.id_ascends.Tie as tie
 use Rattle.store.proofs.valid_consumers.id_ascends.Reads as reads
 use Rattle.store.proofs.valid_consumers.id_ascends.Lts as lts
 
+-- the places: what stands before each, by name
+abbrev entry-before-shared-slice-known2 : tie.After-shared-slice-known2 → tie.Start
+entry-before-shared-slice-known2 c = c .before .before .before
+
 returns : tie.Need-returns
 unfolding all
 returns c =
@@ -50,12 +54,12 @@ shared-slice-read-result-2 c = search needs
 
 returns-2 : tie.Need-returns-2
 returns-2 c =
-    let s = decode (c .before .before .before .args .store .now) in
-    let i = c .before .before .before .args .i in
+    let s = decode (entry-before-shared-slice-known2 c .args .store .now) in
+    let i = entry-before-shared-slice-known2 c .args .i in
     let p : 0 < i = omega (arith, c .before .before .if1 .left) in
     let h : i - 1 < length (s .consumers) = omega arith in
-    ap₂ {A = ℕ} {B = ℕ} ltb (read-consumer-id (c .before .before .before .pre .0) (i - 1) h) (read-consumer-id (c .before .before .before .pre .0) i (c .before .before .before .pre .1))
-    ∙ one-before (s .consumers) i p (c .before .before .before .pre .1) (c .before .before .before .pre .2)
+    ap₂ {A = ℕ} {B = ℕ} ltb (read-consumer-id (entry-before-shared-slice-known2 c .pre .0) (i - 1) h) (read-consumer-id (entry-before-shared-slice-known2 c .pre .0) i (entry-before-shared-slice-known2 c .pre .1))
+    ∙ one-before (s .consumers) i p (entry-before-shared-slice-known2 c .pre .1) (entry-before-shared-slice-known2 c .pre .2)
 
 pub id-ascends-spec : {M : Type 1} → statement M
 id-ascends-spec =

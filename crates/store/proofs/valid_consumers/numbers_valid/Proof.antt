@@ -18,6 +18,25 @@ use Rattle.store.proofs.valid_consumers.numbers_valid.Tie as tie
 use Rattle.store.proofs.valid_consumers.numbers_valid.Reads as reads
 use Rattle.store.proofs.valid_consumers.numbers_valid.Lts as lts
 
+-- the places: what stands before each, by name
+abbrev entry-before-then2 : tie.Then2 → tie.Start
+entry-before-then2 c = c .before .before .before .before
+
+abbrev else1-before-then3 : tie.Then3 → tie.Else1
+else1-before-then3 c = c .before .before .before .before
+
+abbrev entry-before-then3 : tie.Then3 → tie.Start
+entry-before-then3 c = else1-before-then3 c .before .before
+
+abbrev else2-before-shared-slice-known4 : tie.After-shared-slice-known4 → tie.Else2
+else2-before-shared-slice-known4 c = c .before .before .before
+
+abbrev else1-before-shared-slice-known4 : tie.After-shared-slice-known4 → tie.Else1
+else1-before-shared-slice-known4 c = else2-before-shared-slice-known4 c .before .before
+
+abbrev entry-before-shared-slice-known4 : tie.After-shared-slice-known4 → tie.Start
+entry-before-shared-slice-known4 c = else1-before-shared-slice-known4 c .before .before
+
 -- the topic that is read
 topic : (c : tie.Start)
     → getD (c .args .store .now) (consumer-at (c .args .i) + 1) 0 ≡ consumer-nth (decode (c .args .store .now)) (c .args .i) .pair .topic
@@ -59,7 +78,7 @@ shared-slice-read-if2 c = search needs
 returns-2 : tie.Need-returns-2
 unfolding numbers-valid
 returns-2 c =
-    passes (byte-within (topic (c .before .before .before .before)) (c .before .before .if1 .left)) (fails _ (byte-over (subscription (c .before .before .before .before)) (c .if2 .taken)))
+    passes (byte-within (topic (entry-before-then2 c)) (c .before .before .if1 .left)) (fails _ (byte-over (subscription (entry-before-then2 c)) (c .if2 .taken)))
 
 add-if3 : tie.Need-add-if3
 add-if3 c = search needs
@@ -73,9 +92,9 @@ shared-slice-read-if3 c = search needs
 returns-3 : tie.Need-returns-3
 unfolding numbers-valid
 returns-3 c =
-    let r = read-consumer-permits (c .before .before .before .before .before .before .pre .0) (c .before .before .before .before .before .before .args .i) (c .before .before .before .before .before .before .pre .1) in
-    passes (byte-within (topic (c .before .before .before .before .before .before)) (c .before .before .before .before .if1 .left))
-    (passes (byte-within (subscription (c .before .before .before .before .before .before)) (c .before .before .if2 .left))
+    let r = read-consumer-permits (entry-before-then3 c .pre .0) (entry-before-then3 c .args .i) (entry-before-then3 c .pre .1) in
+    passes (byte-within (topic (entry-before-then3 c)) (else1-before-then3 c .if1 .left))
+    (passes (byte-within (subscription (entry-before-then3 c)) (c .before .before .if2 .left))
     (fails _ (lt-leb least-permits _ (rw r at (c .if3 .taken)))))
 
 add-result : tie.Need-add-result
@@ -90,9 +109,9 @@ shared-slice-read-result c = search needs
 returns-4 : tie.Need-returns-4
 unfolding numbers-valid
 returns-4 c =
-    let r = read-consumer-permits (c .before .before .before .before .before .before .before .pre .0) (c .before .before .before .before .before .before .before .args .i) (c .before .before .before .before .before .before .before .pre .1) in
-    passes (byte-within (topic (c .before .before .before .before .before .before .before)) (c .before .before .before .before .before .if1 .left))
-    (passes (byte-within (subscription (c .before .before .before .before .before .before .before)) (c .before .before .before .if2 .left))
+    let r = read-consumer-permits (entry-before-shared-slice-known4 c .pre .0) (entry-before-shared-slice-known4 c .args .i) (entry-before-shared-slice-known4 c .pre .1) in
+    passes (byte-within (topic (entry-before-shared-slice-known4 c)) (else1-before-shared-slice-known4 c .if1 .left))
+    (passes (byte-within (subscription (entry-before-shared-slice-known4 c)) (else2-before-shared-slice-known4 c .if2 .left))
     (passes (le-leb least-permits _ (rw r at (c .before .if3 .left))) (ap (λ (p : ℕ). leb p most-permits) r)))
 
 pub numbers-valid-spec : {M : Type 1} → statement M

@@ -18,17 +18,33 @@ use Rattle.store.proofs.find.ledger_length.Reads as ledger-length-reads
 use Rattle.store.proofs.stretch.word.Reads as word-reads
 use Rattle.store.proofs.valid_consumers.nacked_valid.Reads as nacked-valid-reads
 
+-- the places: what stands before each, by name
+abbrev entry-before-ledger-length : tie.After-ledger-length → tie.Start
+entry-before-ledger-length c = c .before .before .before
+
+abbrev entry-before-word : tie.After-word → tie.Start
+entry-before-word c = entry-before-ledger-length (c .before)
+
+abbrev entry-before-then1 : tie.Then1 → tie.Start
+entry-before-then1 c = entry-before-word (c .before)
+
+abbrev ledger-length-before-nacked-valid : tie.After-nacked-valid → tie.After-ledger-length
+ledger-length-before-nacked-valid c = c .before .before .before
+
+abbrev entry-before-nacked-valid : tie.After-nacked-valid → tie.Start
+entry-before-nacked-valid c = entry-before-ledger-length (ledger-length-before-nacked-valid c)
+
 -- the length is that of the consumer's ledger
 ledger : (c : tie.After-ledger-length)
-    → c .ledger-length .result ≡ length (ledger-of (decode (c .before .before .before .args .store .now)) (consumer-nth (decode (c .before .before .before .args .store .now)) (c .before .before .before .args .i) .pair .topic))
+    → c .ledger-length .result ≡ length (ledger-of (decode (entry-before-ledger-length c .args .store .now)) (consumer-nth (decode (entry-before-ledger-length c .args .store .now)) (entry-before-ledger-length c .args .i) .pair .topic))
 ledger c =
-    let a = c .before .before .before .args in
+    let a = entry-before-ledger-length c .args in
     c .ledger-length .ensures
-    ∙ ap (λ (k : ℕ). length (ledger-of (decode (a .store .now)) k)) (read-consumer-topic (c .before .before .before .pre .0) (a .i) (c .before .before .before .pre .1))
+    ∙ ap (λ (k : ℕ). length (ledger-of (decode (a .store .now)) k)) (read-consumer-topic (entry-before-ledger-length c .pre .0) (a .i) (entry-before-ledger-length c .pre .1))
 
 -- the cursor that is read
-cursor : (c : tie.After-word) → c .word .result ≡ consumer-nth (decode (c .before .before .before .before .args .store .now)) (c .before .before .before .before .args .i) .cursor
-cursor c = c .word .ensures ∙ read-consumer-cursor (c .before .before .before .before .pre .0) (c .before .before .before .before .args .i) (c .before .before .before .before .pre .1)
+cursor : (c : tie.After-word) → c .word .result ≡ consumer-nth (decode (entry-before-word c .args .store .now)) (entry-before-word c .args .i) .cursor
+cursor c = c .word .ensures ∙ read-consumer-cursor (entry-before-word c .pre .0) (entry-before-word c .args .i) (entry-before-word c .pre .1)
 
 mul-at : tie.Need-mul-at
 mul-at c = search needs
@@ -57,7 +73,7 @@ word-requires c κs = search needs
 returns : tie.Need-returns
 unfolding places-valid
 returns c =
-    let a = c .before .before .before .before .before .args in
+    let a = entry-before-then1 c .args in
     let n = ledger (c .before .before) in
     let r = cursor (c .before) in
     fails _ (lt-leb (consumer-nth (decode (a .store .now)) (a .i) .cursor) _ (rw (n, r) at (c .if1 .taken)))
@@ -68,10 +84,10 @@ nacked-valid-requires c κs = search needs
 returns-2 : tie.Need-returns-2
 unfolding places-valid
 returns-2 c =
-    let a = c .before .before .before .before .before .before .args in
-    let n = ledger (c .before .before .before) in
+    let a = entry-before-nacked-valid c .args in
+    let n = ledger (ledger-length-before-nacked-valid c) in
     let r = cursor (c .before .before) in
-    passes (le-leb (consumer-nth (decode (a .store .now)) (a .i) .cursor) _ (rw (n, r) at (c .before .if1 .left)))
+    passes (le-leb (consumer-nth (decode (a .store .now)) (a .i) .cursor) _ (rw (n, r, entry-before-ledger-length, ledger-length-before-nacked-valid) at (c .before .if1 .left)))
     (c .nacked-valid .ensures ∙ ap (λ (k : ℕ). nacked-valid k (consumer-nth (decode (a .store .now)) (a .i))) n)
 
 pub places-valid-spec : {M : Type 1} → statement M

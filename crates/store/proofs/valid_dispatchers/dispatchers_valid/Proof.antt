@@ -11,18 +11,43 @@ use Rattle.store.proofs.Pairs.{zeros-under, table-room, pairs-reads}
 use Rattle.store.proofs.valid_dispatchers.dispatchers_valid.Statement.{statement}
 use Rattle.store.proofs.valid_dispatchers.dispatchers_valid.Tie as tie
 
+-- the places: what stands before each, by name
+abbrev entry-before-word : tie.After-word → tie.Start
+entry-before-word c = c .before .before .before
+
+abbrev entry-before-twos-distinct : tie.After-twos-distinct → tie.Start
+entry-before-twos-distinct c = entry-before-word (c .before)
+
+abbrev entry-before-then1 : tie.Then1 → tie.Start
+entry-before-then1 c = entry-before-twos-distinct (c .before)
+
+abbrev word-before-stamps : tie.After-stamps → tie.After-word
+word-before-stamps c = c .before .before .before
+
+abbrev entry-before-stamps : tie.After-stamps → tie.Start
+entry-before-stamps c = entry-before-word (word-before-stamps c)
+
+abbrev else1-before-stamps2 : tie.After-stamps2 → tie.Else1
+else1-before-stamps2 c = c .before .before .before
+
+abbrev twos-distinct-before-stamps2 : tie.After-stamps2 → tie.After-twos-distinct
+twos-distinct-before-stamps2 c = else1-before-stamps2 c .before
+
+abbrev entry-before-stamps2 : tie.After-stamps2 → tie.Start
+entry-before-stamps2 c = entry-before-twos-distinct (twos-distinct-before-stamps2 c)
+
 -- there are as many dispatchers as the count says
-counted : (c : tie.After-word) → c .word .result ≡ length (decode (c .before .before .before .args .store .now) .dispatchers)
-counted c = c .word .ensures ∙ read-dispatcher-count (c .before .before .before .pre .0)
+counted : (c : tie.After-word) → c .word .result ≡ length (decode (entry-before-word c .args .store .now) .dispatchers)
+counted c = c .word .ensures ∙ read-dispatcher-count (entry-before-word c .pre .0)
 
 -- what was asked of their pairs
 asked : (c : tie.After-twos-distinct) → c .twos-distinct .result
-    ≡ twos-distinct (c .before .before .before .before .args .store .now) (2355 + 32 * c .before .before .before .before .args .e) (176 + 9 * c .before .before .before .before .args .e)
-    (length (decode (c .before .before .before .before .args .store .now) .dispatchers))
+    ≡ twos-distinct (entry-before-twos-distinct c .args .store .now) (2355 + 32 * entry-before-twos-distinct c .args .e) (176 + 9 * entry-before-twos-distinct c .args .e)
+    (length (decode (entry-before-twos-distinct c .args .store .now) .dispatchers))
 asked c =
     c .twos-distinct .ensures
-    ∙ ap (λ (n : ℕ). twos-distinct (c .before .before .before .before .args .store .now) (2355 + 32 * c .before .before .before .before .args .e)
-    (176 + 9 * c .before .before .before .before .args .e) n) (counted (c .before))
+    ∙ ap (λ (n : ℕ). twos-distinct (entry-before-twos-distinct c .args .store .now) (2355 + 32 * entry-before-twos-distinct c .args .e)
+    (176 + 9 * entry-before-twos-distinct c .args .e) n) (counted (c .before))
 
 mul-word : tie.Need-mul-word
 mul-word c = search needs
@@ -48,24 +73,24 @@ add-twos-distinct-2 c = search needs
 twos-distinct-requires : tie.Need-twos-distinct-requires
 twos-distinct-requires c κs =
     let n = counted c in
-    let r = table-room (c .before .before .before .pre .0) in
-    let l : 2355 + 32 * c .before .before .before .args .e + c .word .result * (176 + 9 * c .before .before .before .args .e) ≤ length (c .before .before .before .args .store .now) = rw n r in
+    let r = table-room (entry-before-word c .pre .0) in
+    let l : 2355 + 32 * entry-before-word c .args .e + c .word .result * (176 + 9 * entry-before-word c .args .e) ≤ length (entry-before-word c .args .store .now) = rw (n, entry-before-word) r in
     (search needs, l)
 
 returns : tie.Need-returns
 returns c =
-    fails _ (sym (pairs-reads (c .before .before .before .before .before .pre .0)) ∙ answered-no (asked (c .before)) (c .if1 .taken))
+    fails _ (sym (pairs-reads (entry-before-then1 c .pre .0)) ∙ answered-no (asked (c .before)) (c .if1 .taken))
 
 slice-aggregate-each-valid : tie.Need-slice-aggregate-each-valid
 slice-aggregate-each-valid c = search needs
 
 each-valid-requires : tie.Need-each-valid-requires
-each-valid-requires c κs = (c .before .before .before .before .before .before .pre .0, (counted (c .before .before .before), (c .before .before .before .before .before .before .pre .1, (refl, zeros-under 4096))))
+each-valid-requires c κs = (entry-before-stamps c .pre .0, (counted (word-before-stamps c), (entry-before-stamps c .pre .1, (refl, zeros-under 4096))))
 
 returns-2 : tie.Need-returns-2
 returns-2 c =
-    passes (sym (pairs-reads (c .before .before .before .before .before .before .before .before .pre .0)) ∙ answered-yes (asked (c .before .before .before .before))
-    (c .before .before .before .if1 .left)) (c .before .each-valid .ensures)
+    passes (sym (pairs-reads (entry-before-stamps2 c .pre .0)) ∙ answered-yes (asked (twos-distinct-before-stamps2 c))
+    (else1-before-stamps2 c .if1 .left)) (c .before .each-valid .ensures)
 
 pub dispatchers-valid-spec : {M : Type 1} → statement M
 dispatchers-valid-spec =

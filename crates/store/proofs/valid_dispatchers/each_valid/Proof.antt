@@ -24,27 +24,58 @@ Inv-loop store e n orders stamps₀ d₀ stamps d =
 abbrev μ-loop : tie.MeasureT-loop
 μ-loop store e n orders stamps₀ d₀ stamps d = n - d
 
+-- the places: what stands before each, by name
+abbrev entry-before-slice-known : tie.After-slice-known Inv-loop μ-loop → tie.Start Inv-loop μ-loop
+entry-before-slice-known c = c .before .before .before
+
+abbrev entry-before-after-loop : tie.After-loop Inv-loop μ-loop → tie.Start Inv-loop μ-loop
+entry-before-after-loop c = entry-before-slice-known (c .before .before)
+
+abbrev entry-before-dispatcher-valid-arg : tie.After-dispatcher-valid-arg Inv-loop μ-loop → tie.Start Inv-loop μ-loop
+entry-before-dispatcher-valid-arg c = entry-before-slice-known (c .before .before .before)
+
+abbrev dispatcher-valid-before-then1 : tie.Then1 Inv-loop μ-loop → tie.After-dispatcher-valid Inv-loop μ-loop
+dispatcher-valid-before-then1 c = c .before .before .before
+
+abbrev in-loop-before-then1 : tie.Then1 Inv-loop μ-loop → tie.In-loop Inv-loop μ-loop
+in-loop-before-then1 c = dispatcher-valid-before-then1 c .before .before
+
+abbrev at-loop-before-then1 : tie.Then1 Inv-loop μ-loop → tie.At-loop Inv-loop μ-loop
+at-loop-before-then1 c = in-loop-before-then1 c .before
+
+abbrev entry-before-then1 : tie.Then1 Inv-loop μ-loop → tie.Start Inv-loop μ-loop
+entry-before-then1 c = entry-before-dispatcher-valid-arg (dispatcher-valid-before-then1 c .before)
+
+abbrev dispatcher-valid-before-else1 : tie.Else1 Inv-loop μ-loop → tie.After-dispatcher-valid Inv-loop μ-loop
+dispatcher-valid-before-else1 c = c .before .before .before
+
+abbrev at-loop-before-else1 : tie.Else1 Inv-loop μ-loop → tie.At-loop Inv-loop μ-loop
+at-loop-before-else1 c = dispatcher-valid-before-else1 c .before .before .before
+
+abbrev entry-before-else1 : tie.Else1 Inv-loop μ-loop → tie.Start Inv-loop μ-loop
+entry-before-else1 c = entry-before-dispatcher-valid-arg (dispatcher-valid-before-else1 c .before)
+
 loop-holds : tie.Need-loop-holds Inv-loop μ-loop
 unfolding each-below
-loop-holds c = (search needs, c .before .before .before .pre .1 .1 .1 .0, c .before .before .before .pre .1 .1 .1 .1, refl)
+loop-holds c = (search needs, entry-before-slice-known c .pre .1 .1 .1 .0, entry-before-slice-known c .pre .1 .1 .1 .1, refl)
 
 dispatcher-valid-requires : tie.Need-dispatcher-valid-requires Inv-loop μ-loop
 dispatcher-valid-requires c κs =
-    let n = c .before .before .before .before .before .before .pre .1 .0 in
+    let n = entry-before-dispatcher-valid-arg c .pre .1 .0 in
     let t = c .before .loop-test .taken in
-    (c .before .before .before .before .before .before .pre .0, (omega arith, (c .before .before .before .before .before .before .pre .1 .1 .0, (c .before .before .loop .inv .1, c .before .before .loop .inv .2))))
+    (entry-before-dispatcher-valid-arg c .pre .0, (omega arith, (entry-before-dispatcher-valid-arg c .pre .1 .1 .0, (c .before .before .loop .inv .1, c .before .before .loop .inv .2))))
 
 same-length : tie.Need-same-length Inv-loop μ-loop
 same-length c = search needs
 
 returns : tie.Need-returns Inv-loop μ-loop
 returns c =
-    let s = decode (c .before .before .before .before .before .before .before .before .before .before .args .store .now) in
-    let n = c .before .before .before .before .before .before .before .before .before .before .pre .1 .0 in
-    let l = c .before .before .before .before .before .loop-test .taken in
-    let t : c .before .before .before .before .before .before .loop .d < length (s .dispatchers) = omega arith in
-    each-stop (λ j. valid-dispatcher s (dispatcher-nth s j)) (length (s .dispatchers)) (c .before .before .before .before .before .before .loop .d) t
-    (answered-no (c .before .before .before .dispatcher-valid .ensures .answer) (c .if1 .taken))
+    let s = decode (entry-before-then1 c .args .store .now) in
+    let n = entry-before-then1 c .pre .1 .0 in
+    let l = in-loop-before-then1 c .loop-test .taken in
+    let t : at-loop-before-then1 c .loop .d < length (s .dispatchers) = omega arith in
+    each-stop (λ j. valid-dispatcher s (dispatcher-nth s j)) (length (s .dispatchers)) (at-loop-before-then1 c .loop .d) t
+    (answered-no (dispatcher-valid-before-then1 c .dispatcher-valid .ensures .answer) (c .if1 .taken))
     ∙ sym (all-each (valid-dispatcher s) (s .dispatchers) zero-dispatcher)
 
 add-d : tie.Need-add-d Inv-loop μ-loop
@@ -55,12 +86,12 @@ loop-less c = search needs
 
 loop-again : tie.Need-loop-again Inv-loop μ-loop
 loop-again c =
-    let s = decode (c .before .before .before .before .before .before .before .before .before .before .args .store .now) in (
+    let s = decode (entry-before-else1 c .args .store .now) in (
       search needs,
       search needs,
-      c .before .before .before .dispatcher-valid .ensures .others,
-      each-turn (λ j. valid-dispatcher s (dispatcher-nth s j)) (c .before .before .before .before .before .before .loop .d)
-          (c .before .before .before .before .before .before .loop .inv .3) (answered-yes (c .before .before .before .dispatcher-valid .ensures .answer) (c .if1 .left)),
+      dispatcher-valid-before-else1 c .dispatcher-valid .ensures .others,
+      each-turn (λ j. valid-dispatcher s (dispatcher-nth s j)) (at-loop-before-else1 c .loop .d)
+          (at-loop-before-else1 c .loop .inv .3) (answered-yes (dispatcher-valid-before-else1 c .dispatcher-valid .ensures .answer) (c .if1 .left)),
     )
 
 same-length-2 : tie.Need-same-length-2 Inv-loop μ-loop
@@ -68,8 +99,8 @@ same-length-2 c = search needs
 
 returns-2 : tie.Need-returns-2 Inv-loop μ-loop
 returns-2 c =
-    let s = decode (c .before .before .before .before .before .args .store .now) in
-    let n = c .before .before .before .before .before .pre .1 .0 in
+    let s = decode (entry-before-after-loop c .args .store .now) in
+    let n = entry-before-after-loop c .pre .1 .0 in
     let l : length (s .dispatchers) ≤ c .before .loop .d = let t = c .loop-test .left in omega arith in
     let m : c .before .loop .d ≤ length (s .dispatchers) = let t = c .before .loop .inv .0 in omega arith in
     each-end (λ j. valid-dispatcher s (dispatcher-nth s j)) (length (s .dispatchers)) (c .before .loop .d) m l (c .before .loop .inv .3)

@@ -9,6 +9,37 @@ use Rattle.store.proofs.Stamps.{under-more}
 use Rattle.store.proofs.valid_dispatchers.front_valid.Statement.{statement}
 use Rattle.store.proofs.valid_dispatchers.front_valid.Tie as tie
 
+-- the places: what stands before each, by name
+abbrev entry-before-then1 : tie.Then1 → tie.Start
+entry-before-then1 c = c .before .before .before .before
+
+abbrev head-valid-before-then2 : tie.Then2 → tie.After-head-valid
+head-valid-before-then2 c = c .before .before .before
+
+abbrev entry-before-then2 : tie.Then2 → tie.Start
+entry-before-then2 c = head-valid-before-then2 c .before .before .before
+
+abbrev else1-before-places-valid-arg : tie.After-places-valid-arg → tie.Else1
+else1-before-places-valid-arg c = c .before .before .before
+
+abbrev head-valid-before-places-valid-arg : tie.After-places-valid-arg → tie.After-head-valid
+head-valid-before-places-valid-arg c = else1-before-places-valid-arg c .before
+
+abbrev entry-before-places-valid-arg : tie.After-places-valid-arg → tie.Start
+entry-before-places-valid-arg c = head-valid-before-places-valid-arg c .before .before .before
+
+abbrev else2-before-slice-known2 : tie.After-slice-known2 → tie.Else2
+else2-before-slice-known2 c = c .before .before .before .before
+
+abbrev ring-valid-before-slice-known2 : tie.After-slice-known2 → tie.After-ring-valid
+ring-valid-before-slice-known2 c = else2-before-slice-known2 c .before
+
+abbrev else1-before-slice-known2 : tie.After-slice-known2 → tie.Else1
+else1-before-slice-known2 c = ring-valid-before-slice-known2 c .before
+
+abbrev head-valid-before-slice-known2 : tie.After-slice-known2 → tie.After-head-valid
+head-valid-before-slice-known2 c = else1-before-slice-known2 c .before
+
 head-valid-requires : tie.Need-head-valid-requires
 head-valid-requires c κs = search needs
 
@@ -17,8 +48,8 @@ unfolding front-right
 returns c =
     record {
       answer = fails _ (answered-no (c .before .head-valid .ensures) (c .if1 .taken));
-      others = under-more (c .before .before .before .before .args .stamps .now) (c .before .before .before .before .args .stamp)
-          (c .before .before .before .before .pre .1 .1);
+      others = under-more (entry-before-then1 c .args .stamps .now) (entry-before-then1 c .args .stamp)
+          (entry-before-then1 c .pre .1 .1);
     }
 
 ring-valid-requires : tie.Need-ring-valid-requires
@@ -28,18 +59,18 @@ returns-2 : tie.Need-returns-2
 unfolding front-right
 returns-2 c =
     record {
-      answer = passes (answered-yes (c .before .before .before .head-valid .ensures) (c .before .before .if1 .left))
+      answer = passes (answered-yes (head-valid-before-then2 c .head-valid .ensures) (c .before .before .if1 .left))
           (fails _ (answered-no (c .before .ring-valid .ensures) (c .if2 .taken)));
-      others = under-more (c .before .before .before .before .before .before .args .stamps .now) (c .before .before .before .before .before .before .args .stamp)
-          (c .before .before .before .before .before .before .pre .1 .1);
+      others = under-more (entry-before-then2 c .args .stamps .now) (entry-before-then2 c .args .stamp)
+          (entry-before-then2 c .pre .1 .1);
     }
 
 places-valid-requires : tie.Need-places-valid-requires
 places-valid-requires c κs =
-    let a = c .before .before .before .before .before .before .before .args in
-    let l = head-cursor (a .store .now) (a .at) (a .entries) (answered-yes (c .before .before .before .before .head-valid .ensures)
-    (c .before .before .before .if1 .left)) in
-    (c .before .before .before .before .before .before .before .pre .0, (omega arith, c .before .before .before .before .before .before .before .pre .1 .1))
+    let a = entry-before-places-valid-arg c .args in
+    let l = head-cursor (a .store .now) (a .at) (a .entries) (answered-yes (head-valid-before-places-valid-arg c .head-valid .ensures)
+    (else1-before-places-valid-arg c .if1 .left)) in
+    (entry-before-places-valid-arg c .pre .0, (omega arith, entry-before-places-valid-arg c .pre .1 .1))
 
 same-length : tie.Need-same-length
 same-length c = search needs
@@ -49,9 +80,9 @@ unfolding front-right
 returns-3 c =
     record {
       answer =
-          passes (answered-yes (c .before .before .before .before .before .before .before .head-valid .ensures)
-          (c .before .before .before .before .before .before .if1 .left))
-          (passes (answered-yes (c .before .before .before .before .before .ring-valid .ensures) (c .before .before .before .before .if2 .left))
+          passes (answered-yes (head-valid-before-slice-known2 c .head-valid .ensures)
+          (else1-before-slice-known2 c .if1 .left))
+          (passes (answered-yes (ring-valid-before-slice-known2 c .ring-valid .ensures) (else2-before-slice-known2 c .if2 .left))
           (c .before .before .places-valid .ensures .answer));
       others = c .before .before .places-valid .ensures .others;
     }

@@ -5,6 +5,13 @@ use Rattle.store.proofs.Spelt.{fails, passes, answered-no, answered-yes
 use Rattle.store.proofs.valid_dispatchers.rest_valid.Statement.{statement}
 use Rattle.store.proofs.valid_dispatchers.rest_valid.Tie as tie
 
+-- the places: what stands before each, by name
+abbrev entry-before-else1 : tie.Else1 → tie.Start
+entry-before-else1 c = c .before .before .before .before
+
+abbrev word-before-outside-valid : tie.After-outside-valid → tie.After-word
+word-before-outside-valid c = c .before .before .before
+
 add-marks-valid : tie.Need-add-marks-valid
 add-marks-valid c = search needs
 
@@ -34,12 +41,12 @@ unfolding rest-right
 returns c = rw (← c .before .before .word .ensures) (fails _ (answered-no (c .before .marks-valid .ensures) (c .if1 .taken)))
 
 outside-valid-requires : tie.Need-outside-valid-requires
-outside-valid-requires c κs = (search needs, c .before .before .before .before .pre .1 .1)
+outside-valid-requires c κs = (search needs, entry-before-else1 c .pre .1 .1)
 
 returns-2 : tie.Need-returns-2
 unfolding rest-right
 returns-2 c =
-    rw (← c .before .before .before .word .ensures) (passes (answered-yes (c .before .before .marks-valid .ensures) (c .before .if1 .left)) (c .outside-valid .ensures))
+    rw (← word-before-outside-valid c .word .ensures) (passes (answered-yes (c .before .before .marks-valid .ensures) (c .before .if1 .left)) (c .outside-valid .ensures))
 
 pub rest-valid-spec : {M : Type 1} → statement M
 rest-valid-spec =

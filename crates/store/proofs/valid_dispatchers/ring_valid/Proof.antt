@@ -6,6 +6,13 @@ use Rattle.store.proofs.Spelt.{fails, passes, answered-no, answered-yes
 use Rattle.store.proofs.valid_dispatchers.ring_valid.Statement.{statement}
 use Rattle.store.proofs.valid_dispatchers.ring_valid.Tie as tie
 
+-- the places: what stands before each, by name
+abbrev rows-distinct-before-next-valid : tie.After-next-valid → tie.After-rows-distinct
+rows-distinct-before-next-valid c = c .before .before .before
+
+abbrev word-before-next-valid : tie.After-next-valid → tie.After-word
+word-before-next-valid c = rows-distinct-before-next-valid c .before
+
 add-word : tie.Need-add-word
 add-word c = search needs
 
@@ -34,8 +41,8 @@ next-valid-requires c κs = search needs
 returns-2 : tie.Need-returns-2
 unfolding ring-right
 returns-2 c =
-    rw (← c .before .before .before .before .word .ensures, ← c .before .word2 .ensures)
-    (passes (answered-yes (c .before .before .before .rows-distinct .ensures) (c .before .before .if1 .left)) (c .next-valid .ensures))
+    rw (← word-before-next-valid c .word .ensures, ← c .before .word2 .ensures)
+    (passes (answered-yes (rows-distinct-before-next-valid c .rows-distinct .ensures) (c .before .before .if1 .left)) (c .next-valid .ensures))
 
 pub ring-valid-spec : {M : Type 1} → statement M
 ring-valid-spec =

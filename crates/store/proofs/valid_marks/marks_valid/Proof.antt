@@ -22,18 +22,49 @@ Inv-loop store ledger entries first n batch₀ count₀ bits₀ i₀ batch count
 abbrev μ-loop : tie.MeasureT-loop
 μ-loop store ledger entries first n batch₀ count₀ bits₀ i₀ batch count bits i = n - i
 
+-- the places: what stands before each, by name
+abbrev else1-before-mark-fits2 : tie.After-mark-fits2 Inv-loop μ-loop → tie.Else1 Inv-loop μ-loop
+else1-before-mark-fits2 c = c .before .before .before .before
+
+abbrev entry-before-mark-fits2 : tie.After-mark-fits2 Inv-loop μ-loop → tie.Start Inv-loop μ-loop
+entry-before-mark-fits2 c = else1-before-mark-fits2 c .before .before
+
+abbrev at-loop-before-joined2 : tie.Joined2 Inv-loop μ-loop → tie.At-loop Inv-loop μ-loop
+at-loop-before-joined2 c = c .before .before .before
+
+abbrev entry-before-joined2 : tie.Joined2 Inv-loop μ-loop → tie.Start Inv-loop μ-loop
+entry-before-joined2 c = at-loop-before-joined2 c .before .before .before .before
+
+abbrev at-loop-before-then3 : tie.Then3 Inv-loop μ-loop → tie.At-loop Inv-loop μ-loop
+at-loop-before-then3 c = c .before .before .before .before .before
+
+abbrev else1-before-then3 : tie.Then3 Inv-loop μ-loop → tie.Else1 Inv-loop μ-loop
+else1-before-then3 c = at-loop-before-then3 c .before .before
+
+abbrev entry-before-then3 : tie.Then3 Inv-loop μ-loop → tie.Start Inv-loop μ-loop
+entry-before-then3 c = else1-before-then3 c .before .before
+
+abbrev joined2-before-joined : tie.After-joined Inv-loop μ-loop → tie.Joined2 Inv-loop μ-loop
+joined2-before-joined c = c .before .before .before
+
+abbrev at-loop-before-joined : tie.After-joined Inv-loop μ-loop → tie.At-loop Inv-loop μ-loop
+at-loop-before-joined c = at-loop-before-joined2 (joined2-before-joined c)
+
+abbrev entry-before-joined : tie.After-joined Inv-loop μ-loop → tie.Start Inv-loop μ-loop
+entry-before-joined c = entry-before-joined2 (joined2-before-joined c)
+
 -- the run, after the batch size of the next entry was looked at: it is the entry's
 run : (c : tie.Joined2 Inv-loop μ-loop)
     → (mark-fits (c .if2 .count) (words (c .if2 .bits)) (c .if2 .batch)
-    ≡ each-below (mark-suits (c .before .before .before .before .before .before .before .args .store .now) (c .before .before .before .before .before .before .before .args .ledger) (c .before .before .before .before .before .before .before .args .first)) (c .before .before .before .loop .i))
-    × (c .if2 .batch ≡ getD (c .before .before .before .before .before .before .before .args .store .now) (c .before .before .before .before .before .before .before .args .ledger + c .before .before .before .loop .i * 4 + 3) 0)
+    ≡ each-below (mark-suits (entry-before-joined2 c .args .store .now) (entry-before-joined2 c .args .ledger) (entry-before-joined2 c .args .first)) (at-loop-before-joined2 c .loop .i))
+    × (c .if2 .batch ≡ getD (entry-before-joined2 c .args .store .now) (entry-before-joined2 c .args .ledger + at-loop-before-joined2 c .loop .i * 4 + 3) 0)
 run c =
     ⊎-elim
     (λ w. (
-      rw (w .5, w .6) (fits-none (w .3 .result) (c .if2 .batch) (w .3 .ensures) ∙ sym (sym (c .before .before .before .loop .inv .1) ∙ answered-yes (w .1 .ensures) (w .2 .left))),
+      rw (w .5, w .6, at-loop-before-joined2, entry-before-joined2) (fits-none (w .3 .result) (c .if2 .batch) (w .3 .ensures) ∙ sym (sym (at-loop-before-joined2 c .loop .inv .1) ∙ answered-yes (w .1 .ensures) (w .2 .left))),
       w .4,
     ))
-    (λ w. (rw (w .1, w .2, w .3) (c .before .before .before .loop .inv .1), w .1 ∙ sym (w .0 .left)))
+    (λ w. (rw (w .1, w .2, w .3, at-loop-before-joined2, entry-before-joined2) (at-loop-before-joined2 c .loop .inv .1), w .1 ∙ sym (w .0 .left)))
     (c .if2 .came)
 
 returns : tie.Need-returns Inv-loop μ-loop
@@ -68,10 +99,10 @@ mark-fits-requires c κs = search needs
 returns-2 : tie.Need-returns-2 Inv-loop μ-loop
 unfolding marks-right
 returns-2 c =
-    let a = c .before .before .before .before .before .before .before .before .before .args in
-    passes (eq-eqb (a .n) (a .entries) (c .before .before .before .before .before .before .before .if1 .left))
-    (run-stop (a .store .now) (a .ledger) (a .first) (a .n) (c .before .before .before .before .before .loop .i) (c .before .before .before .before .before .loop .inv .0)
-    (answered-no (c .before .mark-fits .ensures) (c .if3 .taken)) (c .before .before .before .before .before .loop .inv .1))
+    let a = entry-before-then3 c .args in
+    passes (eq-eqb (a .n) (a .entries) (else1-before-then3 c .if1 .left))
+    (run-stop (a .store .now) (a .ledger) (a .first) (a .n) (at-loop-before-then3 c .loop .i) (at-loop-before-then3 c .loop .inv .0)
+    (answered-no (c .before .mark-fits .ensures) (c .if3 .taken)) (at-loop-before-then3 c .loop .inv .1))
 
 fresh-unacked-bits-requires-2 : tie.Need-fresh-unacked-bits-requires-2 Inv-loop μ-loop
 fresh-unacked-bits-requires-2 c κs = search needs
@@ -102,10 +133,10 @@ loop-less c = search needs
 
 loop-again : tie.Need-loop-again Inv-loop μ-loop
 loop-again c =
-    let a = c .before .before .before .before .before .before .before .before .before .before .args in
-    let s = run (c .before .before .before) in (
+    let a = entry-before-joined c .args in
+    let s = run (joined2-before-joined c) in (
       search needs,
-      run-turn (a .store .now) (a .ledger) (a .first) (c .before .before .before .before .before .before .loop .i) (c .before .before .before .if2 .count) (c .before .before .before .if2 .batch) (c .before .before .before .if2 .bits) (c .joined .result)
+      run-turn (a .store .now) (a .ledger) (a .first) (at-loop-before-joined c .loop .i) (joined2-before-joined c .if2 .count) (joined2-before-joined c .if2 .batch) (joined2-before-joined c .if2 .bits) (c .joined .result)
           (s .0) (s .1) (c .joined .ensures),
     )
 
@@ -115,9 +146,9 @@ mark-fits-requires-2 c κs = search needs
 returns-3 : tie.Need-returns-3 Inv-loop μ-loop
 unfolding marks-right
 returns-3 c =
-    let a = c .before .before .before .before .before .before .args in
+    let a = entry-before-mark-fits2 c .args in
     let e : c .before .before .loop .i ≡ a .n = omega arith in
-    passes (eq-eqb (a .n) (a .entries) (c .before .before .before .before .if1 .left))
+    passes (eq-eqb (a .n) (a .entries) (else1-before-mark-fits2 c .if1 .left))
     (c .mark-fits2 .ensures ∙ (rw e at (c .before .before .loop .inv .1)))
 
 pub marks-valid-spec : {M : Type 1} → statement M

@@ -6,6 +6,13 @@ use Rattle.store.proofs.Spelt.{fails, passes, answered-no, answered-yes
 use Rattle.store.proofs.valid_marks.outside_valid.Statement.{statement}
 use Rattle.store.proofs.valid_marks.outside_valid.Tie as tie
 
+-- the places: what stands before each, by name
+abbrev entry-before-else1 : tie.Else1 → tie.Start
+entry-before-else1 c = c .before .before .before .before
+
+abbrev word-before-ids-absent : tie.After-ids-absent → tie.After-word
+word-before-ids-absent c = c .before .before .before
+
 add-word : tie.Need-add-word
 add-word c = search needs
 
@@ -28,12 +35,12 @@ add-ids-absent c = search needs
 ids-absent-requires : tie.Need-ids-absent-requires
 ids-absent-requires c κs =
     let e = c .before .before .word .ensures in
-    ((omega arith, search needs), (answered-yes (c .before .twos-ascend .ensures) (c .if1 .left), c .before .before .before .before .pre .1))
+    ((omega arith, search needs), (answered-yes (c .before .twos-ascend .ensures) (c .if1 .left), entry-before-else1 c .pre .1))
 
 returns-2 : tie.Need-returns-2
 unfolding outside-right
 returns-2 c =
-    rw (← c .before .before .before .word .ensures) (passes (answered-yes (c .before .before .twos-ascend .ensures) (c .before .if1 .left)) (c .ids-absent .ensures))
+    rw (← word-before-ids-absent c .word .ensures) (passes (answered-yes (c .before .before .twos-ascend .ensures) (c .before .if1 .left)) (c .ids-absent .ensures))
 
 pub outside-valid-spec : {M : Type 1} → statement M
 outside-valid-spec =

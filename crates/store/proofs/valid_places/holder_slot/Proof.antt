@@ -9,6 +9,13 @@ use Rattle.store.proofs.Among.{among-found, first-among}
 use Rattle.store.proofs.valid_places.holder_slot.Statement.{statement}
 use Rattle.store.proofs.valid_places.holder_slot.Tie as tie
 
+-- the places: what stands before each, by name
+abbrev entry-before-row-of : tie.After-row-of → tie.Start
+entry-before-row-of c = c .before .before .before
+
+abbrev entry-before-then2 : tie.Then2 → tie.Start
+entry-before-then2 c = c .before .before .before .before
+
 add-if2 : tie.Need-add-if2
 add-if2 c = search needs
 
@@ -20,7 +27,7 @@ shared-slice-read-if2 c = search needs
 
 returns : tie.Need-returns
 returns c =
-    let a = c .before .before .before .before .args in
+    let a = entry-before-then2 c .args in
     let e : a .ring + a .guess * 1 ≡ a .ring + a .guess = omega arith in
     lt-ltb (a .guess) (a .count) (c .before .before .if1 .taken)
     ∙ sym (among-found (a .store .now) (a .ring) 1 (a .count) (a .guess) (a .id) (c .before .before .if1 .taken) (rw e (c .if2 .taken)))
@@ -30,7 +37,7 @@ row-of-requires c κs = (search needs, omega arith)
 
 returns-2 : tie.Need-returns-2
 returns-2 c =
-    let a = c .before .before .before .args in
+    let a = entry-before-row-of c .args in
     ap (λ (k : ℕ). ltb k (a .count)) (c .row-of .ensures) ∙ first-among (a .store .now) (a .ring) 1 (a .count) (a .id)
 
 pub holder-slot-spec : {M : Type 1} → statement M

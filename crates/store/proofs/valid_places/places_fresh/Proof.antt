@@ -18,12 +18,46 @@ Inv-loop store first width n cursor stamps₀ stamp i₀ stamps i =
 abbrev μ-loop : tie.MeasureT-loop
 μ-loop store first width n cursor stamps₀ stamp i₀ stamps i = n - i
 
+-- the places: what stands before each, by name
+abbrev entry-before-in-loop : tie.In-loop Inv-loop μ-loop → tie.Start Inv-loop μ-loop
+entry-before-in-loop c = c .before .before .before .before
+
+abbrev entry-before-after-loop : tie.After-loop Inv-loop μ-loop → tie.Start Inv-loop μ-loop
+entry-before-after-loop c = c .before .before .before .before
+
+abbrev at-loop-before-then1 : tie.Then1 Inv-loop μ-loop → tie.At-loop Inv-loop μ-loop
+at-loop-before-then1 c = c .before .before .before
+
+abbrev entry-before-then1 : tie.Then1 Inv-loop μ-loop → tie.Start Inv-loop μ-loop
+entry-before-then1 c = entry-before-in-loop (c .before .before)
+
+abbrev word-before-then2 : tie.Then2 Inv-loop μ-loop → tie.After-word Inv-loop μ-loop
+word-before-then2 c = c .before .before .before
+
+abbrev in-loop-before-then2 : tie.Then2 Inv-loop μ-loop → tie.In-loop Inv-loop μ-loop
+in-loop-before-then2 c = word-before-then2 c .before
+
+abbrev at-loop-before-then2 : tie.Then2 Inv-loop μ-loop → tie.At-loop Inv-loop μ-loop
+at-loop-before-then2 c = in-loop-before-then2 c .before
+
+abbrev entry-before-then2 : tie.Then2 Inv-loop μ-loop → tie.Start Inv-loop μ-loop
+entry-before-then2 c = entry-before-in-loop (in-loop-before-then2 c)
+
+abbrev word-before-else2 : tie.Else2 Inv-loop μ-loop → tie.After-word Inv-loop μ-loop
+word-before-else2 c = c .before .before .before
+
+abbrev at-loop-before-else2 : tie.Else2 Inv-loop μ-loop → tie.At-loop Inv-loop μ-loop
+at-loop-before-else2 c = word-before-else2 c .before .before
+
+abbrev entry-before-else2 : tie.Else2 Inv-loop μ-loop → tie.Start Inv-loop μ-loop
+entry-before-else2 c = entry-before-in-loop (word-before-else2 c .before)
+
 -- the row of a turn lies in the store
 inside : (c : tie.In-loop Inv-loop μ-loop)
-    → c .before .before .before .before .args .first + (c .before .loop .i * c .before .before .before .before .args .width + c .before .before .before .before .args .width) ≤ length (c .before .before .before .before .args .store .now)
+    → entry-before-in-loop c .args .first + (c .before .loop .i * entry-before-in-loop c .args .width + entry-before-in-loop c .args .width) ≤ length (entry-before-in-loop c .args .store .now)
 inside c =
-    row-ends (c .before .before .before .before .args .first) (c .before .before .before .before .args .width) (c .before .before .before .before .args .n)
-    (c .before .loop .i) (length (c .before .before .before .before .args .store .now)) (c .loop-test .taken) (c .before .before .before .before .pre .1)
+    row-ends (entry-before-in-loop c .args .first) (entry-before-in-loop c .args .width) (entry-before-in-loop c .args .n)
+    (c .before .loop .i) (length (entry-before-in-loop c .args .store .now)) (c .loop-test .taken) (entry-before-in-loop c .pre .1)
 
 loop-holds : tie.Need-loop-holds Inv-loop μ-loop
 loop-holds c =
@@ -44,9 +78,9 @@ same-length c = search needs
 
 returns : tie.Need-returns Inv-loop μ-loop
 returns c =
-    let a = c .before .before .before .before .before .before .args in
-    placed-past (a .store .now) (a .first) (a .width) (a .cursor) (a .stamp) (a .stamps .now) (c .before .before .before .loop .i)
-    (c .before .before .before .loop .inv .3) (a .n)
+    let a = entry-before-then1 c .args in
+    placed-past (a .store .now) (a .first) (a .width) (a .cursor) (a .stamp) (a .stamps .now) (at-loop-before-then1 c .loop .i)
+    (at-loop-before-then1 c .loop .inv .3) (a .n)
     (c .before .before .loop-test .taken) (c .before .word .ensures) (c .if1 .taken)
 
 slice-read-if2 : tie.Need-slice-read-if2 Inv-loop μ-loop
@@ -57,11 +91,11 @@ same-length-2 c = search needs
 
 returns-2 : tie.Need-returns-2 Inv-loop μ-loop
 returns-2 c =
-    let a = c .before .before .before .before .before .before .before .before .args in
-    placed-twice (a .store .now) (a .first) (a .width) (a .cursor) (a .stamp) (a .stamps .now) (c .before .before .before .before .before .loop .i)
-    (c .before .before .before .before .before .loop .inv .3)
-    (c .before .before .before .word .ensures) (c .before .before .if1 .left) (c .before .before .before .before .before .loop .inv .1) (a .n)
-    (c .before .before .before .before .loop-test .taken) (c .if2 .taken)
+    let a = entry-before-then2 c .args in
+    placed-twice (a .store .now) (a .first) (a .width) (a .cursor) (a .stamp) (a .stamps .now) (at-loop-before-then2 c .loop .i)
+    (at-loop-before-then2 c .loop .inv .3)
+    (word-before-then2 c .word .ensures) (c .before .before .if1 .left) (at-loop-before-then2 c .loop .inv .1) (a .n)
+    (in-loop-before-then2 c .loop-test .taken) (c .if2 .taken)
 
 slice-write-stamps : tie.Need-slice-write-stamps Inv-loop μ-loop
 slice-write-stamps c = search needs
@@ -74,14 +108,14 @@ loop-less c = search needs
 
 loop-again : tie.Need-loop-again Inv-loop μ-loop
 loop-again c =
-    let a = c .before .before .before .before .before .before .before .before .args in (
+    let a = entry-before-else2 c .args in (
       search needs,
       search needs,
       search needs,
-      placed-turn (a .store .now) (a .first) (a .width) (a .cursor) (a .stamp) (a .stamps .now) (c .before .before .before .before .before .loop .i)
-          (c .before .before .before .before .before .loop .inv .3)
-          (c .before .before .before .word .ensures) (c .before .before .if1 .left) (c .before .before .before .before .before .loop .inv .1)
-          (c .before .before .before .before .before .loop .inv .2) (c .if2 .left),
+      placed-turn (a .store .now) (a .first) (a .width) (a .cursor) (a .stamp) (a .stamps .now) (at-loop-before-else2 c .loop .i)
+          (at-loop-before-else2 c .loop .inv .3)
+          (word-before-else2 c .word .ensures) (c .before .before .if1 .left) (at-loop-before-else2 c .loop .inv .1)
+          (at-loop-before-else2 c .loop .inv .2) (c .if2 .left),
     )
 
 same-length-3 : tie.Need-same-length-3 Inv-loop μ-loop
@@ -89,7 +123,7 @@ same-length-3 c = search needs
 
 returns-3 : tie.Need-returns-3 Inv-loop μ-loop
 returns-3 c =
-    let a = c .before .before .before .before .args in
+    let a = entry-before-after-loop c .args in
     placed-end (a .store .now) (a .first) (a .width) (a .cursor) (a .stamp) (a .stamps .now) (c .before .loop .i) (c .before .loop .inv .3) (a .n)
     (c .before .loop .inv .0) (c .loop-test .left)
 

@@ -7,6 +7,43 @@ use Rattle.store.proofs.Stamps.{under-more, flight-wrong, queue-decides
 use Rattle.store.proofs.valid_places.places_valid.Statement.{statement}
 use Rattle.store.proofs.valid_places.places_valid.Tie as tie
 
+-- the places: what stands before each, by name
+abbrev flight-fresh-before-then1 : tie.Then1 → tie.After-flight-fresh
+flight-fresh-before-then1 c = c .before .before .before
+
+abbrev word3-before-then1 : tie.Then1 → tie.After-word3
+word3-before-then1 c = flight-fresh-before-then1 c .before .before
+
+abbrev word2-before-then1 : tie.Then1 → tie.After-word2
+word2-before-then1 c = word3-before-then1 c .before
+
+abbrev word-before-then1 : tie.Then1 → tie.After-word
+word-before-then1 c = word2-before-then1 c .before
+
+abbrev entry-before-then1 : tie.Then1 → tie.Start
+entry-before-then1 c = word-before-then1 c .before .before .before
+
+abbrev word4-before-slice-known3 : tie.After-slice-known3 → tie.After-word4
+word4-before-slice-known3 c = c .before .before .before .before
+
+abbrev else1-before-slice-known3 : tie.After-slice-known3 → tie.Else1
+else1-before-slice-known3 c = word4-before-slice-known3 c .before
+
+abbrev flight-fresh-before-slice-known3 : tie.After-slice-known3 → tie.After-flight-fresh
+flight-fresh-before-slice-known3 c = else1-before-slice-known3 c .before .before .before
+
+abbrev word3-before-slice-known3 : tie.After-slice-known3 → tie.After-word3
+word3-before-slice-known3 c = flight-fresh-before-slice-known3 c .before .before
+
+abbrev word2-before-slice-known3 : tie.After-slice-known3 → tie.After-word2
+word2-before-slice-known3 c = word3-before-slice-known3 c .before
+
+abbrev word-before-slice-known3 : tie.After-slice-known3 → tie.After-word
+word-before-slice-known3 c = word2-before-slice-known3 c .before
+
+abbrev entry-before-slice-known3 : tie.After-slice-known3 → tie.Start
+entry-before-slice-known3 c = word-before-slice-known3 c .before .before .before
+
 add-word : tie.Need-add-word
 add-word c = search needs
 
@@ -45,12 +82,12 @@ same-length c = search needs
 
 returns : tie.Need-returns
 returns c =
-    let a = c .before .before .before .before .before .before .before .before .before .before .args in
+    let a = entry-before-then1 c .args in
     record {
       answer =
-          flight-wrong (a .store .now) (a .e) (a .at) (c .before .before .before .before .before .word3 .ensures) (c .before .before .before .before .before .before .word2 .ensures) refl (c .before .before .before .before .before .before .before .word .ensures) (a .stamp) (c .before .before .before .before .before .before .before .before .before .before .pre .1 .1)
-          (c .before .before .before .flight-fresh .ensures) (not-true _ (c .if1 .taken));
-      others = c .before .before .before .flight-fresh .ensures .others (under-more (a .stamps .now) (a .stamp) (c .before .before .before .before .before .before .before .before .before .before .pre .1 .1));
+          flight-wrong (a .store .now) (a .e) (a .at) (word3-before-then1 c .word3 .ensures) (word2-before-then1 c .word2 .ensures) refl (word-before-then1 c .word .ensures) (a .stamp) (entry-before-then1 c .pre .1 .1)
+          (flight-fresh-before-then1 c .flight-fresh .ensures) (not-true _ (c .if1 .taken));
+      others = flight-fresh-before-then1 c .flight-fresh .ensures .others (under-more (a .stamps .now) (a .stamp) (entry-before-then1 c .pre .1 .1));
     }
 
 add-places-fresh : tie.Need-add-places-fresh
@@ -70,14 +107,14 @@ same-length-2 c = search needs
 
 returns-2 : tie.Need-returns-2
 returns-2 c =
-    let a = c .before .before .before .before .before .before .before .before .before .before .before .before .before .before .before .args in
-    let m = c .before .before .before .before .before .before .before .before .before .before .before .before .word .ensures in
+    let a = entry-before-slice-known3 c .args in
+    let m = word-before-slice-known3 c .word .ensures in
     record {
       answer =
-          queue-decides (a .store .now) (a .e) (a .at) (c .before .before .before .before .before .before .before .before .before .before .word3 .ensures) (c .before .before .before .before .before .before .before .before .before .before .before .word2 .ensures) (c .before .before .before .before .word4 .ensures) m (a .stamp) (c .before .before .before .before .before .before .before .before .before .before .before .before .before .before .before .pre .1 .1)
-          (c .before .before .before .before .before .before .before .before .flight-fresh .ensures) (omega arith) (not-false _ (c .before .before .before .before .before .if1 .left)) (c .before .before .places-fresh .ensures);
+          queue-decides (a .store .now) (a .e) (a .at) (word3-before-slice-known3 c .word3 .ensures) (word2-before-slice-known3 c .word2 .ensures) (word4-before-slice-known3 c .word4 .ensures) m (a .stamp) (entry-before-slice-known3 c .pre .1 .1)
+          (flight-fresh-before-slice-known3 c .flight-fresh .ensures) (omega arith) (not-false _ (else1-before-slice-known3 c .if1 .left)) (c .before .before .places-fresh .ensures);
       others = c .before .before .places-fresh .ensures .others
-          (c .before .before .before .before .before .before .before .before .flight-fresh .ensures .others (under-more (a .stamps .now) (a .stamp) (c .before .before .before .before .before .before .before .before .before .before .before .before .before .before .before .pre .1 .1)));
+          (flight-fresh-before-slice-known3 c .flight-fresh .ensures .others (under-more (a .stamps .now) (a .stamp) (entry-before-slice-known3 c .pre .1 .1)));
     }
 
 pub places-valid-spec : {M : Type 1} → statement M

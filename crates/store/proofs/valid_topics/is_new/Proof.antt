@@ -34,6 +34,25 @@ Inv-loop store e t m ledger entry first j₀ j =
 abbrev μ-loop : tie.MeasureT-loop
 μ-loop store e t m ledger entry first j₀ j = m - j
 
+-- the places: what stands before each, by name
+abbrev entry-before-in-loop : tie.In-loop Inv-loop μ-loop → tie.Start Inv-loop μ-loop
+entry-before-in-loop c = c .before .before .before
+
+abbrev entry-before-after-loop : tie.After-loop Inv-loop μ-loop → tie.Start Inv-loop μ-loop
+entry-before-after-loop c = c .before .before .before
+
+abbrev at-loop-before-then1 : tie.Then1 Inv-loop μ-loop → tie.At-loop Inv-loop μ-loop
+at-loop-before-then1 c = c .before .before .before
+
+abbrev entry-before-then1 : tie.Then1 Inv-loop μ-loop → tie.Start Inv-loop μ-loop
+entry-before-then1 c = entry-before-in-loop (c .before .before)
+
+abbrev at-loop-before-else1 : tie.Else1 Inv-loop μ-loop → tie.At-loop Inv-loop μ-loop
+at-loop-before-else1 c = c .before .before .before
+
+abbrev entry-before-else1 : tie.Else1 Inv-loop μ-loop → tie.Start Inv-loop μ-loop
+entry-before-else1 c = entry-before-in-loop (c .before .before)
+
 -- the id that is sought
 abbrev wanted : tie.Start Inv-loop μ-loop → Id
 wanted c = record { ledger = c .args .ledger; entry = c .args .entry }
@@ -48,34 +67,34 @@ steps : (i : Id)
 steps i = map-steps (λ (x : StoredMessage). x .id) (none-steps (same-id i))
 
 -- the place of a turn is among them
-here : (c : tie.In-loop Inv-loop μ-loop) → c .before .loop .j < length (before (c .before .before .before))
+here : (c : tie.In-loop Inv-loop μ-loop) → c .before .loop .j < length (before (entry-before-in-loop c))
 here c =
-    let n = length-take-le (c .before .before .before .args .m) (topic-nth (decode (c .before .before .before .args .store .now)) (c .before .before .before .args .t) .messages) (c .before .before .before .pre .2) in
+    let n = length-take-le (entry-before-in-loop c .args .m) (topic-nth (decode (entry-before-in-loop c .args .store .now)) (entry-before-in-loop c .args .t) .messages) (entry-before-in-loop c .pre .2) in
     omega arith
 
 -- and in the store
 inside : (c : tie.In-loop Inv-loop μ-loop)
-    → 2326 + c .before .before .before .args .t * (4 + 4 * c .before .before .before .args .e) + c .before .loop .j * 4 + 4 ≤ length (c .before .before .before .args .store .now)
+    → 2326 + entry-before-in-loop c .args .t * (4 + 4 * entry-before-in-loop c .args .e) + c .before .loop .j * 4 + 4 ≤ length (entry-before-in-loop c .args .store .now)
 inside c =
-    let k = topic-inside (c .before .before .before .pre .0) (c .before .before .before .args .t) (c .before .before .before .pre .1) in
-    let f = messages-short (c .before .before .before .pre .0) (c .before .before .before .args .t) (c .before .before .before .pre .1) in
-    let l : c .before .loop .j < c .before .before .before .args .m = c .loop-test .taken in
-    let b : c .before .before .before .args .m ≤ length (topic-nth (decode (c .before .before .before .args .store .now)) (c .before .before .before .args .t) .messages) = c .before .before .before .pre .2 in
+    let k = topic-inside (entry-before-in-loop c .pre .0) (entry-before-in-loop c .args .t) (entry-before-in-loop c .pre .1) in
+    let f = messages-short (entry-before-in-loop c .pre .0) (entry-before-in-loop c .args .t) (entry-before-in-loop c .pre .1) in
+    let l : c .before .loop .j < entry-before-in-loop c .args .m = c .loop-test .taken in
+    let b : entry-before-in-loop c .args .m ≤ length (topic-nth (decode (entry-before-in-loop c .args .store .now)) (entry-before-in-loop c .args .t) .messages) = entry-before-in-loop c .pre .2 in
     omega arith
 
 -- the test of the words there is that of the message
 read : (c : tie.In-loop Inv-loop μ-loop)
-    → not (same-id (wanted (c .before .before .before)) (record { ledger = getD (c .before .before .before .args .store .now) (2326 + c .before .before .before .args .t * (4 + 4 * c .before .before .before .args .e) + c .before .loop .j * 4) 0; entry = getD (c .before .before .before .args .store .now) (2326 + c .before .before .before .args .t * (4 + 4 * c .before .before .before .args .e) + c .before .loop .j * 4 + 1) 0 }))
-    ≡ not (same-id (wanted (c .before .before .before)) (getD (before (c .before .before .before)) (c .before .loop .j) no-message .id))
+    → not (same-id (wanted (entry-before-in-loop c)) (record { ledger = getD (entry-before-in-loop c .args .store .now) (2326 + entry-before-in-loop c .args .t * (4 + 4 * entry-before-in-loop c .args .e) + c .before .loop .j * 4) 0; entry = getD (entry-before-in-loop c .args .store .now) (2326 + entry-before-in-loop c .args .t * (4 + 4 * entry-before-in-loop c .args .e) + c .before .loop .j * 4 + 1) 0 }))
+    ≡ not (same-id (wanted (entry-before-in-loop c)) (getD (before (entry-before-in-loop c)) (c .before .loop .j) no-message .id))
 read c =
-    let a = c .before .before .before .args in
+    let a = entry-before-in-loop c .args in
     let j = c .before .loop .j in
     let l = topic-nth (decode (a .store .now)) (a .t) .messages in
-    let h : j < length l = omega (arith, c .loop-test .taken, c .before .before .before .pre .2) in
+    let h : j < length l = omega (arith, c .loop-test .taken, entry-before-in-loop c .pre .2) in
     let n : 2326 + a .t * (4 + 4 * a .e) + j * 4 ≡ topic-at (a .e) (a .t) + message-in j = omega arith in
-    let x = ap (λ (k : ℕ). getD (a .store .now) k 0) n ∙ read-message-ledger (c .before .before .before .pre .0) (a .t) (c .before .before .before .pre .1) j h in
-    let y = ap (λ (k : ℕ). getD (a .store .now) (k + 1) 0) n ∙ read-message-entry (c .before .before .before .pre .0) (a .t) (c .before .before .before .pre .1) j h in
-    ap (λ (i : Id). not (same-id (wanted (c .before .before .before)) i))
+    let x = ap (λ (k : ℕ). getD (a .store .now) k 0) n ∙ read-message-ledger (entry-before-in-loop c .pre .0) (a .t) (entry-before-in-loop c .pre .1) j h in
+    let y = ap (λ (k : ℕ). getD (a .store .now) (k + 1) 0) n ∙ read-message-entry (entry-before-in-loop c .pre .0) (a .t) (entry-before-in-loop c .pre .1) j h in
+    ap (λ (i : Id). not (same-id (wanted (entry-before-in-loop c)) i))
     (id-read (getD l j no-message .id) x y ∙ ap (λ (z : StoredMessage). z .id) (sym (getD-take (a .m) l j no-message (c .loop-test .taken))))
 
 mul-first : tie.Need-mul-first Inv-loop μ-loop
@@ -104,7 +123,7 @@ is-other-requires c κs = let k = inside c in omega arith
 
 returns : tie.Need-returns Inv-loop μ-loop
 returns c =
-    passed-stop (steps (wanted (c .before .before .before .before .before))) (before (c .before .before .before .before .before)) (c .before .before .before .loop .j) no-message (here (c .before .before)) (c .before .before .before .loop .inv .1)
+    passed-stop (steps (wanted (entry-before-then1 c))) (before (entry-before-then1 c)) (at-loop-before-then1 c .loop .j) no-message (here (c .before .before)) (at-loop-before-then1 c .loop .inv .1)
     (sym (read (c .before .before)) ∙ answered-no (c .before .is-other .ensures) (c .if1 .taken))
 
 add-j : tie.Need-add-j Inv-loop μ-loop
@@ -116,15 +135,15 @@ loop-less c = search needs
 loop-again : tie.Need-loop-again Inv-loop μ-loop
 loop-again c = (
   search needs,
-  passed-turn (steps (wanted (c .before .before .before .before .before))) (before (c .before .before .before .before .before)) (c .before .before .before .loop .j) no-message (here (c .before .before)) (c .before .before .before .loop .inv .1)
+  passed-turn (steps (wanted (entry-before-else1 c))) (before (entry-before-else1 c)) (at-loop-before-else1 c .loop .j) no-message (here (c .before .before)) (at-loop-before-else1 c .loop .inv .1)
       (sym (read (c .before .before)) ∙ answered-yes (c .before .is-other .ensures) (c .if1 .left)),
 )
 
 returns-2 : tie.Need-returns-2 Inv-loop μ-loop
 returns-2 c =
-    let n = length-take-le (c .before .before .before .args .m) (topic-nth (decode (c .before .before .before .args .store .now)) (c .before .before .before .args .t) .messages) (c .before .before .before .pre .2) in
-    let l : length (before (c .before .before .before)) ≤ c .before .loop .j = omega arith in
-    passed-end (steps (wanted (c .before .before .before))) (before (c .before .before .before)) (c .before .loop .j) l (c .before .loop .inv .1)
+    let n = length-take-le (entry-before-after-loop c .args .m) (topic-nth (decode (entry-before-after-loop c .args .store .now)) (entry-before-after-loop c .args .t) .messages) (entry-before-after-loop c .pre .2) in
+    let l : length (before (entry-before-after-loop c)) ≤ c .before .loop .j = omega arith in
+    passed-end (steps (wanted (entry-before-after-loop c))) (before (entry-before-after-loop c)) (c .before .loop .j) l (c .before .loop .inv .1)
 
 pub is-new-spec : {M : Type 1} → statement M
 is-new-spec =

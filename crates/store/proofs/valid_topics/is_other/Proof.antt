@@ -11,6 +11,10 @@ use Rattle.store.proofs.valid_topics.is_other.Tie as tie
 use Rattle.store.proofs.valid_topics.is_other.Reads as reads
 use Rattle.store.proofs.valid_topics.is_other.Lts as lts
 
+-- the places: what stands before each, by name
+abbrev entry-before-shared-slice-known2 : tie.After-shared-slice-known2 → tie.Start
+entry-before-shared-slice-known2 c = c .before .before .before
+
 mul-if1 : tie.Need-mul-if1
 mul-if1 c = search needs
 
@@ -32,7 +36,7 @@ shared-slice-read-result c = search needs
 
 returns-2 : tie.Need-returns-2
 unfolding same-id
-returns-2 c = ap not (passes (eq-eqb _ _ (sym (c .before .if1 .left))) (same-comm decides-numbers _ (c .before .before .before .args .entry)))
+returns-2 c = ap not (passes (eq-eqb _ _ (sym (c .before .if1 .left))) (same-comm decides-numbers _ (entry-before-shared-slice-known2 c .args .entry)))
 
 pub is-other-spec : {M : Type 1} → statement M
 is-other-spec =

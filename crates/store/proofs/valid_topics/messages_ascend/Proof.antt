@@ -26,6 +26,46 @@ Inv-loop store first n ledger₀ entry₀ m₀ ledger entry m =
 abbrev μ-loop : tie.MeasureT-loop
 μ-loop store first n ledger₀ entry₀ m₀ ledger entry m = n - m
 
+-- the places: what stands before each, by name
+abbrev shared-slice-known-before-shared-slice-known3 : tie.After-shared-slice-known3 Inv-loop μ-loop → tie.After-shared-slice-known Inv-loop μ-loop
+shared-slice-known-before-shared-slice-known3 c = c .before .before .before
+
+abbrev entry-before-shared-slice-known3 : tie.After-shared-slice-known3 Inv-loop μ-loop → tie.Start Inv-loop μ-loop
+entry-before-shared-slice-known3 c = shared-slice-known-before-shared-slice-known3 c .before
+
+abbrev entry-before-in-loop : tie.In-loop Inv-loop μ-loop → tie.Start Inv-loop μ-loop
+entry-before-in-loop c = entry-before-shared-slice-known3 (c .before .before)
+
+abbrev entry-before-after-loop : tie.After-loop Inv-loop μ-loop → tie.Start Inv-loop μ-loop
+entry-before-after-loop c = entry-before-shared-slice-known3 (c .before .before)
+
+abbrev at-loop-before-then2 : tie.Then2 Inv-loop μ-loop → tie.At-loop Inv-loop μ-loop
+at-loop-before-then2 c = c .before .before .before
+
+abbrev entry-before-then2 : tie.Then2 Inv-loop μ-loop → tie.Start Inv-loop μ-loop
+entry-before-then2 c = entry-before-in-loop (c .before .before)
+
+abbrev else2-before-joined3 : tie.Joined3 Inv-loop μ-loop → tie.Else2 Inv-loop μ-loop
+else2-before-joined3 c = c .before .before .before
+
+abbrev at-loop-before-joined3 : tie.Joined3 Inv-loop μ-loop → tie.At-loop Inv-loop μ-loop
+at-loop-before-joined3 c = else2-before-joined3 c .before .before .before
+
+abbrev entry-before-joined3 : tie.Joined3 Inv-loop μ-loop → tie.Start Inv-loop μ-loop
+entry-before-joined3 c = entry-before-shared-slice-known3 (at-loop-before-joined3 c .before)
+
+abbrev in-loop-before-then4 : tie.Then4 Inv-loop μ-loop → tie.In-loop Inv-loop μ-loop
+in-loop-before-then4 c = c .before .before .before .before .before .before
+
+abbrev in-loop-before-then5 : tie.Then5 Inv-loop μ-loop → tie.In-loop Inv-loop μ-loop
+in-loop-before-then5 c = c .before .before .before .before .before .before
+
+abbrev at-loop-before-then5 : tie.Then5 Inv-loop μ-loop → tie.At-loop Inv-loop μ-loop
+at-loop-before-then5 c = in-loop-before-then5 c .before
+
+abbrev entry-before-then5 : tie.Then5 Inv-loop μ-loop → tie.Start Inv-loop μ-loop
+entry-before-then5 c = entry-before-in-loop (in-loop-before-then5 c)
+
 -- the first size
 first-size : (c : tie.After-shared-slice-known Inv-loop μ-loop) → batch-right (c .before .args .store .now) (c .before .args .first) 0 ≡ leb (getD (c .before .args .store .now) (c .before .args .first + 3) 0) 256
 first-size c = let e : c .before .args .first + 0 * 4 + 3 ≡ c .before .args .first + 3 = omega arith in ap (λ (k : ℕ). leb (getD (c .before .args .store .now) k 0) 256) e
@@ -63,12 +103,12 @@ shared-slice-read-entry c = search needs
 loop-holds : tie.Need-loop-holds Inv-loop μ-loop
 unfolding each-below
 loop-holds c =
-    let x = c .before .before .before .before .args in (
+    let x = entry-before-shared-slice-known3 c .args in (
       omega arith,
-      c .before .before .before .before .pre .0,
+      entry-before-shared-slice-known3 c .pre .0,
       row-none (x .store .now) (x .first) 4,
       second-none (x .store .now) (x .first) 4,
-      first-size (c .before .before .before) ∙ le-leb _ 256 (c .before .before .if1 .left),
+      first-size (shared-slice-known-before-shared-slice-known3 c) ∙ le-leb _ 256 (c .before .before .if1 .left),
       refl,
     )
 
@@ -90,8 +130,8 @@ shared-slice-read-if2 c = search needs
 returns-2 : tie.Need-returns-2 Inv-loop μ-loop
 unfolding messages-ascend
 returns-2 c =
-    let a = c .before .before .before .before .before .before .before .before .args in
-    fails _ (sym (each-stop (batch-right (a .store .now) (a .first)) (a .n) (c .before .before .before .loop .m) (c .before .before .loop-test .taken) (lt-leb _ 256 (c .if2 .taken))))
+    let a = entry-before-then2 c .args in
+    fails _ (sym (each-stop (batch-right (a .store .now) (a .first)) (a .n) (at-loop-before-then2 c .loop .m) (c .before .before .loop-test .taken) (lt-leb _ 256 (c .if2 .taken))))
 
 mul-x : tie.Need-mul-x Inv-loop μ-loop
 mul-x c = search needs
@@ -110,11 +150,11 @@ shared-slice-read-y c = search needs
 
 -- an id that is not above the one before it
 refused : (c : tie.In-loop Inv-loop μ-loop)
-    → pair-above (row (c .before .before .before .before .before .before .args .store .now) (c .before .before .before .before .before .before .args .first) 4 (c .before .loop .m)) (row-second (c .before .before .before .before .before .before .args .store .now) (c .before .before .before .before .before .before .args .first) 4 (c .before .loop .m)) (c .before .loop .ledger) (c .before .loop .entry) ≡ false
-    → false ≡ messages-ascend (c .before .before .before .before .before .before .args .store .now) (c .before .before .before .before .before .before .args .first) (c .before .before .before .before .before .before .args .n)
+    → pair-above (row (entry-before-in-loop c .args .store .now) (entry-before-in-loop c .args .first) 4 (c .before .loop .m)) (row-second (entry-before-in-loop c .args .store .now) (entry-before-in-loop c .args .first) 4 (c .before .loop .m)) (c .before .loop .ledger) (c .before .loop .entry) ≡ false
+    → false ≡ messages-ascend (entry-before-in-loop c .args .store .now) (entry-before-in-loop c .args .first) (entry-before-in-loop c .args .n)
 unfolding messages-ascend twos-ascend
 refused c f =
-    let x = c .before .before .before .before .before .before .args in
+    let x = entry-before-in-loop c .args in
     let l = c .before .loop in
     let h : 1 ≤ l .m = l .inv .0 in
     let k = c .loop-test .taken in
@@ -124,24 +164,24 @@ refused c f =
     sym (ap (λ (t : Bool). each-below (batch-right (x .store .now) (x .first)) (x .n) && t) no ∙ and-false (each-below (batch-right (x .store .now) (x .first)) (x .n)))
 
 returns-3 : tie.Need-returns-3 Inv-loop μ-loop
-returns-3 c = refused (c .before .before .before .before .before .before) (sym (above-second _ _ _ _ (c .before .if3 .taken)) ∙ le-ltb _ _ (c .if4 .taken))
+returns-3 c = refused (in-loop-before-then4 c) (sym (above-second _ _ _ _ (c .before .if3 .taken)) ∙ le-ltb _ _ (c .if4 .taken))
 
 returns-4 : tie.Need-returns-4 Inv-loop μ-loop
 returns-4 c =
-    let a = c .before .before .before .before .before .before .before .before .before .before .before .before .args in
+    let a = entry-before-then5 c .args in
     let h = c .if5 .taken in
-    refused (c .before .before .before .before .before .before) (sym (above-first _ _ _ _ (c .before .if3 .left)) ∙ le-ltb (c .before .before .before .before .before .before .before .loop .ledger) (row (a .store .now) (a .first) 4 (c .before .before .before .before .before .before .before .loop .m)) (omega arith))
+    refused (in-loop-before-then5 c) (sym (above-first _ _ _ _ (c .before .if3 .left)) ∙ le-ltb (at-loop-before-then5 c .loop .ledger) (row (a .store .now) (a .first) 4 (at-loop-before-then5 c .loop .m)) (omega arith))
 
 -- past the tests the id is above the one before it, and is kept
 above : (c : tie.Joined3 Inv-loop μ-loop)
-    → (pair-above (row (c .before .before .before .before .before .before .before .before .before .before .before .args .store .now) (c .before .before .before .before .before .before .before .before .before .before .before .args .first) 4 (c .before .before .before .before .before .before .loop .m)) (row-second (c .before .before .before .before .before .before .before .before .before .before .before .args .store .now) (c .before .before .before .before .before .before .before .before .before .before .before .args .first) 4 (c .before .before .before .before .before .before .loop .m)) (c .before .before .before .before .before .before .loop .ledger) (c .before .before .before .before .before .before .loop .entry) ≡ true)
-    × (c .if3 .ledger ≡ row (c .before .before .before .before .before .before .before .before .before .before .before .args .store .now) (c .before .before .before .before .before .before .before .before .before .before .before .args .first) 4 (c .before .before .before .before .before .before .loop .m))
+    → (pair-above (row (entry-before-joined3 c .args .store .now) (entry-before-joined3 c .args .first) 4 (at-loop-before-joined3 c .loop .m)) (row-second (entry-before-joined3 c .args .store .now) (entry-before-joined3 c .args .first) 4 (at-loop-before-joined3 c .loop .m)) (at-loop-before-joined3 c .loop .ledger) (at-loop-before-joined3 c .loop .entry) ≡ true)
+    × (c .if3 .ledger ≡ row (entry-before-joined3 c .args .store .now) (entry-before-joined3 c .args .first) 4 (at-loop-before-joined3 c .loop .m))
 above c =
-    let a = c .before .before .before .before .before .before .before .before .before .before .before .args in
-    let x : ℕ = row (a .store .now) (a .first) 4 (c .before .before .before .before .before .before .loop .m) in
+    let a = entry-before-joined3 c .args in
+    let x : ℕ = row (a .store .now) (a .first) 4 (at-loop-before-joined3 c .loop .m) in
     ⊎-elim
     (λ w. (sym (above-second _ _ _ _ (w .0 .taken)) ∙ lt-ltb _ _ (w .1 .left), w .2 ∙ sym (w .0 .taken)))
-    (λ w. (sym (above-first _ _ _ _ (w .0 .left)) ∙ lt-ltb (c .before .before .before .before .before .before .loop .ledger) x (omega (arith, w .0 .left, w .1 .left)), w .2))
+    (λ w. (sym (above-first _ _ _ _ (w .0 .left)) ∙ lt-ltb (at-loop-before-joined3 c .loop .ledger) x (omega (arith, w .0 .left, w .1 .left)), w .2))
     (c .if3 .came)
 
 add-m : tie.Need-add-m Inv-loop μ-loop
@@ -152,14 +192,14 @@ loop-less c = search needs
 
 loop-again : tie.Need-loop-again Inv-loop μ-loop
 loop-again c =
-    let x = c .before .before .before .before .before .before .before .before .before .before .before .args in
-    let l = c .before .before .before .before .before .before .loop in
+    let x = entry-before-joined3 c .args in
+    let l = at-loop-before-joined3 c .loop in
     let e : l .m + 1 - 1 ≡ l .m = omega arith in (
       omega arith,
       omega arith,
       rw e (above c .1),
       rw e,
-      each-turn (batch-right (x .store .now) (x .first)) (l .m) (l .inv .4) (le-leb _ 256 (c .before .before .before .if2 .left)),
+      each-turn (batch-right (x .store .now) (x .first)) (l .m) (l .inv .4) (le-leb _ 256 (else2-before-joined3 c .if2 .left)),
       rw e
           (ascend-next (x .store .now) (x .first) 4 (l .m) (l .inv .0) (l .inv .5)
           (ascend-turn (x .store .now) (x .first) 4 (l .m) (l .ledger) (l .entry) (l .inv .0) (l .inv .2) (l .inv .3) (above c .0))),
@@ -168,7 +208,7 @@ loop-again c =
 returns-5 : tie.Need-returns-5 Inv-loop μ-loop
 unfolding messages-ascend twos-ascend
 returns-5 c =
-    let x = c .before .before .before .before .before .before .args in
+    let x = entry-before-after-loop c .args in
     let l = c .before .loop in
     let k = c .loop-test .left in
     passes (sym (each-end (batch-right (x .store .now) (x .first)) (x .n) (l .m) (l .inv .1) k (l .inv .4)))

@@ -39,6 +39,58 @@ Inv-loop store e t first n ledger₀ entry₀ m₀ ledger entry m =
 abbrev μ-loop : tie.MeasureT-loop
 μ-loop store e t first n ledger₀ entry₀ m₀ ledger entry m = n - m
 
+-- the places: what stands before each, by name
+abbrev shared-slice-known-before-in-loop : tie.In-loop Inv-loop μ-loop → tie.After-shared-slice-known Inv-loop μ-loop
+shared-slice-known-before-in-loop c = c .before .before .before
+
+abbrev entry-before-in-loop : tie.In-loop Inv-loop μ-loop → tie.Start Inv-loop μ-loop
+entry-before-in-loop c = shared-slice-known-before-in-loop c .before
+
+abbrev entry-before-after-loop : tie.After-loop Inv-loop μ-loop → tie.Start Inv-loop μ-loop
+entry-before-after-loop c = c .before .before .before .before
+
+abbrev at-loop-before-then1 : tie.Then1 Inv-loop μ-loop → tie.At-loop Inv-loop μ-loop
+at-loop-before-then1 c = c .before .before .before
+
+abbrev entry-before-then1 : tie.Then1 Inv-loop μ-loop → tie.Start Inv-loop μ-loop
+entry-before-then1 c = entry-before-in-loop (c .before .before)
+
+abbrev in-loop-before-shared-slice-known3 : tie.After-shared-slice-known3 Inv-loop μ-loop → tie.In-loop Inv-loop μ-loop
+in-loop-before-shared-slice-known3 c = c .before .before .before
+
+abbrev in-loop-before-shared-slice-known4 : tie.After-shared-slice-known4 Inv-loop μ-loop → tie.In-loop Inv-loop μ-loop
+in-loop-before-shared-slice-known4 c = in-loop-before-shared-slice-known3 (c .before)
+
+abbrev in-loop-before-else2 : tie.Else2 Inv-loop μ-loop → tie.In-loop Inv-loop μ-loop
+in-loop-before-else2 c = in-loop-before-shared-slice-known4 (c .before .before)
+
+abbrev entry-before-else2 : tie.Else2 Inv-loop μ-loop → tie.Start Inv-loop μ-loop
+entry-before-else2 c = entry-before-in-loop (in-loop-before-else2 c)
+
+abbrev else1-before-joined2 : tie.Joined2 Inv-loop μ-loop → tie.Else1 Inv-loop μ-loop
+else1-before-joined2 c = c .before .before .before .before
+
+abbrev in-loop-before-joined2 : tie.Joined2 Inv-loop μ-loop → tie.In-loop Inv-loop μ-loop
+in-loop-before-joined2 c = in-loop-before-shared-slice-known4 (c .before .before)
+
+abbrev at-loop-before-joined2 : tie.Joined2 Inv-loop μ-loop → tie.At-loop Inv-loop μ-loop
+at-loop-before-joined2 c = in-loop-before-joined2 c .before
+
+abbrev entry-before-joined2 : tie.Joined2 Inv-loop μ-loop → tie.Start Inv-loop μ-loop
+entry-before-joined2 c = entry-before-in-loop (in-loop-before-joined2 c)
+
+abbrev else1-before-then3 : tie.Then3 Inv-loop μ-loop → tie.Else1 Inv-loop μ-loop
+else1-before-then3 c = c .before .before .before .before .before .before
+
+abbrev in-loop-before-then3 : tie.Then3 Inv-loop μ-loop → tie.In-loop Inv-loop μ-loop
+in-loop-before-then3 c = in-loop-before-else2 (c .before .before)
+
+abbrev at-loop-before-then3 : tie.Then3 Inv-loop μ-loop → tie.At-loop Inv-loop μ-loop
+at-loop-before-then3 c = in-loop-before-then3 c .before
+
+abbrev entry-before-then3 : tie.Then3 Inv-loop μ-loop → tie.Start Inv-loop μ-loop
+entry-before-then3 c = entry-before-in-loop (in-loop-before-then3 c)
+
 -- the topic's messages
 abbrev messages : tie.Start Inv-loop μ-loop → List StoredMessage
 messages c = topic-nth (decode (c .args .store .now)) (c .args .t) .messages
@@ -51,15 +103,15 @@ counted c =
     c .word .ensures ∙ ap (λ (k : ℕ). getD (a .store .now) k 0) n ∙ read-message-count (c .before .before .pre .0) (a .t) (c .before .before .pre .1)
 
 -- the place of a turn is in the ledger
-here : (c : tie.In-loop Inv-loop μ-loop) → c .before .loop .m < length (messages (c .before .before .before .before))
+here : (c : tie.In-loop Inv-loop μ-loop) → c .before .loop .m < length (messages (entry-before-in-loop c))
 here c = let n = counted (c .before .before) in omega arith
 
 -- and in the store
 inside : (c : tie.In-loop Inv-loop μ-loop)
-    → 2326 + c .before .before .before .before .args .t * (4 + 4 * c .before .before .before .before .args .e) + c .before .loop .m * 4 + 4 ≤ length (c .before .before .before .before .args .store .now)
+    → 2326 + entry-before-in-loop c .args .t * (4 + 4 * entry-before-in-loop c .args .e) + c .before .loop .m * 4 + 4 ≤ length (entry-before-in-loop c .args .store .now)
 inside c =
-    let k = topic-inside (c .before .before .before .before .pre .0) (c .before .before .before .before .args .t) (c .before .before .before .before .pre .1) in
-    let f = messages-short (c .before .before .before .before .pre .0) (c .before .before .before .before .args .t) (c .before .before .before .before .pre .1) in
+    let k = topic-inside (entry-before-in-loop c .pre .0) (entry-before-in-loop c .args .t) (entry-before-in-loop c .pre .1) in
+    let f = messages-short (entry-before-in-loop c .pre .0) (entry-before-in-loop c .args .t) (entry-before-in-loop c .pre .1) in
     let l = here c in
     omega arith
 
@@ -67,19 +119,19 @@ inside c =
 abbrev current : tie.In-loop Inv-loop μ-loop → Id
 current c =
     record {
-      ledger = getD (c .before .before .before .before .args .store .now) (2326 + c .before .before .before .before .args .t * (4 + 4 * c .before .before .before .before .args .e) + c .before .loop .m * 4) 0;
-      entry = getD (c .before .before .before .before .args .store .now) (2326 + c .before .before .before .before .args .t * (4 + 4 * c .before .before .before .before .args .e) + c .before .loop .m * 4 + 1) 0;
+      ledger = getD (entry-before-in-loop c .args .store .now) (2326 + entry-before-in-loop c .args .t * (4 + 4 * entry-before-in-loop c .args .e) + c .before .loop .m * 4) 0;
+      entry = getD (entry-before-in-loop c .args .store .now) (2326 + entry-before-in-loop c .args .t * (4 + 4 * entry-before-in-loop c .args .e) + c .before .loop .m * 4 + 1) 0;
     }
 
 -- it is the message's
-id : (c : tie.In-loop Inv-loop μ-loop) → current c ≡ getD (messages (c .before .before .before .before)) (c .before .loop .m) no-message .id
+id : (c : tie.In-loop Inv-loop μ-loop) → current c ≡ getD (messages (entry-before-in-loop c)) (c .before .loop .m) no-message .id
 id c =
-    let a = c .before .before .before .before .args in
+    let a = entry-before-in-loop c .args in
     let m = c .before .loop .m in
     let n : 2326 + a .t * (4 + 4 * a .e) + m * 4 ≡ topic-at (a .e) (a .t) + message-in m = omega arith in
-    id-read (getD (messages (c .before .before .before .before)) m no-message .id)
-    (ap (λ (k : ℕ). getD (a .store .now) k 0) n ∙ read-message-ledger (c .before .before .before .before .pre .0) (a .t) (c .before .before .before .before .pre .1) m (here c))
-    (ap (λ (k : ℕ). getD (a .store .now) (k + 1) 0) n ∙ read-message-entry (c .before .before .before .before .pre .0) (a .t) (c .before .before .before .before .pre .1) m (here c))
+    id-read (getD (messages (entry-before-in-loop c)) m no-message .id)
+    (ap (λ (k : ℕ). getD (a .store .now) k 0) n ∙ read-message-ledger (entry-before-in-loop c .pre .0) (a .t) (entry-before-in-loop c .pre .1) m (here c))
+    (ap (λ (k : ℕ). getD (a .store .now) (k + 1) 0) n ∙ read-message-entry (entry-before-in-loop c .pre .0) (a .t) (entry-before-in-loop c .pre .1) m (here c))
 
 -- the greatest so far
 abbrev greatest : tie.At-loop Inv-loop μ-loop → Id
@@ -87,19 +139,19 @@ greatest c = record { ledger = c .loop .ledger; entry = c .loop .entry }
 
 -- the test of the batch size read in a turn is that of the message
 right : (c : tie.In-loop Inv-loop μ-loop)
-    → leb (getD (c .before .before .before .before .args .store .now) (2326 + c .before .before .before .before .args .t * (4 + 4 * c .before .before .before .before .args .e) + c .before .loop .m * 4 + 3) 0) 256 ≡ valid-message (getD (messages (c .before .before .before .before)) (c .before .loop .m) no-message)
+    → leb (getD (entry-before-in-loop c .args .store .now) (2326 + entry-before-in-loop c .args .t * (4 + 4 * entry-before-in-loop c .args .e) + c .before .loop .m * 4 + 3) 0) 256 ≡ valid-message (getD (messages (entry-before-in-loop c)) (c .before .loop .m) no-message)
 right c =
-    let a = c .before .before .before .before .args in
+    let a = entry-before-in-loop c .args in
     let m = c .before .loop .m in
-    let w = c .before .before .before .shared-slice-known .given in
+    let w = shared-slice-known-before-in-loop c .shared-slice-known .given in
     let at = topic-at (a .e) (a .t) + message-in m in
     let n : 2326 + a .t * (4 + 4 * a .e) + m * 4 ≡ topic-at (a .e) (a .t) + message-in m = omega arith in
     ap (λ (k : ℕ). leb (getD (a .store .now) (k + 3) 0) 256) n
-    ∙ ap (λ (k : ℕ). leb k 256) (read-message-batch (c .before .before .before .before .pre .0) (a .t) (c .before .before .before .before .pre .1) m (here c))
-    ∙ message-words (getD (messages (c .before .before .before .before)) m no-message)
-    (omega (arith, w at, read-message-ledger (c .before .before .before .before .pre .0) (a .t) (c .before .before .before .before .pre .1) m (here c)))
-    (omega (arith, w (at + 1), read-message-entry (c .before .before .before .before .pre .0) (a .t) (c .before .before .before .before .pre .1) m (here c)))
-    (omega (arith, w (at + 2), read-message-handle (c .before .before .before .before .pre .0) (a .t) (c .before .before .before .before .pre .1) m (here c)))
+    ∙ ap (λ (k : ℕ). leb k 256) (read-message-batch (entry-before-in-loop c .pre .0) (a .t) (entry-before-in-loop c .pre .1) m (here c))
+    ∙ message-words (getD (messages (entry-before-in-loop c)) m no-message)
+    (omega (arith, w at, read-message-ledger (entry-before-in-loop c .pre .0) (a .t) (entry-before-in-loop c .pre .1) m (here c)))
+    (omega (arith, w (at + 1), read-message-entry (entry-before-in-loop c .pre .0) (a .t) (entry-before-in-loop c .pre .1) m (here c)))
+    (omega (arith, w (at + 2), read-message-handle (entry-before-in-loop c .pre .0) (a .t) (entry-before-in-loop c .pre .1) m (here c)))
 
 mul-first : tie.Need-mul-first Inv-loop μ-loop
 mul-first c = search needs
@@ -140,36 +192,36 @@ shared-slice-read-if1 c = let k = inside (c .before) in omega arith
 
 returns : tie.Need-returns Inv-loop μ-loop
 returns c =
-    passed-stop message-steps (messages (c .before .before .before .before .before .before)) (c .before .before .before .loop .m) no-message (here (c .before .before)) (c .before .before .before .loop .inv .1)
+    passed-stop message-steps (messages (entry-before-then1 c)) (at-loop-before-then1 c .loop .m) no-message (here (c .before .before)) (at-loop-before-then1 c .loop .inv .1)
     (sym (fails _ (sym (right (c .before .before)) ∙ lt-leb _ 256 (c .if1 .taken))))
 
 mul-x : tie.Need-mul-x Inv-loop μ-loop
 mul-x c = let k = inside (c .before .before) in search needs
 
 shared-slice-read-x : tie.Need-shared-slice-read-x Inv-loop μ-loop
-shared-slice-read-x c = let k = inside (c .before .before .before) in omega arith
+shared-slice-read-x c = let k = inside (in-loop-before-shared-slice-known3 c) in omega arith
 
 add-y : tie.Need-add-y Inv-loop μ-loop
-add-y c = let k = inside (c .before .before .before) in search needs
+add-y c = let k = inside (in-loop-before-shared-slice-known3 c) in search needs
 
 mul-y : tie.Need-mul-y Inv-loop μ-loop
-mul-y c = let k = inside (c .before .before .before) in search needs
+mul-y c = let k = inside (in-loop-before-shared-slice-known3 c) in search needs
 
 shared-slice-read-y : tie.Need-shared-slice-read-y Inv-loop μ-loop
-shared-slice-read-y c = let k = inside (c .before .before .before .before) in omega arith
+shared-slice-read-y c = let k = inside (in-loop-before-shared-slice-known4 c) in omega arith
 
 is-above-requires : tie.Need-is-above-requires Inv-loop μ-loop
 is-above-requires c κs = search needs
 
 is-new-requires : tie.Need-is-new-requires Inv-loop μ-loop
-is-new-requires c κs = let h = here (c .before .before .before .before .before .before) in (c .before .before .before .before .before .before .before .before .before .before .pre .0, c .before .before .before .before .before .before .before .before .before .before .pre .1, omega arith)
+is-new-requires c κs = let h = here (in-loop-before-else2 c) in (entry-before-else2 c .pre .0, entry-before-else2 c .pre .1, omega arith)
 
 returns-2 : tie.Need-returns-2 Inv-loop μ-loop
 returns-2 c =
-    let f : not (any (same-id (current (c .before .before .before .before .before .before .before .before))) (ids (take (c .before .before .before .before .before .before .before .before .before .loop .m) (messages (c .before .before .before .before .before .before .before .before .before .before .before .before))))) ≡ false = answered-no (c .before .is-new .ensures) (c .if3 .taken) in
-    passed-stop message-steps (messages (c .before .before .before .before .before .before .before .before .before .before .before .before)) (c .before .before .before .before .before .before .before .before .before .loop .m) no-message (here (c .before .before .before .before .before .before .before .before)) (c .before .before .before .before .before .before .before .before .before .loop .inv .1)
-    (sym (passes (sym (right (c .before .before .before .before .before .before .before .before)) ∙ le-leb _ 256 (c .before .before .before .before .before .before .if1 .left))
-    (sym (subst (λ (x : Id). not (any (same-id x) (ids (take (c .before .before .before .before .before .before .before .before .before .loop .m) (messages (c .before .before .before .before .before .before .before .before .before .before .before .before))))) ≡ false) (id (c .before .before .before .before .before .before .before .before)) f))))
+    let f : not (any (same-id (current (in-loop-before-then3 c))) (ids (take (at-loop-before-then3 c .loop .m) (messages (entry-before-then3 c))))) ≡ false = answered-no (c .before .is-new .ensures) (c .if3 .taken) in
+    passed-stop message-steps (messages (entry-before-then3 c)) (at-loop-before-then3 c .loop .m) no-message (here (in-loop-before-then3 c)) (at-loop-before-then3 c .loop .inv .1)
+    (sym (passes (sym (right (in-loop-before-then3 c)) ∙ le-leb _ 256 (else1-before-then3 c .if1 .left))
+    (sym (subst (λ (x : Id). not (any (same-id x) (ids (take (at-loop-before-then3 c .loop .m) (messages (entry-before-then3 c))))) ≡ false) (id (in-loop-before-then3 c)) f))))
 
 add-m : tie.Need-add-m Inv-loop μ-loop
 add-m c = search needs
@@ -179,17 +231,17 @@ loop-less c = search needs
 
 loop-again : tie.Need-loop-again Inv-loop μ-loop
 loop-again c =
-    let l = messages (c .before .before .before .before .before .before .before .before .before .before) in
-    let m = c .before .before .before .before .before .before .before .loop .m in
-    let h = here (c .before .before .before .before .before .before) in
-    let r = sym (right (c .before .before .before .before .before .before)) ∙ le-leb _ 256 (c .before .before .before .before .if1 .left) in
+    let l = messages (entry-before-joined2 c) in
+    let m = at-loop-before-joined2 c .loop .m in
+    let h = here (in-loop-before-joined2 c) in
+    let r = sym (right (in-loop-before-joined2 c)) ∙ le-leb _ 256 (else1-before-joined2 c .if1 .left) in
     ⊎-elim
     (λ w.
-    let n = next-greater l m (greatest (c .before .before .before .before .before .before .before)) (current (c .before .before .before .before .before .before)) h (id (c .before .before .before .before .before .before)) (c .before .before .before .before .before .before .before .loop .inv .1) (c .before .before .before .before .before .before .before .loop .inv .2) r
+    let n = next-greater l m (greatest (at-loop-before-joined2 c)) (current (in-loop-before-joined2 c)) h (id (in-loop-before-joined2 c)) (at-loop-before-joined2 c .loop .inv .1) (at-loop-before-joined2 c .loop .inv .2) r
     (sym (c .before .is-above .ensures ∙ above-after _ _ _ _) ∙ w .0 .taken) in
     (omega arith, n .0, rw (w .1, w .2) (n .1)))
     (λ w.
-    let n = next-new l m (greatest (c .before .before .before .before .before .before .before)) (current (c .before .before .before .before .before .before)) h (id (c .before .before .before .before .before .before)) (c .before .before .before .before .before .before .before .loop .inv .1) (c .before .before .before .before .before .before .before .loop .inv .2) r
+    let n = next-new l m (greatest (at-loop-before-joined2 c)) (current (in-loop-before-joined2 c)) h (id (in-loop-before-joined2 c)) (at-loop-before-joined2 c .loop .inv .1) (at-loop-before-joined2 c .loop .inv .2) r
     (sym (c .before .is-above .ensures ∙ above-after _ _ _ _) ∙ w .0 .left) (answered-yes (w .1 .ensures) (w .2 .left)) in
     (omega arith, n .0, rw (w .3, w .4) (n .1)))
     (c .if2 .came)
@@ -197,8 +249,8 @@ loop-again c =
 returns-3 : tie.Need-returns-3 Inv-loop μ-loop
 returns-3 c =
     let n = counted (c .before .before) in
-    let l : length (messages (c .before .before .before .before)) ≤ c .before .loop .m = omega arith in
-    passed-end message-steps (messages (c .before .before .before .before)) (c .before .loop .m) l (c .before .loop .inv .1)
+    let l : length (messages (entry-before-after-loop c)) ≤ c .before .loop .m = omega arith in
+    passed-end message-steps (messages (entry-before-after-loop c)) (c .before .loop .m) l (c .before .loop .inv .1)
 
 pub messages-valid-spec : {M : Type 1} → statement M
 messages-valid-spec =

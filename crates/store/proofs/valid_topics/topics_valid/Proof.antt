@@ -39,35 +39,87 @@ Inv-loop store e orders₀ n width t₀ orders t =
 abbrev μ-loop : tie.MeasureT-loop
 μ-loop store e orders₀ n width t₀ orders t = n - t
 
+-- the places: what stands before each, by name
+abbrev entry-before-word : tie.After-word Inv-loop μ-loop → tie.Start Inv-loop μ-loop
+entry-before-word c = c .before .before .before
+
+abbrev entry-before-in-loop : tie.In-loop Inv-loop μ-loop → tie.Start Inv-loop μ-loop
+entry-before-in-loop c = entry-before-word (c .before .before)
+
+abbrev entry-before-after-loop : tie.After-loop Inv-loop μ-loop → tie.Start Inv-loop μ-loop
+entry-before-after-loop c = entry-before-word (c .before .before)
+
+abbrev at-loop-before-find-topic : tie.After-find-topic Inv-loop μ-loop → tie.At-loop Inv-loop μ-loop
+at-loop-before-find-topic c = c .before .before .before
+
+abbrev entry-before-find-topic : tie.After-find-topic Inv-loop μ-loop → tie.Start Inv-loop μ-loop
+entry-before-find-topic c = entry-before-in-loop (c .before .before)
+
+abbrev in-loop-before-then1 : tie.Then1 Inv-loop μ-loop → tie.In-loop Inv-loop μ-loop
+in-loop-before-then1 c = c .before .before .before
+
+abbrev at-loop-before-then1 : tie.Then1 Inv-loop μ-loop → tie.At-loop Inv-loop μ-loop
+at-loop-before-then1 c = at-loop-before-find-topic (c .before)
+
+abbrev entry-before-then1 : tie.Then1 Inv-loop μ-loop → tie.Start Inv-loop μ-loop
+entry-before-then1 c = entry-before-find-topic (c .before)
+
+abbrev in-loop-before-else1 : tie.Else1 Inv-loop μ-loop → tie.In-loop Inv-loop μ-loop
+in-loop-before-else1 c = c .before .before .before
+
+abbrev at-loop-before-else1 : tie.Else1 Inv-loop μ-loop → tie.At-loop Inv-loop μ-loop
+at-loop-before-else1 c = at-loop-before-find-topic (c .before)
+
+abbrev entry-before-else1 : tie.Else1 Inv-loop μ-loop → tie.Start Inv-loop μ-loop
+entry-before-else1 c = entry-before-find-topic (c .before)
+
+abbrev in-loop-before-then2 : tie.Then2 Inv-loop μ-loop → tie.In-loop Inv-loop μ-loop
+in-loop-before-then2 c = in-loop-before-else1 (c .before .before)
+
+abbrev at-loop-before-then2 : tie.Then2 Inv-loop μ-loop → tie.At-loop Inv-loop μ-loop
+at-loop-before-then2 c = in-loop-before-then2 c .before
+
+abbrev entry-before-then2 : tie.Then2 Inv-loop μ-loop → tie.Start Inv-loop μ-loop
+entry-before-then2 c = entry-before-in-loop (in-loop-before-then2 c)
+
+abbrev in-loop-before-else2 : tie.Else2 Inv-loop μ-loop → tie.In-loop Inv-loop μ-loop
+in-loop-before-else2 c = in-loop-before-else1 (c .before .before)
+
+abbrev at-loop-before-else2 : tie.Else2 Inv-loop μ-loop → tie.At-loop Inv-loop μ-loop
+at-loop-before-else2 c = in-loop-before-else2 c .before
+
+abbrev entry-before-else2 : tie.Else2 Inv-loop μ-loop → tie.Start Inv-loop μ-loop
+entry-before-else2 c = entry-before-in-loop (in-loop-before-else2 c)
+
 -- the topics
 abbrev topics : tie.Start Inv-loop μ-loop → List Topic
 topics c = decode (c .args .store .now) .topics
 
 -- there are as many as the count says
-counted : (c : tie.After-word Inv-loop μ-loop) → c .word .result ≡ length (topics (c .before .before .before))
-counted c = c .word .ensures ∙ read-topic-count (c .before .before .before .pre .0)
+counted : (c : tie.After-word Inv-loop μ-loop) → c .word .result ≡ length (topics (entry-before-word c))
+counted c = c .word .ensures ∙ read-topic-count (entry-before-word c .pre .0)
 
 -- the slot of a turn lies in the table
-here : (c : tie.In-loop Inv-loop μ-loop) → c .before .loop .t < length (topics (c .before .before .before .before .before))
+here : (c : tie.In-loop Inv-loop μ-loop) → c .before .loop .t < length (topics (entry-before-in-loop c))
 here c = let n = counted (c .before .before) in omega arith
 
 -- and in the store
 inside : (c : tie.In-loop Inv-loop μ-loop)
-    → 2322 + (c .before .loop .t * (4 + 4 * c .before .before .before .before .before .args .e) + (4 + 4 * c .before .before .before .before .before .args .e)) ≤ length (c .before .before .before .before .before .args .store .now)
-inside c = topic-inside (c .before .before .before .before .before .pre .0) (c .before .loop .t) (here c)
+    → 2322 + (c .before .loop .t * (4 + 4 * entry-before-in-loop c .args .e) + (4 + 4 * entry-before-in-loop c .args .e)) ≤ length (entry-before-in-loop c .args .store .now)
+inside c = topic-inside (entry-before-in-loop c .pre .0) (c .before .loop .t) (here c)
 
 -- where the topic's number is found
 found : (c : tie.After-find-topic Inv-loop μ-loop)
-    → c .find-topic .result ≡ slot by-number (getD (topics (c .before .before .before .before .before .before .before)) (c .before .before .before .loop .t) zero-topic .number) (topics (c .before .before .before .before .before .before .before))
+    → c .find-topic .result ≡ slot by-number (getD (topics (entry-before-find-topic c)) (at-loop-before-find-topic c .loop .t) zero-topic .number) (topics (entry-before-find-topic c))
 found c =
     c .find-topic .ensures
-    ∙ ap (λ (k : ℕ). slot by-number k (topics (c .before .before .before .before .before .before .before))) (read-topic-number (c .before .before .before .before .before .before .before .pre .0) (c .before .before .before .loop .t) (here (c .before .before)))
+    ∙ ap (λ (k : ℕ). slot by-number k (topics (entry-before-find-topic c))) (read-topic-number (entry-before-find-topic c .pre .0) (at-loop-before-find-topic c .loop .t) (here (c .before .before)))
 
 -- a number found at its own slot is new
 new : (c : tie.Else1 Inv-loop μ-loop)
-    → not (any (eqb (getD (topics (c .before .before .before .before .before .before .before .before)) (c .before .before .before .before .loop .t) zero-topic .number)) (map (λ (x : Topic). x .number) (take (c .before .before .before .before .loop .t) (topics (c .before .before .before .before .before .before .before .before))))) ≡ true
+    → not (any (eqb (getD (topics (entry-before-else1 c)) (at-loop-before-else1 c .loop .t) zero-topic .number)) (map (λ (x : Topic). x .number) (take (at-loop-before-else1 c .loop .t) (topics (entry-before-else1 c))))) ≡ true
 new c =
-    ap not (slot-new by-number (getD (topics (c .before .before .before .before .before .before .before .before)) (c .before .before .before .before .loop .t) zero-topic .number) (topics (c .before .before .before .before .before .before .before .before)) (c .before .before .before .before .loop .t) (rw (found (c .before)) at (c .if1 .left)))
+    ap not (slot-new by-number (getD (topics (entry-before-else1 c)) (at-loop-before-else1 c .loop .t) zero-topic .number) (topics (entry-before-else1 c)) (at-loop-before-else1 c .loop .t) (rw (found (c .before)) at (c .if1 .left)))
 
 word-requires : tie.Need-word-requires Inv-loop μ-loop
 word-requires c κs = search needs
@@ -79,7 +131,7 @@ add-width : tie.Need-add-width Inv-loop μ-loop
 add-width c = search needs
 
 loop-holds : tie.Need-loop-holds Inv-loop μ-loop
-loop-holds c = (search needs, passed-start (topic-steps (c .before .before .before .args .e)) (topics (c .before .before .before)), c .before .before .before .pre .1 .0, c .before .before .before .pre .1 .1)
+loop-holds c = (search needs, passed-start (topic-steps (entry-before-word c .args .e)) (topics (entry-before-word c)), entry-before-word c .pre .1 .0, entry-before-word c .pre .1 .1)
 
 mul-find-topic : tie.Need-mul-find-topic Inv-loop μ-loop
 mul-find-topic c = let k = inside c in search needs
@@ -101,38 +153,38 @@ same-length c = search needs
 
 returns : tie.Need-returns Inv-loop μ-loop
 returns c =
-    let l = topics (c .before .before .before .before .before .before .before .before) in
-    let t = c .before .before .before .before .loop .t in
-    let h = here (c .before .before .before) in
+    let l = topics (entry-before-then1 c) in
+    let t = at-loop-before-then1 c .loop .t in
+    let h = here (in-loop-before-then1 c) in
     let b : t ≤ length l = omega arith in
     record {
       answer =
-          passed-stop (topic-steps (c .before .before .before .before .before .before .before .before .args .e)) l t zero-topic h (c .before .before .before .before .loop .inv .1)
+          passed-stop (topic-steps (entry-before-then1 c .args .e)) l t zero-topic h (at-loop-before-then1 c .loop .inv .1)
           (sym (fails _ (ap not (slot-seen by-number (getD l t zero-topic .number) l t b (rw (found (c .before)) at (c .if1 .taken))))));
-      known = c .before .before .before .before .loop .inv .3;
+      known = at-loop-before-then1 c .loop .inv .3;
     }
 
 topic-order-requires : tie.Need-topic-order-requires Inv-loop μ-loop
-topic-order-requires c κs = (c .before .before .before .before .before .before .before .before .pre .0, here (c .before .before .before))
+topic-order-requires c κs = (entry-before-else1 c .pre .0, here (in-loop-before-else1 c))
 
 same-length-2 : tie.Need-same-length-2 Inv-loop μ-loop
 same-length-2 c = search needs
 
 returns-2 : tie.Need-returns-2 Inv-loop μ-loop
 returns-2 c =
-    let a = c .before .before .before .before .before .before .before .before .before .before .args in
+    let a = entry-before-then2 c .args in
     record {
       answer =
-          passed-stop (topic-steps (a .e)) (topics (c .before .before .before .before .before .before .before .before .before .before)) (c .before .before .before .before .before .before .loop .t) zero-topic (here (c .before .before .before .before .before)) (c .before .before .before .before .before .before .loop .inv .1)
-          (sym (passes (new (c .before .before)) (sym (order-none (a .e) (a .store .now) (c .before .before .before .before .before .before .loop .t) (c .before .topic-order .ensures) (c .if2 .taken)))));
-      known = c .before .before .before .before .before .before .loop .inv .3;
+          passed-stop (topic-steps (a .e)) (topics (entry-before-then2 c)) (at-loop-before-then2 c .loop .t) zero-topic (here (in-loop-before-then2 c)) (at-loop-before-then2 c .loop .inv .1)
+          (sym (passes (new (c .before .before)) (sym (order-none (a .e) (a .store .now) (at-loop-before-then2 c .loop .t) (c .before .topic-order .ensures) (c .if2 .taken)))));
+      known = at-loop-before-then2 c .loop .inv .3;
     }
 
 slice-write-orders : tie.Need-slice-write-orders Inv-loop μ-loop
 slice-write-orders c =
-    let h = here (c .before .before .before .before .before) in
-    let f = c .before .before .before .before .before .before .before .before .before .before .pre .0 .shaped .topics-fit in
-    let l = c .before .before .before .before .before .before .loop .inv .2 in
+    let h = here (in-loop-before-else2 c) in
+    let f = entry-before-else2 c .pre .0 .shaped .topics-fit in
+    let l = at-loop-before-else2 c .loop .inv .2 in
     omega arith
 
 add-t : tie.Need-add-t Inv-loop μ-loop
@@ -143,15 +195,15 @@ loop-less c = search needs
 
 loop-again : tie.Need-loop-again Inv-loop μ-loop
 loop-again c =
-    let a = c .before .before .before .before .before .before .before .before .before .before .args in
-    let h = here (c .before .before .before .before .before) in
-    let f = c .before .before .before .before .before .before .before .before .before .before .pre .0 .shaped .topics-fit in
-    let l = c .before .before .before .before .before .before .loop .inv .2 in (
+    let a = entry-before-else2 c .args in
+    let h = here (in-loop-before-else2 c) in
+    let f = entry-before-else2 c .pre .0 .shaped .topics-fit in
+    let l = at-loop-before-else2 c .loop .inv .2 in (
       search needs,
-      passed-turn (topic-steps (a .e)) (topics (c .before .before .before .before .before .before .before .before .before .before)) (c .before .before .before .before .before .before .loop .t) zero-topic h (c .before .before .before .before .before .before .loop .inv .1)
-          (sym (passes (new (c .before .before)) (sym (order-some (a .e) (a .store .now) (c .before .before .before .before .before .before .loop .t) (c .before .topic-order .ensures) (c .if2 .left))))),
-      length-set (c .before .before .before .before .before .before .loop .orders) (c .before .before .before .before .before .before .loop .t) (c .before .topic-order .result) ∙ l,
-      known-more (a .e) (a .store .now) (c .before .before .before .before .before .before .loop .orders) (c .before .before .before .before .before .before .loop .t) (c .before .topic-order .result) (omega arith) (c .before .topic-order .ensures) (c .before .before .before .before .before .before .loop .inv .3),
+      passed-turn (topic-steps (a .e)) (topics (entry-before-else2 c)) (at-loop-before-else2 c .loop .t) zero-topic h (at-loop-before-else2 c .loop .inv .1)
+          (sym (passes (new (c .before .before)) (sym (order-some (a .e) (a .store .now) (at-loop-before-else2 c .loop .t) (c .before .topic-order .ensures) (c .if2 .left))))),
+      length-set (at-loop-before-else2 c .loop .orders) (at-loop-before-else2 c .loop .t) (c .before .topic-order .result) ∙ l,
+      known-more (a .e) (a .store .now) (at-loop-before-else2 c .loop .orders) (at-loop-before-else2 c .loop .t) (c .before .topic-order .result) (omega arith) (c .before .topic-order .ensures) (at-loop-before-else2 c .loop .inv .3),
     )
 
 same-length-3 : tie.Need-same-length-3 Inv-loop μ-loop
@@ -160,9 +212,9 @@ same-length-3 c = search needs
 returns-3 : tie.Need-returns-3 Inv-loop μ-loop
 returns-3 c =
     let n = counted (c .before .before) in
-    let l : length (topics (c .before .before .before .before .before)) ≤ c .before .loop .t = omega arith in
+    let l : length (topics (entry-before-after-loop c)) ≤ c .before .loop .t = omega arith in
     record {
-      answer = passed-end (topic-steps (c .before .before .before .before .before .args .e)) (topics (c .before .before .before .before .before)) (c .before .loop .t) l (c .before .loop .inv .1);
+      answer = passed-end (topic-steps (entry-before-after-loop c .args .e)) (topics (entry-before-after-loop c)) (c .before .loop .t) l (c .before .loop .inv .1);
       known = c .before .loop .inv .3;
     }
 

@@ -17,40 +17,71 @@ use borrow.Author.Needs.{needs}
 use Rattle.turns.proofs.due.due_with.Statement.{statement}
 use Rattle.turns.proofs.due.due_with.Tie as tie
 
+-- the places: what stands before each, by name
+abbrev entry-before-slice-known2 : tie.After-slice-known2 → tie.Start
+entry-before-slice-known2 c = c .before .before .before
+
+abbrev entry-before-dispatcher-at : tie.After-dispatcher-at → tie.Start
+entry-before-dispatcher-at c = entry-before-slice-known2 (c .before)
+
+abbrev entry-before-shared-slice-known2 : tie.After-shared-slice-known2 → tie.Start
+entry-before-shared-slice-known2 c = entry-before-dispatcher-at (c .before)
+
+abbrev entry-before-find-topic : tie.After-find-topic → tie.Start
+entry-before-find-topic c = entry-before-shared-slice-known2 (c .before)
+
+abbrev entry-before-ring-slots-arg : tie.After-ring-slots-arg → tie.Start
+entry-before-ring-slots-arg c = entry-before-find-topic (c .before .before)
+
+abbrev ring-slots-before-due-turns-arg2 : tie.After-due-turns-arg2 → tie.After-ring-slots
+ring-slots-before-due-turns-arg2 c = c .before .before .before .before
+
+abbrev ledger-length-before-due-turns-arg2 : tie.After-due-turns-arg2 → tie.After-ledger-length
+ledger-length-before-due-turns-arg2 c = ring-slots-before-due-turns-arg2 c .before .before
+
+abbrev find-topic-before-due-turns-arg2 : tie.After-due-turns-arg2 → tie.After-find-topic
+find-topic-before-due-turns-arg2 c = ledger-length-before-due-turns-arg2 c .before
+
+abbrev dispatcher-at-before-due-turns-arg2 : tie.After-due-turns-arg2 → tie.After-dispatcher-at
+dispatcher-at-before-due-turns-arg2 c = find-topic-before-due-turns-arg2 c .before .before
+
+abbrev entry-before-due-turns-arg2 : tie.After-due-turns-arg2 → tie.Start
+entry-before-due-turns-arg2 c = entry-before-find-topic (find-topic-before-due-turns-arg2 c)
+
 -- the dispatcher is there
 there : (c : tie.Start) → Dispatcher-in (c .args .e) (c .args .store .now) (c .args .d)
 there c = dispatcher-in (canon-of (c .args .e) (c .args .store .now) (c .pre .0) (c .pre .1)) (c .args .d) (c .pre .2)
 
 dispatcher-at-requires : tie.Need-dispatcher-at-requires
-dispatcher-at-requires c κs = let h = there (c .before .before .before) in let e = h .canon .E-to in let f = h .few in (omega arith, omega arith)
+dispatcher-at-requires c κs = let h = there (entry-before-slice-known2 c) in let e = h .canon .E-to in let f = h .few in (omega arith, omega arith)
 
 mul-number : tie.Need-mul-number
-mul-number c = let h = there (c .before .before .before .before) in let i = h .inside in let l = h .canon .long in let a = c .dispatcher-at .ensures in let e = h .canon .E-to in omega arith
+mul-number c = let h = there (entry-before-dispatcher-at c) in let i = h .inside in let l = h .canon .long in let a = c .dispatcher-at .ensures in let e = h .canon .E-to in omega arith
 
 shared-slice-read-number : tie.Need-shared-slice-read-number
-shared-slice-read-number c = let h = there (c .before .before .before .before .before) in let i = h .inside in let l = h .canon .long in let a = c .before .dispatcher-at .ensures in omega arith
+shared-slice-read-number c = let h = there (entry-before-shared-slice-known2 c) in let i = h .inside in let l = h .canon .long in let a = c .before .dispatcher-at .ensures in omega arith
 
 find-topic-requires : tie.Need-find-topic-requires
-find-topic-requires c κs = there (c .before .before .before .before .before) .canon
+find-topic-requires c κs = there (entry-before-shared-slice-known2 c) .canon
 
 ledger-length-requires : tie.Need-ledger-length-requires
-ledger-length-requires c κs = there (c .before .before .before .before .before .before) .canon
+ledger-length-requires c κs = there (entry-before-find-topic c) .canon
 
 ring-slots-requires : tie.Need-ring-slots-requires
-ring-slots-requires c κs = (there (c .before .before .before .before .before .before .before .before), c .before .before .before .before .before .before .before .before .pre .3)
+ring-slots-requires c κs = (there (entry-before-ring-slots-arg c), entry-before-ring-slots-arg c .pre .3)
 
 due-turns-requires : tie.Need-due-turns-requires
 due-turns-requires c κs =
-    let a = c .before .before .before .before .before .before .before .before .before .before .before .before .before .args in
-    let p = c .before .before .before .before .before .before .before .before .before .before .before .before .before .pre in
+    let a = entry-before-due-turns-arg2 c .args in
+    let p = entry-before-due-turns-arg2 c .pre in
     let ws = a .store .now in
     let s = decode ws in
-    let h = there (c .before .before .before .before .before .before .before .before .before .before .before .before .before) in
-    let w : getD ws (c .before .before .before .before .before .before .before .before .before .dispatcher-at .result) 0 ≡ dispatcher-nth s (a .d) .pair .topic =
-    ap (λ (k : ℕ). getD ws k 0) (c .before .before .before .before .before .before .before .before .before .dispatcher-at .ensures) ∙ read-dispatcher-topic (h .canon) (a .d) (h .there) in
-    let v = serving-now ws (a .d) (p .0) (p .2) (a .e) (c .before .before .before .before .before .before .before .find-topic .result) (c .before .before .before .before .before .before .ledger-length .result) (p .1)
-    (c .before .before .before .before .before .before .before .find-topic .ensures ∙ ap (λ (k : ℕ). slot by-number k (s .topics)) w) (c .before .before .before .before .before .before .ledger-length .ensures ∙ ap (λ (k : ℕ). length (ledger-of s k)) w) in
-    let r = c .before .before .before .before .ring-slots .ensures in
+    let h = there (entry-before-due-turns-arg2 c) in
+    let w : getD ws (dispatcher-at-before-due-turns-arg2 c .dispatcher-at .result) 0 ≡ dispatcher-nth s (a .d) .pair .topic =
+    ap (λ (k : ℕ). getD ws k 0) (dispatcher-at-before-due-turns-arg2 c .dispatcher-at .ensures) ∙ read-dispatcher-topic (h .canon) (a .d) (h .there) in
+    let v = serving-now ws (a .d) (p .0) (p .2) (a .e) (find-topic-before-due-turns-arg2 c .find-topic .result) (ledger-length-before-due-turns-arg2 c .ledger-length .result) (p .1)
+    (find-topic-before-due-turns-arg2 c .find-topic .ensures ∙ ap (λ (k : ℕ). slot by-number k (s .topics)) w) (ledger-length-before-due-turns-arg2 c .ledger-length .ensures ∙ ap (λ (k : ℕ). length (ledger-of s k)) w) in
+    let r = ring-slots-before-due-turns-arg2 c .ring-slots .ensures in
     let n = ap (λ (l : List ℕ). length l) r in
     let m = ring-length s (dispatcher-nth s (a .d)) in
     let x = next-in-ring ws (a .d) (p .0) (p .2) (a .e) (p .1) in

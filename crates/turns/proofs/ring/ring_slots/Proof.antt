@@ -22,18 +22,37 @@ Inv-loop store e d ring₀ at j₀ ring j =
 abbrev μ-loop : tie.MeasureT-loop
 μ-loop store e d ring₀ at j₀ ring j = length ring₀ - j
 
+-- the places: what stands before each, by name
+abbrev entry-before-in-loop : tie.In-loop Inv-loop μ-loop → tie.Start Inv-loop μ-loop
+entry-before-in-loop c = c .before .before .before .before .before
+
+abbrev entry-before-after-loop : tie.After-loop Inv-loop μ-loop → tie.Start Inv-loop μ-loop
+entry-before-after-loop c = c .before .before .before .before .before
+
+abbrev entry-before-shared-slice-known2 : tie.After-shared-slice-known2 Inv-loop μ-loop → tie.Start Inv-loop μ-loop
+entry-before-shared-slice-known2 c = entry-before-in-loop (c .before)
+
+abbrev at-loop-before-slot-of : tie.After-slot-of Inv-loop μ-loop → tie.At-loop Inv-loop μ-loop
+at-loop-before-slot-of c = c .before .before .before
+
+abbrev dispatcher-at-before-slot-of : tie.After-slot-of Inv-loop μ-loop → tie.After-dispatcher-at Inv-loop μ-loop
+dispatcher-at-before-slot-of c = at-loop-before-slot-of c .before
+
+abbrev entry-before-slot-of : tie.After-slot-of Inv-loop μ-loop → tie.Start Inv-loop μ-loop
+entry-before-slot-of c = entry-before-shared-slice-known2 (c .before)
+
 -- the place of a turn is one of the ring's
-here : (c : tie.In-loop Inv-loop μ-loop) → c .before .loop .j < length (dispatcher-nth (decode (c .before .before .before .before .before .args .store .now)) (c .before .before .before .before .before .args .d) .attached)
-here c = let p = c .before .before .before .before .before .pre .1 in let t = c .loop-test .taken in omega arith
+here : (c : tie.In-loop Inv-loop μ-loop) → c .before .loop .j < length (dispatcher-nth (decode (entry-before-in-loop c .args .store .now)) (entry-before-in-loop c .args .d) .attached)
+here c = let p = entry-before-in-loop c .pre .1 in let t = c .loop-test .taken in omega arith
 
 -- its word lies in the store
-inside : (c : tie.In-loop Inv-loop μ-loop) → c .before .before .dispatcher-at .result + 12 + c .before .loop .j < length (c .before .before .before .before .before .args .store .now)
+inside : (c : tie.In-loop Inv-loop μ-loop) → c .before .before .dispatcher-at .result + 12 + c .before .loop .j < length (entry-before-in-loop c .args .store .now)
 inside c =
     let h = here c in
-    let f = c .before .before .before .before .before .pre .0 .lists-fit .ring-fits in
+    let f = entry-before-in-loop c .pre .0 .lists-fit .ring-fits in
     let a = c .before .before .dispatcher-at .ensures in
-    let i = c .before .before .before .before .before .pre .0 .inside in
-    let l = c .before .before .before .before .before .pre .0 .canon .long in
+    let i = entry-before-in-loop c .pre .0 .inside in
+    let l = entry-before-in-loop c .pre .0 .canon .long in
     omega arith
 
 dispatcher-at-requires : tie.Need-dispatcher-at-requires Inv-loop μ-loop
@@ -55,7 +74,7 @@ shared-slice-read-slot-of : tie.Need-shared-slice-read-slot-of Inv-loop μ-loop
 shared-slice-read-slot-of c = let k = inside (c .before) in omega arith
 
 slot-of-requires : tie.Need-slot-of-requires Inv-loop μ-loop
-slot-of-requires c κs = c .before .before .before .before .before .before .pre .0 .canon
+slot-of-requires c κs = entry-before-shared-slice-known2 c .pre .0 .canon
 
 mul-ring : tie.Need-mul-ring Inv-loop μ-loop
 mul-ring c = search needs
@@ -71,14 +90,14 @@ loop-less c = search needs
 
 loop-again : tie.Need-loop-again Inv-loop μ-loop
 loop-again c =
-    let a = c .before .before .before .before .before .before .before .args in
-    let p = c .before .before .before .before .before .before .before .pre in
+    let a = entry-before-slot-of c .args in
+    let p = entry-before-slot-of c .pre in
     let s = decode (a .store .now) in
-    let w = ring-here (a .d) (c .before .before .before .before .dispatcher-at .result) (p .0) (c .before .before .before .before .dispatcher-at .ensures) (c .before .before .before .loop .j) (here (c .before .before)) in (
+    let w = ring-here (a .d) (dispatcher-at-before-slot-of c .dispatcher-at .result) (p .0) (dispatcher-at-before-slot-of c .dispatcher-at .ensures) (at-loop-before-slot-of c .loop .j) (here (c .before .before)) in (
       search needs,
       search needs,
-      written-on (λ (i : ℕ). slot by-id i (s .consumers)) (dispatcher-nth s (a .d) .attached) (a .ring .now) (c .before .before .before .loop .ring) (c .before .before .before .loop .j) (c .slot-of .result)
-          (here (c .before .before)) (p .1) (c .before .before .before .loop .inv .2) (c .slot-of .ensures ∙ ap (λ (i : ℕ). slot by-id i (s .consumers)) w),
+      written-on (λ (i : ℕ). slot by-id i (s .consumers)) (dispatcher-nth s (a .d) .attached) (a .ring .now) (at-loop-before-slot-of c .loop .ring) (at-loop-before-slot-of c .loop .j) (c .slot-of .result)
+          (here (c .before .before)) (p .1) (at-loop-before-slot-of c .loop .inv .2) (c .slot-of .ensures ∙ ap (λ (i : ℕ). slot by-id i (s .consumers)) w),
     )
 
 same-length : tie.Need-same-length Inv-loop μ-loop
@@ -87,8 +106,8 @@ same-length c = search needs
 returns : tie.Need-returns Inv-loop μ-loop
 unfolding fixed-of
 returns c =
-    let a = c .before .before .before .before .before .args in
-    let p = c .before .before .before .before .before .pre in
+    let a = entry-before-after-loop c .args in
+    let p = entry-before-after-loop c .pre in
     let s = decode (a .store .now) in
     let t = c .loop-test .left in
     written-all (λ (i : ℕ). slot by-id i (s .consumers)) (dispatcher-nth s (a .d) .attached) (a .ring .now) (c .before .loop .ring) (c .before .loop .j) (omega arith) (p .1) (c .before .loop .inv .2)

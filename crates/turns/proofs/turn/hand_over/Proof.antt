@@ -14,43 +14,44 @@ use borrow.Author.Needs.{needs}
 use Rattle.turns.proofs.turn.hand_over.Statement.{statement}
 use Rattle.turns.proofs.turn.hand_over.Tie as tie
 
--- src/turn.rt:68:9
+-- the places: what stands before each, by name
+abbrev entry-before-price : tie.After-price → tie.Start
+entry-before-price c = c .before .before .before
+
+abbrev entry-before-slice-known2 : tie.After-slice-known2 → tie.Start
+entry-before-slice-known2 c = entry-before-price (c .before)
+
+abbrev entry-before-dispatch-from : tie.After-dispatch-from → tie.Start
+entry-before-dispatch-from c = entry-before-slice-known2 (c .before)
+
 price-requires : tie.Need-price-requires
 price-requires c κs = search needs
 
--- src/turn.rt:69:16
 mul-left : tie.Need-mul-left
-mul-left c = let h = above-in (c .before .before .before .args .permits .now) (c .before .before .before .args .c) (c .before .before .before .pre .2) in search needs
+mul-left c = let h = above-in (entry-before-price c .args .permits .now) (entry-before-price c .args .c) (entry-before-price c .pre .2) in search needs
 
--- src/turn.rt:69:16
 slice-read-left : tie.Need-slice-read-left
-slice-read-left c = above-in (c .before .before .before .before .args .permits .now) (c .before .before .before .before .args .c) (c .before .before .before .before .pre .2)
+slice-read-left c = above-in (entry-before-slice-known2 c .args .permits .now) (entry-before-slice-known2 c .args .c) (entry-before-slice-known2 c .pre .2)
 
--- src/turn.rt:69:16
 sub-left : tie.Need-sub-left
 sub-left c = search needs
 
--- src/turn.rt:70:5
 mul-permits : tie.Need-mul-permits
-mul-permits c = let h = above-in (c .before .before .before .before .args .permits .now) (c .before .before .before .before .args .c) (c .before .before .before .before .pre .2) in search needs
+mul-permits c = let h = above-in (entry-before-slice-known2 c .args .permits .now) (entry-before-slice-known2 c .args .c) (entry-before-slice-known2 c .pre .2) in search needs
 
--- src/turn.rt:70:5
 slice-write-permits : tie.Need-slice-write-permits
-slice-write-permits c = above-in (c .before .before .before .before .args .permits .now) (c .before .before .before .before .args .c) (c .before .before .before .before .pre .2)
+slice-write-permits c = above-in (entry-before-slice-known2 c .args .permits .now) (entry-before-slice-known2 c .args .c) (entry-before-slice-known2 c .pre .2)
 
--- src/turn.rt:77:22
 dispatch-from-requires : tie.Need-dispatch-from-requires
 dispatch-from-requires c κs = search needs
 
--- src/turn.rt:50:1
 same-length : tie.Need-same-length
 same-length c = search needs
 
--- src/turn.rt:50:1
 returns : tie.Need-returns
 unfolding turn-of numbers-of local-from step-of dispatched
 returns c =
-    let a = c .before .before .before .before .before .args in
+    let a = entry-before-dispatch-from c .args in
     let left = getD (a .permits .now) (a .c) 0 - c .before .before .price .result in (
       ap (λ (h : numbers.Head). move (record { consumer = a .c; position = a .k; price = c .before .before .price .result; permits = left }) (local-from (set (a .permits .now) (a .c) left) h (a .taken))) (c .dispatch-from .ensures)
           ∙ handed (fixed-of (decode (a .store .now)) (dispatcher-nth (decode (a .store .now)) (a .d))) (a .permits .now) (a .next) (a .cursor) (a .head .«total_available_permits») (a .taken) (a .c) (a .k) (c .before .before .price .result) (c .before .before .price .ensures .0),

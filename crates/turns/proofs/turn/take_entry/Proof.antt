@@ -15,84 +15,109 @@ use borrow.Author.Needs.{needs}
 use Rattle.turns.proofs.turn.take_entry.Statement.{statement}
 use Rattle.turns.proofs.turn.take_entry.Tie as tie
 
--- src/turn.rt:98:16
+-- the places: what stands before each, by name
+abbrev queue-count-before-hand-over-arg : tie.After-hand-over-arg → tie.After-queue-count
+queue-count-before-hand-over-arg c = c .before .before .before
+
+abbrev entry-before-hand-over-arg : tie.After-hand-over-arg → tie.Start
+entry-before-hand-over-arg c = queue-count-before-hand-over-arg c .before .before .before
+
+abbrev queue-count-before-dispatch-from : tie.After-dispatch-from → tie.After-queue-count
+queue-count-before-dispatch-from c = c .before .before .before
+
+abbrev entry-before-dispatch-from : tie.After-dispatch-from → tie.Start
+entry-before-dispatch-from c = queue-count-before-dispatch-from c .before .before .before
+
+abbrev queued-before-slice-known2 : tie.After-slice-known2 → tie.After-queued
+queued-before-slice-known2 c = c .before .before .before .before
+
+abbrev then1-before-slice-known2 : tie.After-slice-known2 → tie.Then1
+then1-before-slice-known2 c = queued-before-slice-known2 c .before
+
+abbrev queue-count-before-slice-known2 : tie.After-slice-known2 → tie.After-queue-count
+queue-count-before-slice-known2 c = then1-before-slice-known2 c .before
+
+abbrev entry-before-slice-known2 : tie.After-slice-known2 → tie.Start
+entry-before-slice-known2 c = entry-before-hand-over-arg (c .before .before .before)
+
+abbrev then2-before-slice-known3 : tie.After-slice-known3 → tie.Then2
+then2-before-slice-known3 c = c .before .before .before .before
+
+abbrev else1-before-slice-known3 : tie.After-slice-known3 → tie.Else1
+else1-before-slice-known3 c = then2-before-slice-known3 c .before
+
+abbrev queue-count-before-slice-known3 : tie.After-slice-known3 → tie.After-queue-count
+queue-count-before-slice-known3 c = else1-before-slice-known3 c .before
+
+abbrev entry-before-slice-known3 : tie.After-slice-known3 → tie.Start
+entry-before-slice-known3 c = queue-count-before-slice-known3 c .before .before .before
+
 queue-count-requires : tie.Need-queue-count-requires
 queue-count-requires c κs = search needs
 
--- src/turn.rt:99:13
 queued-requires : tie.Need-queued-requires
 queued-requires c κs = search needs
 
--- src/turn.rt:112:13
 add-hand-over : tie.Need-add-hand-over
 add-hand-over c = search needs
 
--- src/turn.rt:100:9
 hand-over-requires : tie.Need-hand-over-requires
 hand-over-requires c κs =
-    let a = c .before .before .before .before .before .before .args in
-    let p = c .before .before .before .before .before .before .pre in
-    let n = c .before .before .before .queue-count .ensures in
+    let a = entry-before-hand-over-arg c .args in
+    let p = entry-before-hand-over-arg c .pre in
+    let n = queue-count-before-hand-over-arg c .queue-count .ensures in
     let t = c .before .before .if1 .taken in
     let k = every-nth {P = λ (i : ℕ). i < a .n} (dispatcher-nth (decode (a .store .now)) (a .d) .redelivery) (a .taken) 0 (p .0 .queue-in-ledger) (omega arith) in
     let q = c .before .queued .ensures in
     (p .0, omega arith, p .1, p .2)
 
--- src/turn.rt:100:9
 same-length : tie.Need-same-length
 same-length c = search needs
 
--- src/turn.rt:100:9
 returns : tie.Need-returns
 unfolding local-from fixed-of
 returns c =
-    let a = c .before .before .before .before .before .before .before .before .before .args in
-    let n = c .before .before .before .before .before .before .queue-count .ensures in
-    let t = c .before .before .before .before .before .if1 .taken in
+    let a = entry-before-slice-known2 c .args in
+    let n = queue-count-before-slice-known2 c .queue-count .ensures in
+    let t = then1-before-slice-known2 c .if1 .taken in
     let e : a .taken + 1 ≡ suc (a .taken) = omega arith in (
-      c .before .before .hand-over .ensures .0 ∙ entry-queued (fixed-of (decode (a .store .now)) (dispatcher-nth (decode (a .store .now)) (a .d))) (local-from (a .permits .now) (a .head) (a .taken)) (a .next) (a .c) (a .taken + 1) (c .before .before .before .before .queued .result) (omega arith) e (c .before .before .before .before .queued .ensures),
+      c .before .before .hand-over .ensures .0 ∙ entry-queued (fixed-of (decode (a .store .now)) (dispatcher-nth (decode (a .store .now)) (a .d))) (local-from (a .permits .now) (a .head) (a .taken)) (a .next) (a .c) (a .taken + 1) (queued-before-slice-known2 c .queued .result) (omega arith) e (queued-before-slice-known2 c .queued .ensures),
       c .before .before .hand-over .ensures .1,
     )
 
--- src/turn.rt:127:13
 add-hand-over-2 : tie.Need-add-hand-over-2
 add-hand-over-2 c = search needs
 
--- src/turn.rt:116:9
 hand-over-requires-2 : tie.Need-hand-over-requires-2
 hand-over-requires-2 c κs = search needs
 
--- src/turn.rt:116:9
 same-length-2 : tie.Need-same-length-2
 same-length-2 c = search needs
 
--- src/turn.rt:116:9
 returns-2 : tie.Need-returns-2
 unfolding local-from fixed-of
 returns-2 c =
-    let a = c .before .before .before .before .before .before .before .before .before .args in
-    let n = c .before .before .before .before .before .before .queue-count .ensures in
-    let t = c .before .before .before .before .before .if1 .left in
-    let u = c .before .before .before .before .if2 .taken in
-    let m = c .before .before .before .before .before .before .before .before .before .pre .0 .ledger-length in
+    let a = entry-before-slice-known3 c .args in
+    let n = queue-count-before-slice-known3 c .queue-count .ensures in
+    let t = else1-before-slice-known3 c .if1 .left in
+    let u = then2-before-slice-known3 c .if2 .taken in
+    let m = entry-before-slice-known3 c .pre .0 .ledger-length in
     let e : a .head .cursor + 1 ≡ suc (a .head .cursor) = omega arith in (
       c .before .before .hand-over2 .ensures .0 ∙ entry-waiting (fixed-of (decode (a .store .now)) (dispatcher-nth (decode (a .store .now)) (a .d))) (local-from (a .permits .now) (a .head) (a .taken)) (a .next) (a .c) (a .head .cursor + 1) (omega arith) (omega arith) e,
       c .before .before .hand-over2 .ensures .1,
     )
 
--- src/turn.rt:131:16
 dispatch-from-requires : tie.Need-dispatch-from-requires
 dispatch-from-requires c κs = search needs
 
--- src/turn.rt:81:1
 returns-3 : tie.Need-returns-3
 unfolding turn-of numbers-of local-from fixed-of dispatched
 returns-3 c =
-    let a = c .before .before .before .before .before .before .args in
-    let n = c .before .before .before .queue-count .ensures in
+    let a = entry-before-dispatch-from c .args in
+    let n = queue-count-before-dispatch-from c .queue-count .ensures in
     let t = c .before .before .if1 .left in
     let u = c .before .if2 .left in
-    let m = c .before .before .before .before .before .before .pre .0 .ledger-length in (
+    let m = entry-before-dispatch-from c .pre .0 .ledger-length in (
       ap (λ (h : numbers.Head). stop (local-from (a .permits .now) h (a .taken))) (c .dispatch-from .ensures)
           ∙ entry-none (fixed-of (decode (a .store .now)) (dispatcher-nth (decode (a .store .now)) (a .d))) (local-from (a .permits .now) (a .head) (a .taken)) (a .next) (a .c) (omega arith) (omega arith),
       ap (λ (h : numbers.Head). h .«mark_delete») (c .dispatch-from .ensures),

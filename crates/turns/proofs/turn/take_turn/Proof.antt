@@ -14,83 +14,115 @@ use borrow.Author.Needs.{needs}
 use Rattle.turns.proofs.turn.take_turn.Statement.{statement}
 use Rattle.turns.proofs.turn.take_turn.Tie as tie
 
--- src/turn.rt:152:9
+-- the places: what stands before each, by name
+abbrev entry-before-then1 : tie.Then1 → tie.Start
+entry-before-then1 c = c .before .before .before .before
+
+abbrev entry-before-then2 : tie.Then2 → tie.Start
+entry-before-then2 c = c .before .before .before .before .before .before
+
+abbrev else2-before-then3 : tie.Then3 → tie.Else2
+else2-before-then3 c = c .before .before .before
+
+abbrev else1-before-then3 : tie.Then3 → tie.Else1
+else1-before-then3 c = else2-before-then3 c .before .before
+
+abbrev entry-before-then3 : tie.Then3 → tie.Start
+entry-before-then3 c = else1-before-then3 c .before .before .before .before
+
+abbrev else3-before-shared-slice-known3 : tie.After-shared-slice-known3 → tie.Else3
+else3-before-shared-slice-known3 c = c .before .before .before
+
+abbrev choose-before-shared-slice-known3 : tie.After-shared-slice-known3 → tie.After-choose
+choose-before-shared-slice-known3 c = else3-before-shared-slice-known3 c .before
+
+abbrev else2-before-shared-slice-known3 : tie.After-shared-slice-known3 → tie.Else2
+else2-before-shared-slice-known3 c = choose-before-shared-slice-known3 c .before .before
+
+abbrev entry-before-shared-slice-known3 : tie.After-shared-slice-known3 → tie.Start
+entry-before-shared-slice-known3 c = else2-before-shared-slice-known3 c .before .before .before .before .before .before
+
+abbrev place-after-before-slice-known2 : tie.After-slice-known2 → tie.After-place-after
+place-after-before-slice-known2 c = c .before .before .before .before .before
+
+abbrev else3-before-slice-known2 : tie.After-slice-known2 → tie.Else3
+else3-before-slice-known2 c = place-after-before-slice-known2 c .before
+
+abbrev choose-before-slice-known2 : tie.After-slice-known2 → tie.After-choose
+choose-before-slice-known2 c = else3-before-slice-known2 c .before
+
+abbrev else2-before-slice-known2 : tie.After-slice-known2 → tie.Else2
+else2-before-slice-known2 c = choose-before-slice-known2 c .before .before
+
+abbrev entry-before-slice-known2 : tie.After-slice-known2 → tie.Start
+entry-before-slice-known2 c = entry-before-shared-slice-known3 (c .before .before .before)
+
 returns : tie.Need-returns
 unfolding turn-of numbers-of local-from
 returns c =
-    let a = c .before .before .before .before .args in
-    let n = ap (λ (m : List ℕ). length m) (c .before .before .before .before .pre .1) in
+    let a = entry-before-then1 c .args in
+    let n = ap (λ (m : List ℕ). length m) (entry-before-then1 c .pre .1) in
     let t = c .if1 .taken in
     (turn-empty (fixed-of (decode (a .store .now)) (dispatcher-nth (decode (a .store .now)) (a .d))) (local-from (a .permits .now) (a .head) (a .taken)) (omega arith), refl)
 
--- src/turn.rt:155:9
 returns-2 : tie.Need-returns-2
 unfolding turn-of numbers-of local-from
 returns-2 c =
-    let a = c .before .before .before .before .before .before .args in
-    let n = ap (λ (m : List ℕ). length m) (c .before .before .before .before .before .before .pre .1) in
+    let a = entry-before-then2 c .args in
+    let n = ap (λ (m : List ℕ). length m) (entry-before-then2 c .pre .1) in
     let t = c .before .before .if1 .left in
     let u = c .if2 .taken in
     (turn-spent (fixed-of (decode (a .store .now)) (dispatcher-nth (decode (a .store .now)) (a .d))) (local-from (a .permits .now) (a .head) (a .taken)) (omega arith) (omega arith), refl)
 
--- src/turn.rt:157:9
 choose-requires : tie.Need-choose-requires
 choose-requires c κs = search needs
 
--- src/turn.rt:159:9
 same-length : tie.Need-same-length
 same-length c = search needs
 
--- src/turn.rt:159:9
 returns-3 : tie.Need-returns-3
 unfolding turn-of numbers-of local-from
 returns-3 c =
-    let a = c .before .before .before .before .before .before .before .before .before .args in
-    let t = c .before .before .before .before .before .if1 .left in
-    let u = c .before .before .before .if2 .left in
+    let a = entry-before-then3 c .args in
+    let t = else1-before-then3 c .if1 .left in
+    let u = else2-before-then3 c .if2 .left in
     let v = c .if3 .taken in
-    (no-place (fixed-of (decode (a .store .now)) (dispatcher-nth (decode (a .store .now)) (a .d))) (local-from (a .permits .now) (a .head) (a .taken)) (a .ring .now) (c .before .before .before .before .before .before .before .before .before .pre .1) (c .before .choose .result) (c .before .choose .ensures .0) (omega arith) (omega arith) (omega arith), refl)
+    (no-place (fixed-of (decode (a .store .now)) (dispatcher-nth (decode (a .store .now)) (a .d))) (local-from (a .permits .now) (a .head) (a .taken)) (a .ring .now) (entry-before-then3 c .pre .1) (c .before .choose .result) (c .before .choose .ensures .0) (omega arith) (omega arith) (omega arith), refl)
 
--- src/turn.rt:161:9
 place-after-requires : tie.Need-place-after-requires
 place-after-requires c κs = search needs
 
--- src/turn.rt:162:44
 mul-take-entry : tie.Need-mul-take-entry
 mul-take-entry c = search needs
 
--- src/turn.rt:162:44
 shared-slice-read-take-entry : tie.Need-shared-slice-read-take-entry
 shared-slice-read-take-entry c = search needs
 
--- src/turn.rt:162:5
 take-entry-requires : tie.Need-take-entry-requires
 unfolding local-from
 take-entry-requires c κs =
-    let a = c .before .before .before .before .before .before .before .before .before .before .before .before .args in
-    let p = c .before .before .before .before .before .before .before .before .before .before .before .before .pre in
-    let u = c .before .before .before .before .before .before .if2 .left in
-    let v = c .before .before .before .if3 .left in
-    let w = c .before .before .before .before .choose .ensures .1 in
-    let h = place-ready (fixed-of (decode (a .store .now)) (dispatcher-nth (decode (a .store .now)) (a .d))) (local-from (a .permits .now) (a .head) (a .taken)) (a .ring .now) (p .1) (c .before .before .before .before .choose .result) (c .before .before .before .before .choose .ensures .0) (omega arith) in
+    let a = entry-before-shared-slice-known3 c .args in
+    let p = entry-before-shared-slice-known3 c .pre in
+    let u = else2-before-shared-slice-known3 c .if2 .left in
+    let v = else3-before-shared-slice-known3 c .if3 .left in
+    let w = choose-before-shared-slice-known3 c .choose .ensures .1 in
+    let h = place-ready (fixed-of (decode (a .store .now)) (dispatcher-nth (decode (a .store .now)) (a .d))) (local-from (a .permits .now) (a .head) (a .taken)) (a .ring .now) (p .1) (choose-before-shared-slice-known3 c .choose .result) (choose-before-shared-slice-known3 c .choose .ensures .0) (omega arith) in
     (p .0, h, omega arith)
 
--- src/turn.rt:135:1
 same-length-2 : tie.Need-same-length-2
 same-length-2 c = search needs
 
--- src/turn.rt:135:1
 returns-4 : tie.Need-returns-4
 unfolding local-from slot-after
 returns-4 c =
-    let a = c .before .before .before .before .before .before .before .before .before .before .before .before .before .before .before .args in
-    let p = c .before .before .before .before .before .before .before .before .before .before .before .before .before .before .before .pre in
-    let u = c .before .before .before .before .before .before .before .before .before .if2 .left in
-    let v = c .before .before .before .before .before .before .if3 .left in
-    let w = c .before .before .before .before .before .before .before .choose .ensures .1 in (
+    let a = entry-before-slice-known2 c .args in
+    let p = entry-before-slice-known2 c .pre in
+    let u = else2-before-slice-known2 c .if2 .left in
+    let v = else3-before-slice-known2 c .if3 .left in
+    let w = choose-before-slice-known2 c .choose .ensures .1 in (
       c .before .before .take-entry .ensures .0
-          ∙ ap (λ (n : ℕ). take-entry (fixed-of (decode (a .store .now)) (dispatcher-nth (decode (a .store .now)) (a .d))) (local-from (a .permits .now) (a .head) (a .taken)) n (getD (a .ring .now) (c .before .before .before .before .before .before .before .choose .result) 0)) (c .before .before .before .before .before .place-after .ensures)
-          ∙ at-place (fixed-of (decode (a .store .now)) (dispatcher-nth (decode (a .store .now)) (a .d))) (local-from (a .permits .now) (a .head) (a .taken)) (a .ring .now) (p .1) (c .before .before .before .before .before .before .before .choose .result) (c .before .before .before .before .before .before .before .choose .ensures .0) (omega arith) (omega arith),
+          ∙ ap (λ (n : ℕ). take-entry (fixed-of (decode (a .store .now)) (dispatcher-nth (decode (a .store .now)) (a .d))) (local-from (a .permits .now) (a .head) (a .taken)) n (getD (a .ring .now) (choose-before-slice-known2 c .choose .result) 0)) (place-after-before-slice-known2 c .place-after .ensures)
+          ∙ at-place (fixed-of (decode (a .store .now)) (dispatcher-nth (decode (a .store .now)) (a .d))) (local-from (a .permits .now) (a .head) (a .taken)) (a .ring .now) (p .1) (choose-before-slice-known2 c .choose .result) (choose-before-slice-known2 c .choose .ensures .0) (omega arith) (omega arith),
       c .before .before .take-entry .ensures .1,
     )
 
