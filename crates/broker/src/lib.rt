@@ -2,26 +2,26 @@
 // pointer and a length, and answers value × 256 + number, the number 0 when done. No export
 // requires anything; the contracts are one equation for the answer and one for every lent slice.
 // Every call but opening first checks that the words spell a state, and answers 1 where they do not.
-use acks::ack::ack;
-use commands::append::append;
-use commands::command::Seek;
-use commands::command::Target;
-use commands::flow::flow;
-use commands::seek::seek;
-use membership::close::close;
-use membership::command::Kind;
-use membership::command::Subscribe;
-use membership::subscribe::subscribe;
-use pending::command::push;
-use receipts::redeliver::redeliver;
-use store::check::spells;
+use ack::ack;
+use append::append;
+use check_state::spells;
+use close::close;
+use flow::flow;
+use push::push;
+use redeliver::redeliver;
+use seek::command::Seek;
+use seek::command::Target;
+use seek::seek;
+use subscribe::command::Kind;
+use subscribe::command::Subscribe;
+use subscribe::subscribe;
 ghost use mathlib.Core.Path.{_≡_};
 ghost use Prim.Native.Nat.{_/_};
 ghost use lib.ListN.{length};
 ghost use Rattle.rules.specs.Calls.Call.{Append, Flow, Ack, Redeliver, Close, Push, Seek as Seek-call, Subscribe as Subscribe-call};
 ghost use Rattle.layout.specs.Fields.{pair-of};
 ghost use Rattle.layout.specs.Calls.{outcome, answer, after, list-after, open-answer, open-after};
-ghost use Rattle.ledger.specs.Ids.{message-of};
+ghost use Rattle.topic.specs.Ids.{message-of};
 ghost use Rattle.broker.specs.Exports.{target-from, kind-from};
 
 // Opens a store for `entries` entries per topic; the two switches are off at 0, else on.

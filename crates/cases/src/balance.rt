@@ -1,11 +1,13 @@
 // The balance check, which no operation makes: of each dispatcher beside its total.
 use crate::show::show_balance;
 use crate::show::show_count;
-use commands::answers::entries;
-use dispatcher::balance::balance_check;
+use balance::balance_check;
+use check_state::spells;
 use dispatcher::total::total_available_permits;
 use libc::STDOUT_FILENO;
-use store::check::spells;
+use store::answers::entries;
+use store::offsets::DISPATCHER_COUNT_AT;
+use store::offsets::DISPATCHERS_AT_E;
 use store::stretch::word;
 ghost use mathlib.Core.Path.{_≡_};
 ghost use mathlib.Core.Bool.{true};
@@ -26,7 +28,7 @@ pub(crate) fn show_balances(store: &[u64]) {
 fn show_each(store: &[u64], e: usize)
     requires { ⌜ Canon-store e (now store) × (layout.spells (now store) ≡ true) ⌝ }
 {
-    let n = word(store, 2354 + 32 * e);
+    let n = word(store, DISPATCHER_COUNT_AT + DISPATCHERS_AT_E * e);
     show_count(n as u64);
     let mut d = 0;
     while d < n {

@@ -2,8 +2,6 @@
 // printed with what the call gave, and a push with its records; a line `balance` asks for the balance
 // check of each dispatcher, and one that begins with # is a heading.
 use crate::balance::show_balances;
-use crate::line::read_line;
-use crate::line::words_of;
 use crate::name::ACK;
 use crate::name::APPEND;
 use crate::name::BALANCE;
@@ -19,15 +17,17 @@ use crate::name::SUBSCRIBE;
 use crate::show::show_outcome;
 use crate::show::show_records;
 use crate::show::show_twin;
-use crate::twin::as_records;
-use crate::twin::copy_words;
+use cases_line::read_line;
+use cases_line::words_of;
+use cases_twin::as_records;
+use cases_twin::copy_words;
 use libc::STDOUT_FILENO;
 ghost use Prim.Native.Nat.{_≤_};
 ghost use lib.ListN.{length};
 
 // Replays the input to its end, or to an empty line. The turns are counted down from a number that no
 // input reaches, since a proved loop has to end.
-pub(crate) fn replay() {
+fn replay() {
     let mut store = [0u64; 8192];
     let mut turns = 18446744073709551615u64;
     while turns > 0 && replay_line(&mut store) {

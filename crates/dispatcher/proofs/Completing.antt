@@ -10,16 +10,16 @@ use lib.ListN.{length, getD, set, take, drop, drop-of-length-le, length-set, len
 use lib.Seq.{drop-cons}
 use Rattle.rules.specs.Table.{keep}
 use Rattle.rules.specs.State.{Held, Mark, Dispatcher, State, new-mark}
-use Rattle.heads.specs.declared.Head as numbers
-use Rattle.heads.specs.Moves.{advanced}
+use Rattle.head.specs.declared.Head as numbers
+use Rattle.head.specs.Moves.{advanced}
 use Rattle.dispatcher.specs.Values.{head-of, with-head}
 use Rattle.rules.specs.Dispatcher.{with-mark-delete, with-places, mark-at, complete-at, drop-complete, leading-complete, advance-mark-delete}
 use Rattle.layout.specs.Layout.{decode, put}
 use Rattle.layout.specs.Whole.{Shaped-dispatcher}
 use Rattle.layout.specs.Fields.{zero-held, dispatcher-nth, set-dispatcher}
 use Rattle.layout.specs.Placed.{Dispatcher-in}
-use Rattle.frame.proofs.Frame.{every-nth}
-use Rattle.frame.proofs.Moved.{Moved, moved-start, moved-on}
+use Rattle.operation_laws.proofs.Frame.{every-nth}
+use Rattle.operation_laws.proofs.Moved.{Moved, moved-start, moved-on}
 use Rattle.dispatcher.specs.Held.{held-of}
 use Rattle.dispatcher.specs.Completion.{Marked}
 use Rattle.dispatcher.proofs.Keeping.{Thinning, thinning-start, thinning-nth, thinning-length, thinning-keep, thinning-skip, thinning-end}

@@ -18,7 +18,7 @@ use Rattle.layout.specs.Fields.{zero-id, dispatcher-nth, set-dispatcher, with-c
 use Rattle.layout.specs.Placed.{Dispatcher-in}
 use Rattle.layout.proofs.GetsDispatcher.{read-outside-count, read-outside-ledger, read-outside-entry, read-mark-count, read-redelivery-count}
 use Rattle.layout.proofs.SetsDispatcher as layout
-use Rattle.ledger.specs.Ids.{id-of, id-at}
+use Rattle.topic.specs.Ids.{id-of, id-at}
 
 -- an id comes after another of the same ledger by its entry
 pub after-same : (a b : Id) → a .ledger ≡ b .ledger → ltb (b .entry) (a .entry) ≡ after-id a b

@@ -1,6 +1,9 @@
-pub mod Balances
-pub mod Gaps
-pub mod Places
-pub mod Loads
-pub mod Keeping
 pub mod Completing
+pub mod Gaps
+pub mod Keeping
+pub mod Loads
+pub mod Making
+pub mod Places
+pub mod Returning
+pub mod Rings
+pub mod Room

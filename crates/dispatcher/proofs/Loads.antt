@@ -28,13 +28,13 @@ use Rattle.layout.proofs.GetsDispatcher.{read-mark-complete, read-redelivery-co
 use Rattle.layout.proofs.SetsDispatcher as layout
 use Rattle.store.specs.Find.{slot}
 use Rattle.store.proofs.Finding.{slot-le}
-use Rattle.frame.proofs.Frame.{dispatcher-twice, dispatcher-set-in}
-use Rattle.ledger.specs.Ids.{id-of}
+use Rattle.operation_laws.proofs.Frame.{dispatcher-twice, dispatcher-set-in}
+use Rattle.topic.specs.Ids.{id-of}
 use Rattle.dispatcher.specs.Held.{held-of}
 use Rattle.dispatcher.specs.Outside.{by-order}
 use Rattle.dispatcher.specs.Values.{mark-of, head-of, with-head}
 use Rattle.dispatcher.specs.declared.marks.Mark as declared
-use Rattle.heads.specs.declared.Head as numbers
+use Rattle.head.specs.declared.Head as numbers
 use Rattle.dispatcher.proofs.Places.{two-words}
 
 -- a flag's word is 1 where the flag is set

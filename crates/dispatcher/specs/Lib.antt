@@ -1,4 +1,5 @@
+pub mod Completion
 pub mod Held
 pub mod Outside
+pub mod Returned
 pub mod Values
-pub mod Completion

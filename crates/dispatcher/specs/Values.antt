@@ -2,7 +2,7 @@
 use Rattle.rules.specs.State.{Mark, Dispatcher}
 use Rattle.rules.specs.Dispatcher.{of-parts}
 use Rattle.dispatcher.specs.declared.marks.Mark as declared
-use Rattle.heads.specs.declared.Head as numbers
+use Rattle.head.specs.declared.Head as numbers
 
 -- the mark that the code's record stands for
 unfoldable pub mark-of : declared.Mark → Mark

@@ -1,6 +1,10 @@
 // The entries of a dispatcher that its consumers hold, in dispatch order. Each has two words, its
 // holder and its position.
 use store::movers::close_gap;
+use store::offsets::FLIGHT_IN;
+use store::offsets::HELD_IN;
+use store::offsets::HELD_WORDS;
+use store::offsets::POSITION_IN;
 use store::offsets::dispatcher_at;
 use store::stretch::clear_words;
 use store::stretch::word;
@@ -20,7 +24,7 @@ pub fn flight_count(store: &[u64], e: usize, d: usize) -> usize
     ensures { λ r. ⌜ r ≡ length (dispatcher-now (now (store .entry)) d .in-flight) ⌝ }
 {
     let at = dispatcher_at(e, d);
-    word(store, at + 174 + e)
+    word(store, at + FLIGHT_IN + e)
 }
 
 // An entry in flight by value.
@@ -35,7 +39,7 @@ fn same_hold(store: &[u64], at: usize, id: u64, k: usize) -> bool
     ensures { λ r. ⌜ r ≡ is-hold id k (held-at (now (store .entry)) at) ⌝ }
 {
     if id == store[at] {
-        k as u64 == store[at + 1]
+        k as u64 == store[at + POSITION_IN]
     } else {
         false
     }
@@ -47,10 +51,10 @@ pub fn find_hold(store: &[u64], e: usize, d: usize, id: u64, k: usize) -> usize
     ensures { λ r. ⌜ r ≡ slot by-hold (held-of id k) (dispatcher-now (now (store .entry)) d .in-flight) ⌝ }
 {
     let at = dispatcher_at(e, d);
-    let n = word(store, at + 174 + e);
+    let n = word(store, at + FLIGHT_IN + e);
     let mut j = 0;
     while j < n {
-        if same_hold(store, at + 175 + e + j * 2, id, k) {
+        if same_hold(store, at + HELD_IN + e + j * HELD_WORDS, id, k) {
             return j;
         }
         j += 1;
@@ -65,9 +69,14 @@ pub fn remove_flight(store: &mut [u64], e: usize, d: usize, j: usize)
         (λ x. with-places x (x .redelivery) (take j (x .in-flight) ++ drop (j + 1) (x .in-flight))) ⌝ }
 {
     let at = dispatcher_at(e, d);
-    let n = word(store, at + 174 + e);
-    close_gap(store, at + 175 + e + j * 2, 2, (n - (j + 1)) * 2);
-    store[at + 174 + e] = (n - 1) as u64;
+    let n = word(store, at + FLIGHT_IN + e);
+    close_gap(
+        store,
+        at + HELD_IN + e + j * HELD_WORDS,
+        HELD_WORDS,
+        (n - (j + 1)) * HELD_WORDS,
+    );
+    store[at + FLIGHT_IN + e] = (n - 1) as u64;
 }
 
 // `id` holds position `k` of dispatcher `d`, after all that is in flight.
@@ -77,43 +86,47 @@ pub fn append_flight(store: &mut [u64], e: usize, d: usize, id: u64, k: usize)
         (λ x. with-places x (x .redelivery) (x .in-flight ++ held-of id k ∷ [])) ⌝ }
 {
     let at = dispatcher_at(e, d);
-    let n = word(store, at + 174 + e);
-    let free = at + 175 + e + n * 2;
+    let n = word(store, at + FLIGHT_IN + e);
+    let free = at + HELD_IN + e + n * HELD_WORDS;
     store[free] = id;
     store[free + 1] = k as u64;
-    store[at + 174 + e] = (n + 1) as u64;
+    store[at + FLIGHT_IN + e] = (n + 1) as u64;
 }
 
 // Entry `j` in flight of dispatcher `d`.
-pub fn load_held(store: &[u64], e: usize, d: usize, j: usize) -> Held
+pub(crate) fn load_held(store: &[u64], e: usize, d: usize, j: usize) -> Held
     requires { ⌜ Dispatcher-in e (now store) d × (j < length (dispatcher-now (now store) d .in-flight)) ⌝ }
     ensures { λ r. ⌜ held-of (r .holder) (r .position) ≡ held-now (now (store .entry)) d j ⌝ }
 {
-    let at = dispatcher_at(e, d) + 175 + e + j * 2;
+    let at = dispatcher_at(e, d) + HELD_IN + e + j * HELD_WORDS;
     Held {
         holder: store[at],
-        position: word(store, at + 1),
+        position: word(store, at + POSITION_IN),
     }
 }
 
 // Dispatcher `d` gets another entry `j` in flight.
-pub fn save_held(store: &mut [u64], e: usize, d: usize, j: usize, held: Held)
+pub(crate) fn save_held(store: &mut [u64], e: usize, d: usize, j: usize, held: Held)
     requires { ⌜ Dispatcher-in e (now store) d × (j < length (dispatcher-now (now store) d .in-flight)) ⌝ }
     ensures { λ _. ⌜ now (store .exit) ≡ dispatcher-changed (now (store .entry)) d
         (λ x. with-places x (x .redelivery) (set (x .in-flight) j (held-of (held .holder) (held .position)))) ⌝ }
 {
-    let at = dispatcher_at(e, d) + 175 + e + j * 2;
+    let at = dispatcher_at(e, d) + HELD_IN + e + j * HELD_WORDS;
     store[at] = held.holder;
-    store[at + 1] = held.position as u64;
+    store[at + POSITION_IN] = held.position as u64;
 }
 
 // The first `n` entries in flight of dispatcher `d` stay, the others go.
-pub fn keep_flight(store: &mut [u64], e: usize, d: usize, n: usize)
+pub(crate) fn keep_flight(store: &mut [u64], e: usize, d: usize, n: usize)
     requires { ⌜ Dispatcher-in e (now store) d × (n ≤ length (dispatcher-now (now store) d .in-flight)) ⌝ }
     ensures { λ _. ⌜ now (store .exit) ≡ dispatcher-changed (now (store .entry)) d (λ x. with-places x (x .redelivery) (take n (x .in-flight))) ⌝ }
 {
     let at = dispatcher_at(e, d);
-    let count = word(store, at + 174 + e);
-    clear_words(store, at + 175 + e + n * 2, at + 175 + e + count * 2);
-    store[at + 174 + e] = n as u64;
+    let count = word(store, at + FLIGHT_IN + e);
+    clear_words(
+        store,
+        at + HELD_IN + e + n * HELD_WORDS,
+        at + HELD_IN + e + count * HELD_WORDS,
+    );
+    store[at + FLIGHT_IN + e] = n as u64;
 }

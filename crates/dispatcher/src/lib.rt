@@ -1,10 +1,12 @@
 // The dispatcher of a shared subscription in a store.
-pub mod balance;
 pub mod completion;
+pub mod find;
 pub mod flight;
-pub mod head;
+pub mod make;
 pub mod marks;
+pub mod numbers;
 pub mod outside;
 pub mod queue;
+pub mod returns;
 pub mod ring;
 pub mod total;

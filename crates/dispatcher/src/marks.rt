@@ -1,5 +1,16 @@
 // The marks of a dispatcher, one for each entry of its topic.
 use bits::UnackedBits;
+use store::limits::MOST_REDELIVERIES;
+use store::offsets::BITS_1_IN;
+use store::offsets::BITS_2_IN;
+use store::offsets::BITS_3_IN;
+use store::offsets::BITS_IN;
+use store::offsets::MARK_IN;
+use store::offsets::MARK_WORDS;
+use store::offsets::MARKS_IN;
+use store::offsets::MARKS_IN_E;
+use store::offsets::REDELIVERY_COUNT_IN;
+use store::offsets::REDELIVERY_COUNTS_IN;
 use store::offsets::dispatcher_at;
 use store::stretch::word;
 ghost use mathlib.Core.Path.{_≡_};
@@ -27,7 +38,7 @@ pub fn mark_count(store: &[u64], e: usize, d: usize) -> usize
     ensures { λ r. ⌜ r ≡ length (dispatcher-now (now (store .entry)) d .marks) ⌝ }
 {
     let at = dispatcher_at(e, d);
-    word(store, at + 175 + 3 * e)
+    word(store, at + MARKS_IN + MARKS_IN_E * e)
 }
 
 // Dispatcher `d`, which has `n` marks and room, gains a new one at their end: the words there are 0
@@ -37,7 +48,7 @@ pub fn raise_marks(store: &mut [u64], e: usize, d: usize, n: usize)
     ensures { λ _. ⌜ now (store .exit) ≡ dispatcher-changed (now (store .entry)) d (λ x. with-marks x (x .marks ++ new-mark ∷ []) (x .outside)) ⌝ }
 {
     let at = dispatcher_at(e, d);
-    store[at + 175 + 3 * e] = (n + 1) as u64;
+    store[at + MARKS_IN + MARKS_IN_E * e] = (n + 1) as u64;
 }
 
 // Mark `k` of dispatcher `d` becomes complete.
@@ -47,17 +58,17 @@ pub fn complete_mark(store: &mut [u64], e: usize, d: usize, k: usize)
         (λ x. with-marks x (set (x .marks) k (with-complete (getD (x .marks) k new-mark) true)) (x .outside)) ⌝ }
 {
     let at = dispatcher_at(e, d);
-    store[at + 176 + 3 * e + k * 6] = 1;
+    store[at + MARK_IN + MARKS_IN_E * e + k * MARK_WORDS] = 1;
 }
 
 // One more than a redelivery count, stopping at 2^32 - 1.
 fn one_more(count: u64) -> u64
     ensures { λ r. ⌜ r ≡ min (suc count) (2 ^ 32 - 1) ⌝ }
 {
-    if count < 4294967295 {
+    if count < MOST_REDELIVERIES {
         count + 1
     } else {
-        4294967295
+        MOST_REDELIVERIES
     }
 }
 
@@ -68,7 +79,7 @@ pub fn raise_count(store: &mut [u64], e: usize, d: usize, k: usize)
         (λ x. with-marks x (set (x .marks) k (raised (mark-at x k))) (x .outside)) ⌝ }
 {
     let at = dispatcher_at(e, d);
-    let count = at + 177 + 3 * e + k * 6;
+    let count = at + REDELIVERY_COUNTS_IN + MARKS_IN_E * e + k * MARK_WORDS;
     store[count] = one_more(store[count]);
 }
 
@@ -77,15 +88,15 @@ pub fn load_mark(store: &[u64], e: usize, d: usize, k: usize) -> Mark
     requires { ⌜ Dispatcher-in e (now store) d × (k < length (dispatcher-now (now store) d .marks)) ⌝ }
     ensures { λ r. ⌜ mark-of r ≡ mark-at (dispatcher-now (now (store .entry)) d) k ⌝ }
 {
-    let at = dispatcher_at(e, d) + 176 + 3 * e + k * 6;
+    let at = dispatcher_at(e, d) + MARK_IN + MARKS_IN_E * e + k * MARK_WORDS;
     Mark {
         complete: store[at] == 1,
-        redelivery_count: store[at + 1],
+        redelivery_count: store[at + REDELIVERY_COUNT_IN],
         unacked: UnackedBits {
-            w0: store[at + 2],
-            w1: store[at + 3],
-            w2: store[at + 4],
-            w3: store[at + 5],
+            w0: store[at + BITS_IN],
+            w1: store[at + BITS_1_IN],
+            w2: store[at + BITS_2_IN],
+            w3: store[at + BITS_3_IN],
         },
     }
 }
@@ -96,7 +107,7 @@ pub(crate) fn is_complete(store: &[u64], e: usize, d: usize, k: usize) -> bool
     ensures { λ r. ⌜ r ≡ complete-at (dispatcher-now (now (store .entry)) d) k ⌝ }
 {
     let at = dispatcher_at(e, d);
-    store[at + 176 + 3 * e + k * 6] == 1
+    store[at + MARK_IN + MARKS_IN_E * e + k * MARK_WORDS] == 1
 }
 
 // Dispatcher `d` gets another mark `k`.
@@ -105,11 +116,11 @@ pub fn save_mark(store: &mut [u64], e: usize, d: usize, k: usize, mark: Mark)
     ensures { λ _. ⌜ now (store .exit) ≡ dispatcher-changed (now (store .entry)) d
         (λ x. with-marks x (set (x .marks) k (mark-of mark)) (x .outside)) ⌝ }
 {
-    let at = dispatcher_at(e, d) + 176 + 3 * e + k * 6;
+    let at = dispatcher_at(e, d) + MARK_IN + MARKS_IN_E * e + k * MARK_WORDS;
     store[at] = mark.complete as u64;
-    store[at + 1] = mark.redelivery_count;
-    store[at + 2] = mark.unacked.w0;
-    store[at + 3] = mark.unacked.w1;
-    store[at + 4] = mark.unacked.w2;
-    store[at + 5] = mark.unacked.w3;
+    store[at + REDELIVERY_COUNT_IN] = mark.redelivery_count;
+    store[at + BITS_IN] = mark.unacked.w0;
+    store[at + BITS_1_IN] = mark.unacked.w1;
+    store[at + BITS_2_IN] = mark.unacked.w2;
+    store[at + BITS_3_IN] = mark.unacked.w3;
 }

@@ -1,9 +1,13 @@
 // The complete ids of a dispatcher that are not in the ledger. They ascend by ledger, then by entry.
-use ledger::find::same_id;
 use store::movers::close_gap;
 use store::movers::move_up;
+use store::offsets::ENTRY_IN;
+use store::offsets::ID_WORDS;
+use store::offsets::OUTSIDE_IDS_IN;
+use store::offsets::OUTSIDE_IN;
 use store::offsets::dispatcher_at;
 use store::stretch::word;
+use topic::find::same_id;
 ghost use mathlib.Core.Path.{_≡_};
 ghost use mathlib.Core.List.{_++_};
 ghost use Prim.Native.Nat.{_+_, _<_};
@@ -13,7 +17,7 @@ ghost use Rattle.rules.specs.Dispatcher.{with-marks};
 ghost use Rattle.layout.specs.Fields.{dispatcher-now, dispatcher-changed};
 ghost use Rattle.layout.specs.Placed.{Dispatcher-in};
 ghost use Rattle.store.specs.Find.{slot};
-ghost use Rattle.ledger.specs.Ids.{id-of, id-at};
+ghost use Rattle.topic.specs.Ids.{id-of, id-at};
 ghost use Rattle.dispatcher.specs.Outside.{by-itself, by-order};
 
 // The number of outside ids of dispatcher `d`.
@@ -22,7 +26,7 @@ pub fn outside_count(store: &[u64], e: usize, d: usize) -> usize
     ensures { λ r. ⌜ r ≡ length (dispatcher-now (now (store .entry)) d .outside) ⌝ }
 {
     let at = dispatcher_at(e, d);
-    word(store, at + 44)
+    word(store, at + OUTSIDE_IN)
 }
 
 // The place of an id among the outside ids of dispatcher `d`; their number where it is not there.
@@ -31,10 +35,10 @@ pub fn find_outside(store: &[u64], e: usize, d: usize, ledger: u64, entry: u64) 
     ensures { λ r. ⌜ r ≡ slot by-itself (id-of ledger entry) (dispatcher-now (now (store .entry)) d .outside) ⌝ }
 {
     let at = dispatcher_at(e, d);
-    let n = word(store, at + 44);
+    let n = word(store, at + OUTSIDE_IN);
     let mut j = 0;
     while j < n {
-        if same_id(store, at + 45 + j * 2, ledger, entry) {
+        if same_id(store, at + OUTSIDE_IDS_IN + j * ID_WORDS, ledger, entry) {
             return j;
         }
         j += 1;
@@ -49,9 +53,14 @@ pub fn remove_outside(store: &mut [u64], e: usize, d: usize, j: usize)
         (λ x. with-marks x (x .marks) (take j (x .outside) ++ drop (j + 1) (x .outside))) ⌝ }
 {
     let at = dispatcher_at(e, d);
-    let n = word(store, at + 44);
-    close_gap(store, at + 45 + j * 2, 2, (n - (j + 1)) * 2);
-    store[at + 44] = (n - 1) as u64;
+    let n = word(store, at + OUTSIDE_IN);
+    close_gap(
+        store,
+        at + OUTSIDE_IDS_IN + j * ID_WORDS,
+        ID_WORDS,
+        (n - (j + 1)) * ID_WORDS,
+    );
+    store[at + OUTSIDE_IN] = (n - 1) as u64;
 }
 
 // Whether the id at an offset comes after (`ledger`, `entry`).
@@ -60,7 +69,7 @@ fn is_after(store: &[u64], at: usize, ledger: u64, entry: u64) -> bool
     ensures { λ r. ⌜ r ≡ after-id (id-at (now (store .entry)) at) (id-of ledger entry) ⌝ }
 {
     if store[at] == ledger {
-        entry < store[at + 1]
+        entry < store[at + ENTRY_IN]
     } else {
         ledger < store[at]
     }
@@ -73,10 +82,10 @@ fn place_for_outside(store: &[u64], e: usize, d: usize, ledger: u64, entry: u64)
     ensures { λ r. ⌜ r ≡ slot by-order (id-of ledger entry) (dispatcher-now (now (store .entry)) d .outside) ⌝ }
 {
     let at = dispatcher_at(e, d);
-    let n = word(store, at + 44);
+    let n = word(store, at + OUTSIDE_IN);
     let mut j = 0;
     while j < n {
-        if is_after(store, at + 45 + j * 2, ledger, entry) {
+        if is_after(store, at + OUTSIDE_IDS_IN + j * ID_WORDS, ledger, entry) {
             return j;
         }
         j += 1;
@@ -91,11 +100,11 @@ pub fn insert_outside(store: &mut [u64], e: usize, d: usize, ledger: u64, entry:
         (λ x. with-marks x (x .marks) (insert-id (id-of ledger entry) (x .outside))) ⌝ }
 {
     let at = dispatcher_at(e, d);
-    let n = word(store, at + 44);
+    let n = word(store, at + OUTSIDE_IN);
     let j = place_for_outside(store, e, d, ledger, entry);
-    let free = at + 45 + j * 2;
-    move_up(store, free, 2, (n - j) * 2);
+    let free = at + OUTSIDE_IDS_IN + j * ID_WORDS;
+    move_up(store, free, ID_WORDS, (n - j) * ID_WORDS);
     store[free] = ledger;
     store[free + 1] = entry;
-    store[at + 44] = (n + 1) as u64;
+    store[at + OUTSIDE_IN] = (n + 1) as u64;
 }

@@ -1,5 +1,7 @@
 // The positions that a dispatcher is to hand out again, front first. Each has one word.
 use store::movers::close_gap;
+use store::offsets::QUEUE_IN;
+use store::offsets::QUEUED_IN;
 use store::offsets::dispatcher_at;
 use store::stretch::word;
 ghost use mathlib.Core.Path.{_≡_};
@@ -16,7 +18,7 @@ pub fn queue_count(store: &[u64], e: usize, d: usize) -> usize
     ensures { λ r. ⌜ r ≡ length (dispatcher-now (now (store .entry)) d .redelivery) ⌝ }
 {
     let at = dispatcher_at(e, d);
-    word(store, at + 173)
+    word(store, at + QUEUE_IN)
 }
 
 // Queued position `j` of dispatcher `d`.
@@ -25,7 +27,7 @@ pub fn queued(store: &[u64], e: usize, d: usize, j: usize) -> usize
     ensures { λ r. ⌜ r ≡ getD (dispatcher-now (now (store .entry)) d .redelivery) j 0 ⌝ }
 {
     let at = dispatcher_at(e, d);
-    word(store, at + 174 + j)
+    word(store, at + QUEUED_IN + j)
 }
 
 // Position `k` goes to the end of the queue of dispatcher `d`.
@@ -34,9 +36,9 @@ pub fn append_queue(store: &mut [u64], e: usize, d: usize, k: usize)
     ensures { λ _. ⌜ now (store .exit) ≡ dispatcher-changed (now (store .entry)) d (λ x. with-places x (x .redelivery ++ k ∷ []) (x .in-flight)) ⌝ }
 {
     let at = dispatcher_at(e, d);
-    let n = word(store, at + 173);
-    store[at + 174 + n] = k as u64;
-    store[at + 173] = (n + 1) as u64;
+    let n = word(store, at + QUEUE_IN);
+    store[at + QUEUED_IN + n] = k as u64;
+    store[at + QUEUE_IN] = (n + 1) as u64;
 }
 
 // The first `n` positions leave the queue of dispatcher `d`; none, and no word is moved.
@@ -48,7 +50,7 @@ pub fn drop_queue(store: &mut [u64], e: usize, d: usize, n: usize)
         return;
     }
     let at = dispatcher_at(e, d);
-    let count = word(store, at + 173);
-    close_gap(store, at + 174, n, count - n);
-    store[at + 173] = (count - n) as u64;
+    let count = word(store, at + QUEUE_IN);
+    close_gap(store, at + QUEUED_IN, n, count - n);
+    store[at + QUEUE_IN] = (count - n) as u64;
 }

@@ -1,5 +1,7 @@
 // The ids of the consumers that are attached to a dispatcher, in attach order. Each has one word.
 use store::movers::close_gap;
+use store::offsets::RING_IDS_IN;
+use store::offsets::RING_IN;
 use store::offsets::dispatcher_at;
 use store::stretch::is_word;
 use store::stretch::word;
@@ -19,7 +21,7 @@ pub fn ring_count(store: &[u64], e: usize, d: usize) -> usize
     ensures { λ r. ⌜ r ≡ length (dispatcher-now (now (store .entry)) d .attached) ⌝ }
 {
     let at = dispatcher_at(e, d);
-    word(store, at + 11)
+    word(store, at + RING_IN)
 }
 
 // The slot of `id` in the ring of dispatcher `d`; the number of ring ids where it is not there.
@@ -28,10 +30,10 @@ pub fn find_ring(store: &[u64], e: usize, d: usize, id: u64) -> usize
     ensures { λ r. ⌜ r ≡ slot by-value id (dispatcher-now (now (store .entry)) d .attached) ⌝ }
 {
     let at = dispatcher_at(e, d);
-    let n = word(store, at + 11);
+    let n = word(store, at + RING_IN);
     let mut j = 0;
     while j < n {
-        if is_word(store, at + 12 + j, id) {
+        if is_word(store, at + RING_IDS_IN + j, id) {
             return j;
         }
         j += 1;
@@ -46,9 +48,9 @@ pub fn remove_ring(store: &mut [u64], e: usize, d: usize, j: usize)
         (λ x. with-attached x (take j (x .attached) ++ drop (j + 1) (x .attached))) ⌝ }
 {
     let at = dispatcher_at(e, d);
-    let n = word(store, at + 11);
-    close_gap(store, at + 12 + j, 1, n - (j + 1));
-    store[at + 11] = (n - 1) as u64;
+    let n = word(store, at + RING_IN);
+    close_gap(store, at + RING_IDS_IN + j, 1, n - (j + 1));
+    store[at + RING_IN] = (n - 1) as u64;
 }
 
 // `id` goes to the end of the ring of dispatcher `d`.
@@ -57,7 +59,7 @@ pub fn append_ring(store: &mut [u64], e: usize, d: usize, id: u64)
     ensures { λ _. ⌜ now (store .exit) ≡ dispatcher-changed (now (store .entry)) d (λ x. with-attached x (x .attached ++ id ∷ [])) ⌝ }
 {
     let at = dispatcher_at(e, d);
-    let n = word(store, at + 11);
-    store[at + 12 + n] = id;
-    store[at + 11] = (n + 1) as u64;
+    let n = word(store, at + RING_IN);
+    store[at + RING_IDS_IN + n] = id;
+    store[at + RING_IN] = (n + 1) as u64;
 }

@@ -1,4 +1,5 @@
 // The permits of a dispatcher (document 01: balance), in excess form.
+use store::offsets::TOTAL_IN;
 use store::offsets::dispatcher_at;
 ghost use mathlib.Core.Path.{_≡_};
 ghost use Rattle.rules.specs.Dispatcher.{with-total};
@@ -11,7 +12,7 @@ pub fn total_available_permits(store: &[u64], e: usize, d: usize) -> u64
     ensures { λ r. ⌜ r ≡ dispatcher-now (now (store .entry)) d .total-available-permits ⌝ }
 {
     let at = dispatcher_at(e, d);
-    store[at + 5]
+    store[at + TOTAL_IN]
 }
 
 // Dispatcher `d` gets another total.
@@ -20,5 +21,5 @@ pub fn set_total_available_permits(store: &mut [u64], e: usize, d: usize, total:
     ensures { λ _. ⌜ now (store .exit) ≡ dispatcher-changed (now (store .entry)) d (λ x. with-total x total) ⌝ }
 {
     let at = dispatcher_at(e, d);
-    store[at + 5] = total;
+    store[at + TOTAL_IN] = total;
 }

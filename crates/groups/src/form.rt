@@ -8,6 +8,11 @@ ghost use Rattle.rules.specs.Table.{is-some};
 ghost use Rattle.rules.specs.Groups.{groups};
 ghost use Rattle.groups.specs.Walk.{group-fits};
 
+// The most ids of a list, and the most words of an id.
+const MOST_IDS: usize = 64;
+
+const MOST_ACK_SET_WORDS: u64 = 16;
+
 // Whether a group of at most 16 words stands at `at`, whole.
 fn group_fits(list: &[u64], at: usize) -> bool
     requires { ⌜ at ≤ length (now list) ⌝ }
@@ -18,7 +23,7 @@ fn group_fits(list: &[u64], at: usize) -> bool
         return false;
     }
     let n = list[at + 2];
-    if 16 < n {
+    if MOST_ACK_SET_WORDS < n {
         return false;
     }
     n as usize <= left - 3
@@ -29,7 +34,7 @@ pub fn list_right(list: &[u64]) -> bool
     ensures { λ r. ⌜ r ≡ is-some (groups (now (list .entry))) ⌝ }
 {
     let mut at = 0;
-    let mut left = 64usize;
+    let mut left = MOST_IDS;
     while at < list.len() {
         if left == 0 {
             return false;

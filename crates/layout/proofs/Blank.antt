@@ -14,7 +14,7 @@ use Rattle.words.specs.Field.{Writes}
 use Rattle.words.proofs.Zero.{Zero, zero-zeros, zero-pair, zero-via, zero-upto}
 use Rattle.words.proofs.Act.{lay-none}
 use Rattle.words.proofs.Field.{writes-as}
-use Rattle.words.proofs.Slots.{spell-append, writes-from}
+use Rattle.words.proofs.Slots.{spell-append, writes-from, zero-slots}
 use Rattle.words.proofs.Lists.{writes-list, writes-drop, writes-empty}
 use Rattle.words.proofs.Act.{lay-over}
 use Rattle.rules.specs.State.{new-mark}
@@ -134,13 +134,6 @@ module _ {A : Type 0} {c : Codec A} {z : A} (b : Blank c z) (cap : ℕ) where
       (record { done = λ r. lay-none 0 (exactly c cap .enc l ++ r) ∙ ap (λ (x : List ℕ). x ++ r) (same-slots l k h) }))
 
 -- ---- a list replaced by a shorter one
-
--- zero slots by parts
-zero-slots : (j k n w : ℕ) (r : List ℕ) → j + k ≡ n → replicate (j * w) 0 ++ (replicate (k * w) 0 ++ r) ≡ replicate (n * w) 0 ++ r
-zero-slots j k n w r e =
-    sym (append-assoc (replicate (j * w) 0) (replicate (k * w) 0) r)
-    ∙ ap (λ (t : List ℕ). t ++ r) (replicate-append-replicate {A = ℕ} (j * w) (k * w) 0)
-    ∙ ap (λ (m : ℕ). replicate m 0 ++ r) (sym (add-mul j k w) ∙ ap (λ (m : ℕ). m * w) e)
 
 module _ {A : Type 0} (c : Codec A) {w : ℕ} (sized : c .width ≡ w) (cap : ℕ) where
   -- the new elements are laid over the old ones, what is left of the old ones is cleared, and the count is stored

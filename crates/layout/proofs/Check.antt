@@ -14,7 +14,7 @@ use Rattle.words.specs.Words.{blank}
 use Rattle.words.specs.Codec.{Codec, word, pair, via, flag, asFlag, upto}
 use Rattle.words.specs.Store.{canonical, canonicals}
 use Rattle.words.proofs.Width.{width-word, width-flag, width-zeros, width-pair, width-upto}
-use Rattle.words.proofs.Check.{canonical-word, canonical-flag, canonical-zeros, canonical-pair, canonical-via, canonical-upto, canonicals-none, canonicals-cons}
+use Rattle.words.proofs.Check.{canonical-word, canonical-flag, canonical-zeros, canonical-pair, canonical-via, canonical-upto, canonicals-none, canonicals-cons, and-true}
 use Rattle.layout.specs.Records.{as-id, id-codec, as-message, message-codec, as-bits, bits-codec, as-mark, mark-codec, as-held, held-codec, as-pair, pair-codec, flag-of, kind-of, as-kind, kind-codec, as-consumer, consumer-codec, as-topic, topic-codec, as-dispatcher, dispatcher-codec}
 use Rattle.layout.specs.Offsets.{flight-in, held-in, marks-in}
 use Rattle.layout.proofs.Widths.{width-id, width-message, width-bits, width-held, width-of-pair, width-kind, width-numbers}
@@ -128,10 +128,6 @@ pub check-numbers : (cap off first : ℕ) (ws : List ℕ) → off + 1 ≡ first 
 check-numbers cap off first ws f h = simp mul-one at (check-list plain-word cap off first ws f (omega arith))
 
 -- ---- records of a state
-
-and-true : (x : Bool) → x && true ≡ x
-and-true true = refl
-and-true false = refl
 
 -- a first part and what follows it
 pub part : {A B : Type 0} (c : Codec A) (d : Codec B) {m : ℕ} (off next : ℕ) (ws : List ℕ) → off + m ≡ next → c .width ≡ m

@@ -18,25 +18,37 @@ header-reserved = 12
 abbrev pub consumer-count-at : ℕ
 consumer-count-at = 16
 
+-- the words of a consumer
+abbrev pub consumer-words : ℕ
+consumer-words = 72
+
 -- consumer i
 abbrev pub consumer-at : ℕ → ℕ
-consumer-at i = 17 + i * 72
+consumer-at i = 17 + i * consumer-words
 
 -- the number of topics
 abbrev pub topic-count-at : ℕ
 topic-count-at = 2321
 
+-- the words of a topic
+abbrev pub topic-words : ℕ → ℕ
+topic-words e = 4 + 4 * e
+
 -- topic t
 abbrev pub topic-at : ℕ → ℕ → ℕ
-topic-at e t = 2322 + t * (4 + 4 * e)
+topic-at e t = 2322 + t * topic-words e
 
 -- the number of dispatchers
 abbrev pub dispatcher-count-at : ℕ → ℕ
 dispatcher-count-at e = 2354 + 32 * e
 
+-- the words of a dispatcher
+abbrev pub dispatcher-words : ℕ → ℕ
+dispatcher-words e = 176 + 9 * e
+
 -- dispatcher d
 abbrev pub dispatcher-at : ℕ → ℕ → ℕ
-dispatcher-at e d = 2355 + 32 * e + d * (176 + 9 * e)
+dispatcher-at e d = 2355 + 32 * e + d * dispatcher-words e
 
 -- the words reserved at the end
 abbrev pub reserved-at : ℕ → ℕ
@@ -45,6 +57,10 @@ reserved-at e = 3763 + 104 * e
 -- how many they are
 abbrev pub reserved : ℕ → ℕ
 reserved e = 333 + 24 * e
+
+-- the words that a store needs
+abbrev pub needed-words : ℕ → ℕ
+needed-words e = 4096 + 128 * e
 
 -- ---- in a consumer
 

@@ -8,5 +8,5 @@ ghost use Rattle.layout.specs.Layout.{spells};
 pub extern "C" fn probe_spells(store: &[u64]) -> u64
     ensures { λ r. ⌜ r ≡ bit (spells (now (store .entry))) ⌝ }
 {
-    if store::check::spells(store) { 1 } else { 0 }
+    if check_state::spells(store) { 1 } else { 0 }
 }

@@ -1,6 +1,3 @@
-pub mod Each
-pub mod Turn
-pub mod Turns
-pub mod Shared
-pub mod Plain
-pub mod Whole
+pub mod Answering
+pub mod Most
+pub mod Pushing

@@ -1,5 +1,1 @@
-pub mod Local
-pub mod Applied
-pub mod Shared
-pub mod Plain
-pub mod Whole
+pub mod Bound

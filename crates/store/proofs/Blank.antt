@@ -10,7 +10,7 @@ use lib.Dec.{eqb}
 use lib.ListN.{length, getD, drop}
 use lib.Seq.{drop-drop}
 use Rattle.words.specs.Words.{blank}
-use Rattle.words.proofs.Check.{blank-none, blank-cons, blank-add}
+use Rattle.words.proofs.Check.{blank-none, blank-cons, blank-add, and-true}
 use Rattle.bits.proofs.Word.{or-empty}
 
 -- a stretch up to `to` from i on: the word at i, and the rest
@@ -25,10 +25,6 @@ blank-end ws i to h = let e : to - i ≡ 0 = omega arith in ap (λ (n : ℕ). bl
 and-assoc : (a b c : Bool) → (a && b && c) ≡ (a && (b && c))
 and-assoc true b c = refl
 and-assoc false b c = refl
-
-pub and-true : (a : Bool) → (a && true) ≡ a
-and-true true = refl
-and-true false = refl
 
 -- ---- words or-ed
 

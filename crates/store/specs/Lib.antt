@@ -1,11 +1,2 @@
-pub mod Below
-pub mod Canonical
-pub mod Dispatchers
 pub mod Find
-pub mod Lookup
-pub mod Marks
 pub mod Open
-pub mod Orders
-pub mod Places
-pub mod Rows
-pub mod ValidConsumers

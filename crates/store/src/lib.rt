@@ -1,17 +1,9 @@
-// The store: a state in lent words. Opening one, the check that words spell a state, and the
-// records in and out of the words by value. docs/STORE.md has the layout.
-mod canonical;
-pub mod check;
-pub mod find;
-mod header;
-pub mod lookup;
+// The store: a state in lent words. Where things stand in it, its words read, moved and cleared, and a store
+// opened. Nothing here knows what a record means. docs/STORE.md has the layout.
+pub mod answers;
+pub mod limits;
 pub mod movers;
 pub mod offsets;
 pub mod open;
-mod rows;
+pub mod permits;
 pub mod stretch;
-mod valid_consumers;
-mod valid_dispatchers;
-mod valid_marks;
-mod valid_places;
-mod valid_topics;

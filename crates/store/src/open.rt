@@ -1,9 +1,15 @@
 // Opening a store: the words of a state with no topic, consumer or dispatcher.
+use super::limits::MOST_ENTRIES;
+use super::offsets::ENTRIES_AT;
+use super::offsets::LEAK_AT;
+use super::offsets::NEEDED_WORDS;
+use super::offsets::NEEDED_WORDS_E;
+use super::offsets::NOOP_AT;
 use super::stretch::clear_words;
 ghost use mathlib.Core.Path.{_≡_};
 ghost use mathlib.Core.Bool.{not};
+ghost use Prim.Native.Nat.{_≤_};
 ghost use lib.Dec.{eqb};
-ghost use Prim.Native.Nat.{_+_, _*_, _≤_};
 ghost use lib.ListN.{length};
 ghost use Rattle.words.specs.Codec.{bit};
 ghost use Rattle.layout.specs.Calls.{open-answer, open-after};
@@ -21,10 +27,10 @@ pub fn open(store: &mut [u64], entries: u64, leak: u64, noop: u64) -> u64
     if entries < 1 {
         return 2;
     }
-    if 4096 < entries {
+    if MOST_ENTRIES < entries {
         return 2;
     }
-    let needed = 4096 + 128 * (entries as usize);
+    let needed = NEEDED_WORDS + NEEDED_WORDS_E * (entries as usize);
     if store.len() < needed {
         return 3;
     }
@@ -39,9 +45,9 @@ fn open_words(store: &mut [u64], entries: u64, needed: usize, leak: u64, noop: u
 {
     clear_words(store, 0, needed);
     store[0] = LAYOUT_TAG;
-    store[1] = entries;
-    store[2] = leak;
-    store[3] = noop;
+    store[ENTRIES_AT] = entries;
+    store[LEAK_AT] = leak;
+    store[NOOP_AT] = noop;
 }
 
 // A switch as it is stored: 0 is off, anything else is on.

@@ -18,7 +18,7 @@ ghost use lib.ListN.{length};
 ghost use Rattle.rules.specs.Calls.{needed};
 ghost use Rattle.layout.specs.Calls.{run, open-after};
 ghost use Rattle.layout.specs.Demand.{at-opening, after-calls, Words-accounted};
-ghost use Rattle.ledger.specs.Ids.{message-of};
+ghost use Rattle.topic.specs.Ids.{message-of};
 ghost use Rattle.ten_calls.specs.TenCalls.{subscribing, granting, pushing, leaving, ten-calls, lent, list-pushed};
 
 // A store of 32 entries is opened, a message is appended to topic 1, and two shared consumers
@@ -66,7 +66,7 @@ fn leave(store: &mut [u64], first: u64, acked: &[u64], back: &[u64])
 // subscribe, each is granted permits, what is due is pushed, and one acknowledges, hands back, seeks
 // and closes. The answers are not looked at: whatever the calls come to, done or refused, no permit has
 // leaked and no message is lost or doubled.
-pub fn ten_calls(
+fn ten_calls(
     store: &mut [u64],
     list: &mut [u64],
     first: u64,

@@ -27,7 +27,7 @@ pub and-right : (x y : Bool) → x && y ≡ true → y ≡ true
 and-right true y e = e
 and-right false y e = absurd (false≢true e)
 
-and-true : (x : Bool) → x && true ≡ x
+pub and-true : (x : Bool) → x && true ≡ x
 and-true true = refl
 and-true false = refl
 

@@ -14,7 +14,7 @@ use Rattle.words.specs.Field.{Writes, Place}
 use Rattle.words.proofs.Act.{run-at, lay-over, close-words, insert-words}
 
 -- Zero slots by parts.
-zero-slots : (j k n w : ℕ) (r : List ℕ) → j + k ≡ n → replicate (j * w) 0 ++ (replicate (k * w) 0 ++ r) ≡ replicate (n * w) 0 ++ r
+pub zero-slots : (j k n w : ℕ) (r : List ℕ) → j + k ≡ n → replicate (j * w) 0 ++ (replicate (k * w) 0 ++ r) ≡ replicate (n * w) 0 ++ r
 zero-slots j k n w r e =
     sym (append-assoc (replicate (j * w) 0) (replicate (k * w) 0) r)
     ∙ ap (λ (t : List ℕ). t ++ r) (replicate-append-replicate {A = ℕ} (j * w) (k * w) 0)

@@ -1,13 +1,13 @@
 -- `broker::broker_ack` meets its contract: the words are checked, then the command runs.
-use Rattle.store.proofs.Spelt.{answered-no, answered-yes}
+use Rattle.store.proofs.Tests.{answered-no, answered-yes}
 use Rattle.broker.proofs.Unspelt.{unspelt}
 use borrow.Author.Needs.{needs}
 use Rattle.broker.proofs.broker_ack.Statement.{statement}
 use Rattle.broker.proofs.broker_ack.Tie as tie
 use Rattle.broker.proofs.broker_ack.Reads as reads
 use Rattle.broker.proofs.broker_ack.Lts as lts
-use Rattle.acks.proofs.ack.ack.Reads as ack-reads
-use Rattle.store.proofs.check.spells.Reads as spells-reads
+use Rattle.ack.proofs.ack.Reads as ack-reads
+use Rattle.check_state.proofs.spells.Reads as spells-reads
 
 spells-requires : tie.Need-spells-requires
 spells-requires c κs = search needs

@@ -1,13 +1,13 @@
 -- `broker::broker_push` meets its contract: the words are checked, then the command runs.
-use Rattle.store.proofs.Spelt.{answered-no, answered-yes}
+use Rattle.store.proofs.Tests.{answered-no, answered-yes}
 use Rattle.broker.proofs.Unspelt.{unspelt, unspelt-list}
 use borrow.Author.Needs.{needs}
 use Rattle.broker.proofs.broker_push.Statement.{statement}
 use Rattle.broker.proofs.broker_push.Tie as tie
 use Rattle.broker.proofs.broker_push.Reads as reads
 use Rattle.broker.proofs.broker_push.Lts as lts
-use Rattle.pending.proofs.command.push.Reads as push-reads
-use Rattle.store.proofs.check.spells.Reads as spells-reads
+use Rattle.push.proofs.push.Reads as push-reads
+use Rattle.check_state.proofs.spells.Reads as spells-reads
 
 -- the places: what stands before each, by name
 abbrev entry-before-then1 : tie.Then1 → tie.Start

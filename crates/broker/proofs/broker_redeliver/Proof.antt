@@ -1,13 +1,13 @@
 -- `broker::broker_redeliver` meets its contract: the words are checked, then the command runs.
-use Rattle.store.proofs.Spelt.{answered-no, answered-yes}
+use Rattle.store.proofs.Tests.{answered-no, answered-yes}
 use Rattle.broker.proofs.Unspelt.{unspelt}
 use borrow.Author.Needs.{needs}
 use Rattle.broker.proofs.broker_redeliver.Statement.{statement}
 use Rattle.broker.proofs.broker_redeliver.Tie as tie
 use Rattle.broker.proofs.broker_redeliver.Reads as reads
 use Rattle.broker.proofs.broker_redeliver.Lts as lts
-use Rattle.receipts.proofs.redeliver.redeliver.Reads as redeliver-reads
-use Rattle.store.proofs.check.spells.Reads as spells-reads
+use Rattle.redeliver.proofs.redeliver.Reads as redeliver-reads
+use Rattle.check_state.proofs.spells.Reads as spells-reads
 
 spells-requires : tie.Need-spells-requires
 spells-requires c κs = search needs

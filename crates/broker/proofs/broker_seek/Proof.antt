@@ -1,16 +1,16 @@
 -- `broker::broker_seek` meets its contract: the words are checked, then the seek runs with the target that the number names.
-use Rattle.store.proofs.Spelt.{answered-no, answered-yes}
+use Rattle.store.proofs.Tests.{answered-no, answered-yes}
 use Rattle.broker.proofs.Unspelt.{unspelt}
 use borrow.Author.Needs.{needs}
 use borrow.Author.Tests.{eq-eqb, ne-eqb}
-use Rattle.commands.specs.Targets.{target-of}
+use Rattle.seek.specs.Targets.{target-of}
 use Rattle.broker.specs.Exports.{target-from}
 use Rattle.broker.proofs.broker_seek.Statement.{statement}
 use Rattle.broker.proofs.broker_seek.Tie as tie
 use Rattle.broker.proofs.broker_seek.Reads as reads
 use Rattle.broker.proofs.broker_seek.Lts as lts
-use Rattle.commands.proofs.seek.seek.Reads as seek-reads
-use Rattle.store.proofs.check.spells.Reads as spells-reads
+use Rattle.seek.proofs.seek.Reads as seek-reads
+use Rattle.check_state.proofs.spells.Reads as spells-reads
 
 -- the places: what stands before each, by name
 abbrev spells-before-seek-arg : tie.After-seek-arg → tie.After-spells

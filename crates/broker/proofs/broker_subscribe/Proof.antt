@@ -1,16 +1,16 @@
 -- `broker::broker_subscribe` meets its contract: the words are checked, then the subscribe runs with the kind that the number names.
-use Rattle.store.proofs.Spelt.{answered-no, answered-yes}
+use Rattle.store.proofs.Tests.{answered-no, answered-yes}
 use Rattle.broker.proofs.Unspelt.{unspelt}
 use borrow.Author.Needs.{needs}
 use borrow.Author.Tests.{eq-eqb, ne-eqb}
-use Rattle.membership.specs.Commanded.{kind-of}
+use Rattle.subscribe.specs.Commanded.{kind-of}
 use Rattle.broker.specs.Exports.{kind-from}
 use Rattle.broker.proofs.broker_subscribe.Statement.{statement}
 use Rattle.broker.proofs.broker_subscribe.Tie as tie
 use Rattle.broker.proofs.broker_subscribe.Reads as reads
 use Rattle.broker.proofs.broker_subscribe.Lts as lts
-use Rattle.membership.proofs.subscribe.subscribe.Reads as subscribe-reads
-use Rattle.store.proofs.check.spells.Reads as spells-reads
+use Rattle.subscribe.proofs.subscribe.Reads as subscribe-reads
+use Rattle.check_state.proofs.spells.Reads as spells-reads
 
 -- the places: what stands before each, by name
 abbrev spells-before-subscribe-arg : tie.After-subscribe-arg → tie.After-spells

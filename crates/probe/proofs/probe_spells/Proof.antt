@@ -6,7 +6,7 @@ use Rattle.probe.proofs.probe_spells.Statement.{statement}
 use Rattle.probe.proofs.probe_spells.Tie as tie
 use Rattle.probe.proofs.probe_spells.Reads as reads
 use Rattle.probe.proofs.probe_spells.Lts as lts
-use Rattle.store.proofs.check.spells.Reads as spells-reads
+use Rattle.check_state.proofs.spells.Reads as spells-reads
 
 spells-requires : tie.Need-spells-requires
 spells-requires c κs = search needs

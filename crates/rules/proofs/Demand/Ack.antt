@@ -28,6 +28,7 @@ use Rattle.rules.proofs.Demand.Marks.{each-set, acked-inside, acked-out
 use Rattle.rules.proofs.Demand.Known.{known, known-plain, has-dispatcher}
 use Rattle.rules.proofs.Demand.Changes.{replaced}
 use Rattle.rules.proofs.Demand.Outcomes.{Keeps, keeps-guard, keeps-live, keeps-groups, keeps-kind}
+use Rattle.rules.proofs.Kept.Ack.{leading-le}
 
 -- ---- one id
 
@@ -192,12 +193,6 @@ module _ {p : Pair} {l : List StoredMessage} {who : ℕ → Who} {ring : List �
       }
 
 -- ---- mark-delete
-
--- no more marks lead than there are
-leading-le : (marks : List Mark) → leading-complete marks ≤ length marks
-unfolding leading-complete
-leading-le [] = omega arith
-leading-le (m ∷ marks) = let h = leading-le marks in by-test (m .acked .complete) (λ t. rw t (omega arith)) (λ t. rw t (omega arith))
 
 -- and they are complete
 leading-below : (marks : List Mark) (k : ℕ) → k < leading-complete marks → complete-in marks k ≡ true

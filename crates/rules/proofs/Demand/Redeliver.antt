@@ -1,7 +1,7 @@
 -- Redeliver: an entry that the sender holds goes from its held list to the queue, where it stands once all the same.
 use Prim.Native.Nat.{ℕ, _<_}
 use mathlib.Core.Path.{_≡_, refl, sym, _∙_, subst}
-use mathlib.Core.Bool.{Bool, true, false, not, and-eq-true-iff}
+use mathlib.Core.Bool.{Bool, true, false, not}
 use mathlib.Core.List.{List, [], _∷_, _++_}
 use mathlib.Core.Option.{some}
 use native.Mathlib.Omega.{arith}
@@ -23,11 +23,7 @@ use Rattle.rules.proofs.Demand.Known.{known, has-dispatcher}
 use Rattle.rules.proofs.Demand.Changes.{same-account, reconsumed, replaced}
 use Rattle.rules.proofs.Demand.Marks.{alike-set, alike-agree, alike-placed}
 use Rattle.rules.proofs.Demand.Outcomes.{Keeps, keeps-guard, keeps-live, keeps-groups, keeps-kind}
-
--- a hold of a position is one of that position
-hold-position : (i k : ℕ) (h : Held) → is-hold i k h ≡ true → k ≡ h .position
-unfolding is-hold
-hold-position i k h e = eqb-true k (h .position) (and-eq-true-iff (eqb i (h .holder)) (eqb k (h .position)) .0 e .1)
+use Rattle.rules.proofs.Kept.Redeliver.{hold-position}
 
 -- how often a position stands where the holds of a consumer on one go to the queue's end
 module _ (i k : ℕ) (queue : List ℕ) (held : List Held) (x : any (is-hold i k) held ≡ true) where

@@ -71,7 +71,7 @@ drop-complete-valid s i d v =
     valid-with-places s d v (d .redelivery) (keep q (d .in-flight)) (kept-places q (d .attached) (d .cursor) (d .in-flight) (d .redelivery) (places-of d (v .places)))
 
 -- no more marks lead than there are
-leading-le : (l : List Mark) → leading-complete l ≤ length l
+pub leading-le : (l : List Mark) → leading-complete l ≤ length l
 unfolding leading-complete
 leading-le [] = omega arith
 leading-le (m ∷ l) = let h = leading-le l in by-test (m .acked .complete) (λ t. rw t (omega arith)) (λ t. rw t (omega arith))

@@ -3,7 +3,7 @@
 use Prim.Native.Nat.{_/_}
 use lib.ListN.{length}
 use Rattle.rules.specs.State.{StoredMessage}
-use Rattle.ledger.specs.Ids.{message-of}
+use Rattle.topic.specs.Ids.{message-of}
 use Rattle.ten_calls.proofs.Runs.{all-ten, list-of-ten}
 use Rattle.ten_calls.proofs.Fitting.{all-fit, all-words, few-records, ten-accounted}
 use borrow.Author.Needs.{needs}

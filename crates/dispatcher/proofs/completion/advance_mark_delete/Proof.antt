@@ -10,9 +10,9 @@ use Rattle.dispatcher.proofs.completion.advance_mark_delete.Tie as tie
 use Rattle.dispatcher.proofs.completion.advance_mark_delete.Reads as reads
 use Rattle.dispatcher.proofs.completion.advance_mark_delete.Lts as lts
 use Rattle.dispatcher.proofs.completion.first_incomplete.Reads as first-incomplete-reads
-use Rattle.dispatcher.proofs.head.load_head.Reads as load-head-reads
-use Rattle.dispatcher.proofs.head.save_head.Reads as save-head-reads
-use Rattle.heads.proofs.advance_from.Reads as advance-from-reads
+use Rattle.dispatcher.proofs.numbers.load_head.Reads as load-head-reads
+use Rattle.dispatcher.proofs.numbers.save_head.Reads as save-head-reads
+use Rattle.head.proofs.advance_from.Reads as advance-from-reads
 
 -- the places: what stands before each, by name
 abbrev advance-from-before-slice-known2 : tie.After-slice-known2 → tie.After-advance-from

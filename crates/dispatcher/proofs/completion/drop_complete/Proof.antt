@@ -6,7 +6,7 @@ use native.Mathlib.Omega.{arith}
 use lib.ListN.{length}
 use Rattle.layout.specs.Layout.{decode}
 use Rattle.layout.specs.Fields.{dispatcher-nth}
-use Rattle.frame.proofs.Moved.{moved-length}
+use Rattle.operation_laws.proofs.Moved.{moved-length}
 use Rattle.dispatcher.specs.Held.{held-of}
 use Rattle.dispatcher.proofs.Completing.{Dropping, dropping-start, there-now, marked-now, test-now, dropping-skip, dropping-keep, dropping-end, place-now, kept-there}
 use borrow.Author.Needs.{needs}

@@ -9,7 +9,7 @@ use Rattle.rules.specs.State.{same-id}
 use Rattle.layout.specs.Layout.{decode}
 use Rattle.layout.specs.Fields.{zero-id, dispatcher-nth}
 use Rattle.store.proofs.Finding.{Sought, sought-start, sought-here, sought-on, sought-end}
-use Rattle.ledger.specs.Ids.{id-of}
+use Rattle.topic.specs.Ids.{id-of}
 use Rattle.dispatcher.specs.Outside.{by-itself}
 use Rattle.dispatcher.proofs.Gaps.{outside-counted, outside-here}
 use Rattle.dispatcher.proofs.outside.find_outside.Statement.{statement}

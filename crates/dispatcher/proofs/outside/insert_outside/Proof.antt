@@ -7,7 +7,7 @@ use lib.ListN.{length, length-set}
 use Rattle.layout.specs.Layout.{decode}
 use Rattle.layout.specs.Fields.{dispatcher-nth}
 use Rattle.store.proofs.Finding.{slot-le}
-use Rattle.ledger.specs.Ids.{id-of}
+use Rattle.topic.specs.Ids.{id-of}
 use Rattle.dispatcher.specs.Outside.{by-order}
 use Rattle.dispatcher.proofs.Gaps.{outside-counted}
 use Rattle.dispatcher.proofs.Loads.{inserted-outside}

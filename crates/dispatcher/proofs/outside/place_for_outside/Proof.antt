@@ -10,7 +10,7 @@ use Rattle.rules.specs.Ledger.{after-id}
 use Rattle.layout.specs.Layout.{decode}
 use Rattle.layout.specs.Fields.{zero-id, dispatcher-nth}
 use Rattle.store.proofs.Finding.{Sought, sought-start, sought-here, sought-on, sought-end}
-use Rattle.ledger.specs.Ids.{id-of}
+use Rattle.topic.specs.Ids.{id-of}
 use Rattle.dispatcher.specs.Outside.{by-order}
 use Rattle.dispatcher.proofs.Gaps.{outside-counted, outside-here}
 use Rattle.dispatcher.proofs.outside.place_for_outside.Statement.{statement}

@@ -8,7 +8,8 @@ use lib.Dec.{eqb}
 use lib.ListN.{length, getD, drop}
 use borrow.Author.Needs.{needs}
 use Rattle.words.specs.Words.{blank}
-use Rattle.store.proofs.Blank.{blank-next, blank-end, and-true, or-turn}
+use Rattle.words.proofs.Check.{and-true}
+use Rattle.store.proofs.Blank.{blank-next, blank-end, or-turn}
 use Rattle.store.proofs.stretch.rest_blank.Statement.{statement}
 use Rattle.store.proofs.stretch.rest_blank.Tie as tie
 use Rattle.store.proofs.stretch.rest_blank.Reads as reads

@@ -1,0 +1,2 @@
+pub mod Ackable
+pub mod NewIds

@@ -1,5 +1,0 @@
-pub mod Counts
-pub mod Marking
-pub mod Turns
-pub mod Finish
-pub mod Outcomes

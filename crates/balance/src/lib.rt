@@ -1,0 +1,69 @@
+// The balance check: what the permits of a ring's live consumers come to, from the oldest on. After
+// every honest list of calls it is the dispatcher's total; no operation asks for it.
+use consumer::lookup::Lookup;
+use consumer::lookup::find_consumer;
+use dispatcher::ring::ring_count;
+use store::offsets::CONSUMER_SUBSCRIPTION_IN;
+use store::offsets::CONSUMER_TOPIC_IN;
+use store::offsets::KIND_IN;
+use store::offsets::PERMITS_IN;
+use store::offsets::RING_IDS_IN;
+use store::offsets::SUBSCRIPTION_IN;
+use store::offsets::consumer_at;
+use store::offsets::dispatcher_at;
+use store::permits::ZERO_PERMITS;
+ghost use mathlib.Core.Path.{_≡_};
+ghost use mathlib.Core.Bool.{true};
+ghost use Prim.Native.Nat.{_^_, _≤_};
+ghost use Rattle.rules.specs.State.{consumer-of};
+ghost use Rattle.rules.specs.Dispatcher.{live-under, add-permits, balance-check};
+ghost use Rattle.layout.specs.Layout.{decode, spells};
+ghost use Rattle.layout.specs.Fields.{consumer-now, dispatcher-now};
+ghost use Rattle.layout.specs.Placed.{Consumer-in, Dispatcher-in};
+
+// Whether consumer `i` is live under dispatcher `d`: a shared one of its pair.
+fn is_under(store: &[u64], e: usize, d: usize, i: usize) -> bool
+    requires { ⌜ Dispatcher-in e (now store) d × Consumer-in e (now store) i ⌝ }
+    ensures { λ r. ⌜ r ≡ live-under (dispatcher-now (now (store .entry)) d .pair) (consumer-now (now (store .entry)) i) ⌝ }
+{
+    let at = consumer_at(i);
+    let to = dispatcher_at(e, d);
+    if store[at + KIND_IN] == 0 {
+        return false;
+    }
+    if store[to] != store[at + CONSUMER_TOPIC_IN] {
+        return false;
+    }
+    store[to + SUBSCRIPTION_IN] == store[at + CONSUMER_SUBSCRIPTION_IN]
+}
+
+// A sum with the permits of the consumer `id` added, if it is live under dispatcher `d`.
+fn add_permits(store: &[u64], e: usize, d: usize, id: u64, sum: u64) -> u64
+    requires { ⌜ Dispatcher-in e (now store) d × (spells (now store) ≡ true) × (2 ^ 61 ≤ sum) × (sum ≤ 2 ^ 63) ⌝ }
+    ensures { λ r. ⌜ r ≡ add-permits (dispatcher-now (now (store .entry)) d .pair) sum (consumer-of (decode (now (store .entry))) id) ⌝ }
+{
+    let Lookup::Live(i) = find_consumer(store, e, id) else {
+        return sum;
+    };
+    if !is_under(store, e, d, i) {
+        return sum;
+    }
+    let at = consumer_at(i);
+    sum + store[at + PERMITS_IN] - ZERO_PERMITS
+}
+
+// The permits of the consumers of dispatcher `d`, in excess form.
+pub fn balance_check(store: &[u64], e: usize, d: usize) -> u64
+    requires { ⌜ Dispatcher-in e (now store) d × (spells (now store) ≡ true) ⌝ }
+    ensures { λ r. ⌜ r ≡ balance-check (decode (now (store .entry))) (dispatcher-now (now (store .entry)) d) ⌝ }
+{
+    let n = ring_count(store, e, d);
+    let first = dispatcher_at(e, d) + RING_IDS_IN;
+    let mut sum = ZERO_PERMITS;
+    let mut j = 0;
+    while j < n {
+        sum = add_permits(store, e, d, store[first + j], sum);
+        j += 1;
+    }
+    sum
+}

@@ -1,0 +1,3 @@
+pub mod Among
+pub mod Below
+pub mod RowOrder

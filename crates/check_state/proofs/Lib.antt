@@ -1,0 +1,17 @@
+pub mod Ascend
+pub mod Bytes
+pub mod Checks
+pub mod Consumers
+pub mod DispatcherWords
+pub mod Distinct
+pub mod Elements
+pub mod Ids
+pub mod MarkBits
+pub mod MarkRuns
+pub mod MarkWords
+pub mod Orders
+pub mod Pairs
+pub mod Ranges
+pub mod RowLists
+pub mod Stamps
+pub mod Topics

@@ -1,0 +1,5 @@
+pub mod Dispatchers
+pub mod Marks
+pub mod Orders
+pub mod Places
+pub mod ValidConsumers

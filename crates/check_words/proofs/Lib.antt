@@ -1,0 +1,4 @@
+pub mod Headers
+pub mod Parts
+pub mod Spelt
+pub mod Tables

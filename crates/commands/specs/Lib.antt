@@ -1,4 +1,0 @@
-pub mod Appends
-pub mod Entries
-pub mod Live
-pub mod Targets

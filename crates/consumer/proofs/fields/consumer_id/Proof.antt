@@ -1,0 +1,25 @@
+-- `consumer::fields::consumer_id` meets its contract: the word at its offset.
+use Rattle.layout.proofs.Gets.{read-consumer-id}
+use borrow.Author.Needs.{needs}
+use Rattle.consumer.proofs.fields.consumer_id.Statement.{statement}
+use Rattle.consumer.proofs.fields.consumer_id.Tie as tie
+
+-- the places: what stands before each, by name
+abbrev entry-before-shared-slice-known2 : tie.After-shared-slice-known2 → tie.Start
+entry-before-shared-slice-known2 c = c .before .before .before
+
+consumer-at-requires : tie.Need-consumer-at-requires
+consumer-at-requires c κs = search needs
+
+mul-result : tie.Need-mul-result
+mul-result c = search needs
+
+shared-slice-read-result : tie.Need-shared-slice-read-result
+shared-slice-read-result c = search needs
+
+returns : tie.Need-returns
+returns c = rw (c .before .consumer-at .ensures) (read-consumer-id (entry-before-shared-slice-known2 c .pre .canon) (entry-before-shared-slice-known2 c .args .i) (entry-before-shared-slice-known2 c .pre .there))
+
+pub consumer-id-spec : {M : Type 1} → statement M
+consumer-id-spec =
+    tie.close (tie.spec consumer-at-requires mul-result shared-slice-read-result returns)

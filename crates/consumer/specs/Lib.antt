@@ -1,0 +1,3 @@
+pub mod Live
+pub mod Lookup
+pub mod Made

@@ -1,3 +1,0 @@
-// Push with a lent list of dispatch records: the flat push, and then its records filled in.
-pub mod fill;
-pub mod listed;

@@ -1,9 +1,0 @@
-pub mod Records
-pub mod Steps
-pub mod Staying
-pub mod Writing
-pub mod Readied
-pub mod Sharing
-pub mod Most
-pub mod Pushing
-pub mod Answering

@@ -1,2 +1,0 @@
-pub mod Service
-pub mod Bound

@@ -1,0 +1,5 @@
+pub mod Applied
+pub mod Local
+pub mod Plain
+pub mod Shared
+pub mod Whole

@@ -1,0 +1,4 @@
+pub mod Entering
+pub mod Joining
+pub mod Seating
+pub mod Subscribing

@@ -1,0 +1,4 @@
+pub mod Finds
+pub mod LedgerWords
+pub mod Ledgers
+pub mod Positions
