@@ -44,11 +44,12 @@ run:
 	$(build-terminal)
 	target/terminal
 
-# The layout of the sources, the library for C, the runs of it and of broker.rs, its limits and faults, its
-# examples, the check on changed words, then the proofs from nothing with the must-fail edits. rt ci comes
-# last, so that its verdict is the last line.
+# The layout of the sources, the rooms as they are drawn, the library for C, the runs of it and of broker.rs,
+# its limits and faults, its examples, the check on changed words, then the proofs from nothing with the
+# must-fail edits. rt ci comes last, so that its verdict is the last line.
 test:
 	rt fmt --check
+	tests/rooms
 	rt staticlib broker
 	LIBBROKER=$(LIBRARY) CALLS=$(CALLS) reference/check
 	$(run-faults)

@@ -1,9 +1,7 @@
 // The case runner: readings of document 01 taken by running the code, a line each, then the calls of
 // the file `stdin`, held to the file `stdout`. What it prints is compared and not proved.
-mod balance;
-mod name;
+mod balances;
 mod replay;
-mod show;
 
 use bits::UnackedBits;
 use libc::STDOUT_FILENO;

@@ -1,24 +1,24 @@
 // The replay of the calls that stand on the input, one a line, on a store of 8,192 words. Each line is
 // printed with what the call gave, and a push with its records; a line `balance` asks for the balance
 // check of each dispatcher, and one that begins with # is a heading.
-use crate::balance::show_balances;
-use crate::name::ACK;
-use crate::name::APPEND;
-use crate::name::BALANCE;
-use crate::name::CLOSE;
-use crate::name::FLOW;
-use crate::name::OPEN;
-use crate::name::PLAIN;
-use crate::name::PUSH;
-use crate::name::REDELIVER;
-use crate::name::SEEK;
-use crate::name::START;
-use crate::name::SUBSCRIBE;
-use crate::show::show_outcome;
-use crate::show::show_records;
-use crate::show::show_twin;
+use crate::balances::show_balances;
+use cases_line::name::ACK;
+use cases_line::name::APPEND;
+use cases_line::name::BALANCE;
+use cases_line::name::CLOSE;
+use cases_line::name::FLOW;
+use cases_line::name::OPEN;
+use cases_line::name::PLAIN;
+use cases_line::name::PUSH;
+use cases_line::name::REDELIVER;
+use cases_line::name::SEEK;
+use cases_line::name::START;
+use cases_line::name::SUBSCRIBE;
 use cases_line::read_line;
 use cases_line::words_of;
+use cases_show::show_outcome;
+use cases_show::show_records;
+use cases_show::show_twin;
 use cases_twin::as_records;
 use cases_twin::copy_words;
 use libc::STDOUT_FILENO;
@@ -27,7 +27,7 @@ ghost use lib.ListN.{length};
 
 // Replays the input to its end, or to an empty line. The turns are counted down from a number that no
 // input reaches, since a proved loop has to end.
-fn replay() {
+pub(crate) fn replay() {
     let mut store = [0u64; 8192];
     let mut turns = 18446744073709551615u64;
     while turns > 0 && replay_line(&mut store) {

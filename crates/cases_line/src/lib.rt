@@ -1,6 +1,8 @@
 // The runner's input: lines of words with one blank between them, as reference/src/script.rs writes
 // calls. A word of digits is its number; a name is the number that its last eight letters spell in
 // base 256, so that names are compared as numbers.
+pub mod name;
+
 use libc::STDIN_FILENO;
 ghost use mathlib.Core.Path.{_≡_};
 ghost use mathlib.Core.Bool.{cond};

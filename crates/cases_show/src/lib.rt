@@ -1,15 +1,15 @@
 // What the runner prints of a call: the same words as reference/src/play.rs.
-use crate::name::ACK;
-use crate::name::CLOSE;
-use crate::name::FLOW;
-use crate::name::PUSH;
-use crate::name::SEEK;
+use cases_line::name::ACK;
+use cases_line::name::CLOSE;
+use cases_line::name::FLOW;
+use cases_line::name::PUSH;
+use cases_line::name::SEEK;
 use libc::STDOUT_FILENO;
 ghost use Prim.Native.Nat.{_+_, _≤_};
 ghost use lib.ListN.{length};
 
 // Done and the value, or the refusal's number, and the end of the line.
-pub(crate) fn show_outcome(name: u64, answer: u64) {
+pub fn show_outcome(name: u64, answer: u64) {
     let number = answer % 256;
     if number == 0 {
         io::write_all(STDOUT_FILENO, b"done");
@@ -59,7 +59,7 @@ fn show_value_signed(value: u64) {
 }
 
 // Whether a push into records gave the same as the flat push.
-pub(crate) fn show_twin(same: bool) {
+pub fn show_twin(same: bool) {
     if same {
         io::write_all(STDOUT_FILENO, b"  as records: the same\n");
     } else {
@@ -68,7 +68,7 @@ pub(crate) fn show_twin(same: bool) {
 }
 
 // The records at the start of a push's list, a line each.
-pub(crate) fn show_records(list: &[u64], count: u64) {
+pub fn show_records(list: &[u64], count: u64) {
     let mut at = 0;
     let mut left = count;
     while left > 0 {
@@ -135,13 +135,13 @@ fn show_signed(w: u64) {
 }
 
 // How many dispatchers there are, and the end of the line.
-pub(crate) fn show_count(dispatchers: u64) {
+pub fn show_count(dispatchers: u64) {
     show_field(b"dispatchers ", dispatchers);
     io::write_all(STDOUT_FILENO, b"\n");
 }
 
 // A line: a dispatcher, its balance check and its total, both in excess form.
-pub(crate) fn show_balance(dispatcher: u64, balance: u64, total: u64) {
+pub fn show_balance(dispatcher: u64, balance: u64, total: u64) {
     show_field(b"  + dispatcher ", dispatcher);
     show_permits(b": balance ", balance);
     show_permits(b" total ", total);

@@ -8,8 +8,8 @@ use Rattle.layout.specs.Layout.{decode}
 use Rattle.layout.specs.Placed.{Dispatcher-in}
 use Rattle.layout.proofs.Gets.{read-dispatcher-count}
 use Rattle.layout.proofs.Placed.{dispatcher-in}
-use Rattle.cases.proofs.balance.show_each.Statement.{statement}
-use Rattle.cases.proofs.balance.show_each.Tie as tie
+use Rattle.cases.proofs.balances.show_each.Statement.{statement}
+use Rattle.cases.proofs.balances.show_each.Tie as tie
 
 abbrev Inv-loop : tie.InvT-loop
 Inv-loop store e n d₀ d = d ≤ n

@@ -1,7 +1,7 @@
 // The balance check, which no operation makes: of each dispatcher beside its total.
-use crate::show::show_balance;
-use crate::show::show_count;
 use balance::balance_check;
+use cases_show::show_balance;
+use cases_show::show_count;
 use check_state::spells;
 use dispatcher::total::total_available_permits;
 use libc::STDOUT_FILENO;

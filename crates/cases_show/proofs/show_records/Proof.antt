@@ -4,11 +4,11 @@ use native.Mathlib.Omega.{arith}
 use mathlib.Core.Path.{_≡_, _∙_}
 use lib.ListN.{length, set, take, length-set, length-take}
 use borrow.Author.Needs.{needs}
-use Rattle.cases.proofs.show.show_records.Statement.{statement}
-use Rattle.cases.proofs.show.show_records.Tie as tie
-use Rattle.cases.proofs.show.show_records.Reads as reads
-use Rattle.cases.proofs.show.show_records.Lts as lts
-use Rattle.cases.proofs.show.show_record.Reads as show-record-reads
+use Rattle.cases_show.proofs.show_records.Statement.{statement}
+use Rattle.cases_show.proofs.show_records.Tie as tie
+use Rattle.cases_show.proofs.show_records.Reads as reads
+use Rattle.cases_show.proofs.show_records.Lts as lts
+use Rattle.cases_show.proofs.show_record.Reads as show-record-reads
 
 abbrev Inv-loop : tie.InvT-loop
 Inv-loop list count at₀ left₀ at left = at ≤ length list

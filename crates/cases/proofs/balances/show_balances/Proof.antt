@@ -4,8 +4,8 @@ use mathlib.Core.Bool.{true}
 use borrow.Author.Needs.{needs}
 use Rattle.layout.specs.Layout.{spells}
 use Rattle.layout.proofs.Store.{spells-canon}
-use Rattle.cases.proofs.balance.show_balances.Statement.{statement}
-use Rattle.cases.proofs.balance.show_balances.Tie as tie
+use Rattle.cases.proofs.balances.show_balances.Statement.{statement}
+use Rattle.cases.proofs.balances.show_balances.Tie as tie
 
 -- the places: what stands before each, by name
 abbrev entry-before-then1 : tie.Then1 → tie.Start
