@@ -1,6 +1,7 @@
 // Opening a store: the words of a state with no topic, consumer or dispatcher.
 use super::limits::MOST_ENTRIES;
 use super::offsets::ENTRIES_AT;
+use super::offsets::LAYOUT_TAG;
 use super::offsets::LEAK_AT;
 use super::offsets::NEEDED_WORDS;
 use super::offsets::NEEDED_WORDS_E;
@@ -14,9 +15,6 @@ ghost use lib.ListN.{length};
 ghost use Rattle.words.specs.Codec.{bit};
 ghost use Rattle.layout.specs.Calls.{open-answer, open-after};
 ghost use Rattle.store.specs.Open.{opened-words};
-
-// What word 0 of every store of this layout is.
-pub const LAYOUT_TAG: u64 = 0x5a51_4453_5031_0002;
 
 // The words become those of a store just opened, or stay as they are: 2 if E is not 1 to 4,096,
 // 3 if the store is too short.
