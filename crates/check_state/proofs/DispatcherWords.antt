@@ -21,9 +21,10 @@ use Rattle.check_rows.specs.Rows.{row, among}
 use Rattle.check_state.specs.Places.{held-right, holders-right, fresh-places, places-right}
 use Rattle.check_state.specs.Dispatchers.{Dispatcher-room, head-right, next-right, ring-right}
 use Rattle.check_rows.proofs.Below.{each-given, each-same}
-use Rattle.check_state.proofs.Elements.{all-each}
+use Rattle.check_rows.proofs.Elements.{all-each}
 use Rattle.store.proofs.Rooms.{slot-le}
-use Rattle.check_state.proofs.RowLists.{empty-length, by-place, Spell, among-list, distinct-list, fresh-lists}
+use Rattle.check_rows.proofs.RowLists.{empty-length, by-place, Spell, among-list, distinct-list}
+use Rattle.check_state.proofs.FreshLists.{fresh-lists}
 
 module _ {e : ℕ} {ws : List ℕ} (h : Canon-store e ws) (d : ℕ) (k : d < length (decode ws .dispatchers)) where
   -- the dispatcher

@@ -26,10 +26,10 @@ use Rattle.check_rows.specs.Rows.{row, row-second, two-among, pair-above, two-a
 use Rattle.check_state.specs.Marks.{mark-right, mark-suits, marks-right, absent-id, absent, outside-right}
 use Rattle.check_state.specs.Dispatchers.{front-right, rest-right}
 use Rattle.check_rows.proofs.Below.{each-given, each-same, some-same}
-use Rattle.check_state.proofs.Elements.{marks-each, holds-any, all-each, any-some, ascending-each}
+use Rattle.check_rows.proofs.Elements.{marks-each, holds-any, all-each, any-some, ascending-each}
 use Rattle.store.specs.Find.{slot}
 use Rattle.store.proofs.Tests.{fails, passes}
-use Rattle.check_state.proofs.RowLists.{by-place, two-before}
+use Rattle.check_rows.proofs.RowLists.{by-place, two-before}
 use Rattle.topic.proofs.LedgerWords.{ledger-start, entry-ledger, entry-entry, entry-batch}
 use Rattle.check_state.proofs.DispatcherWords.{head-reads, ring-reads, places-reads}
 

@@ -3,13 +3,10 @@ use mathlib.Core.Path.{_≡_, refl, sym, ap, _∙_, subst}
 use mathlib.Core.List.{List, map}
 use Prim.Native.Nat.{ℕ, _+_, _*_, _≤_, _<_}
 use native.Mathlib.Omega.{arith}
-use lib.Dec.{ltb}
-use lib.ListN.{length, getD, replicate, length-map, List·getD-map, getD-replicate, length-replicate, List·getD-eq-default}
-use borrow.Author.Tests.{ltb-true, ltb-false}
+use lib.ListN.{length, getD, replicate, length-map, List·getD-map}
 use Rattle.rules.specs.Table.{distinct}
 use Rattle.rules.specs.State.{Pair, same-pair, Dispatcher}
 use Rattle.rules.proofs.State.{decides-pairs}
-use Rattle.rules.proofs.Table.{by-test}
 use Rattle.layout.specs.Layout.{decode}
 use Rattle.layout.specs.Canon.{Canon-store}
 use Rattle.layout.specs.Fields.{zero-pair, zero-dispatcher}
@@ -17,13 +14,8 @@ use Rattle.layout.proofs.GetsDispatcher.{read-dispatcher-topic, read-dispatcher
 use Rattle.check_rows.specs.Rows.{row, row-second, twos-distinct}
 use Rattle.check_state.specs.Places.{Under}
 use Rattle.store.proofs.Rooms.{room-le}
-use Rattle.check_state.proofs.RowLists.{twos-list}
-
--- zeros are 0 everywhere
-pub zeros : (n p : ℕ) → getD (replicate {A = ℕ} n 0) p 0 ≡ 0
-zeros n p =
-    by-test (ltb p n) (λ t. getD-replicate n p 0 0 (ltb-true p n t))
-    (λ t. List·getD-eq-default (replicate n 0) 0 (subst (λ (m : ℕ). m ≤ p) (sym (length-replicate {A = ℕ} n 0)) (ltb-false p n t)))
+use Rattle.check_rows.proofs.Zeros.{zeros}
+use Rattle.check_rows.proofs.RowLists.{twos-list}
 
 -- so they are below 1
 pub zeros-under : (n : ℕ) → Under (replicate n 0) 1

@@ -1,5 +1,4 @@
 pub mod Dispatchers
 pub mod Marks
-pub mod Orders
 pub mod Places
 pub mod ValidConsumers

@@ -5,8 +5,8 @@ mod valid_consumers;
 mod valid_dispatchers;
 mod valid_marks;
 mod valid_places;
-mod valid_topics;
 
+use check_topics::topics_valid;
 use check_words::canonical::body_canonical;
 use check_words::header::header_right;
 use store::offsets::ENTRIES_AT;
@@ -15,7 +15,6 @@ use store::offsets::NEEDED_WORDS_E;
 use store::stretch::word;
 use valid_consumers::consumers_valid;
 use valid_dispatchers::dispatchers_valid;
-use valid_topics::topics_valid;
 ghost use mathlib.Core.Path.{_≡_};
 ghost use Rattle.rules.specs.Valid.{valid};
 ghost use Rattle.layout.specs.Layout.{decode};

@@ -41,7 +41,7 @@ ghost use Rattle.layout.specs.Canon.{Canon-store};
 ghost use Rattle.layout.specs.Fields.{dispatcher-now};
 ghost use Rattle.layout.specs.Offsets.{ring-in, outside-in};
 ghost use Rattle.check_rows.specs.Rows.{twos-ascend};
-ghost use Rattle.check_state.specs.Orders.{Known};
+ghost use Rattle.check_topics.specs.Orders.{Known};
 ghost use Rattle.check_state.specs.Places.{Under, Tested};
 ghost use Rattle.check_state.specs.Dispatchers.{Dispatcher-room, head-right, next-right, ring-right, front-right, rest-right, dispatchers-right};
 

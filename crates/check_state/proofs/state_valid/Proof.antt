@@ -2,7 +2,7 @@
 use mathlib.Core.Path.{_≡_, refl, _∙_}
 use Rattle.store.proofs.Tests.{fails, passes, answered-no, answered-yes}
 use Rattle.check_state.proofs.Checks.{state-by-tables}
-use Rattle.check_state.proofs.Orders.{known-nothing}
+use Rattle.check_topics.proofs.Orders.{known-nothing}
 use borrow.Author.Needs.{needs}
 use Rattle.check_state.proofs.state_valid.Statement.{statement}
 use Rattle.check_state.proofs.state_valid.Tie as tie

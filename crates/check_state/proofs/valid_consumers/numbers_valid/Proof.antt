@@ -11,7 +11,7 @@ use Rattle.rules.specs.Permits.{least-permits, most-permits}
 use Rattle.layout.proofs.Gets.{read-consumer-topic, read-consumer-subscription, read-consumer-permits}
 use Rattle.check_state.specs.ValidConsumers.{numbers-valid}
 use Rattle.store.proofs.Tests.{fails, passes}
-use Rattle.check_state.proofs.Bytes.{byte-over, byte-within}
+use Rattle.check_topics.proofs.Bytes.{byte-over, byte-within}
 use borrow.Author.Needs.{needs}
 use Rattle.check_state.proofs.valid_consumers.numbers_valid.Statement.{statement}
 use Rattle.check_state.proofs.valid_consumers.numbers_valid.Tie as tie

@@ -12,7 +12,7 @@ use Rattle.store.proofs.Tests.{answered-no, answered-yes}
 use Rattle.topic.proofs.LedgerWords.{ledger-fits, ledger-room}
 use Rattle.check_state.proofs.DispatcherWords.{dispatcher-room}
 use Rattle.store.proofs.Finding.{slot-le}
-use Rattle.check_state.proofs.Orders.{known-ledger}
+use Rattle.check_topics.proofs.Orders.{known-ledger}
 use Rattle.check_state.proofs.MarkWords.{front-wrong, rest-decides}
 use Rattle.check_state.proofs.valid_dispatchers.dispatcher_valid.Statement.{statement}
 use Rattle.check_state.proofs.valid_dispatchers.dispatcher_valid.Tie as tie

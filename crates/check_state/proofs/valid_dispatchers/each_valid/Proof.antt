@@ -13,7 +13,7 @@ use Rattle.check_rows.specs.Below.{each-below}
 use Rattle.check_state.specs.Places.{Under}
 use Rattle.store.proofs.Tests.{answered-no, answered-yes}
 use Rattle.check_rows.proofs.Below.{each-turn, each-stop, each-end}
-use Rattle.check_state.proofs.Elements.{all-each}
+use Rattle.check_rows.proofs.Elements.{all-each}
 use Rattle.check_state.proofs.valid_dispatchers.each_valid.Statement.{statement}
 use Rattle.check_state.proofs.valid_dispatchers.each_valid.Tie as tie
 

@@ -1,4 +1,4 @@
--- `check_state::valid_topics::messages_ascend` meets its contract. The loop's invariant: the sizes before message m are right, ledger and
+-- `check_topics::messages_ascend` meets its contract. The loop's invariant: the sizes before message m are right, ledger and
 -- entry are the id before it, and each id up to that one is above the one before it.
 use borrow.Author.Needs.{needs}
 use mathlib.Core.Path.{_≡_, refl, sym, ap, _∙_}
@@ -11,12 +11,12 @@ use lib.ListN.{length, getD}
 use borrow.Author.Tests.{lt-leb, le-leb, lt-ltb, le-ltb}
 use Rattle.check_rows.specs.Below.{each-below}
 use Rattle.check_rows.specs.Rows.{row, row-second, pair-above, two-ascends, twos-ascend}
-use Rattle.check_state.specs.Orders.{batch-right, messages-ascend}
+use Rattle.check_topics.specs.Orders.{batch-right, messages-ascend}
 use Rattle.check_rows.proofs.Below.{each-turn, each-stop, each-end}
 use Rattle.store.proofs.Tests.{fails, passes}
 use Rattle.check_rows.proofs.RowOrder.{above-first, above-second, ascend-turn, ascend-next, row-none, second-none}
-use Rattle.check_state.proofs.valid_topics.messages_ascend.Statement.{statement}
-use Rattle.check_state.proofs.valid_topics.messages_ascend.Tie as tie
+use Rattle.check_topics.proofs.messages_ascend.Statement.{statement}
+use Rattle.check_topics.proofs.messages_ascend.Tie as tie
 
 abbrev Inv-loop : tie.InvT-loop
 Inv-loop store first n ledger₀ entry₀ m₀ ledger entry m =

@@ -1,4 +1,4 @@
--- `check_state::valid_topics::is_new` meets its contract: the ids of the first messages are compared one by one. The loop's invariant:
+-- `check_topics::is_new` meets its contract: the ids of the first messages are compared one by one. The loop's invariant:
 -- none before j is the id.
 use mathlib.Core.Path.{_≡_, sym, ap, _∙_}
 use mathlib.Core.Bool.{not}
@@ -17,13 +17,13 @@ use Rattle.layout.specs.Offsets.{topic-at, message-in}
 use Rattle.layout.proofs.Gets.{messages-short, read-message-ledger, read-message-entry}
 use Rattle.store.proofs.Tests.{answered-no, answered-yes}
 use Rattle.store.proofs.Inside.{topic-inside}
-use Rattle.check_state.proofs.Ids.{id-read}
+use Rattle.check_topics.proofs.Ids.{id-read}
 use Rattle.store.proofs.Prefixes.{Stepwise, Passed, none-steps, map-steps, passed-start, passed-stop, passed-turn, passed-end}
-use Rattle.check_state.proofs.valid_topics.is_new.Statement.{statement}
-use Rattle.check_state.proofs.valid_topics.is_new.Tie as tie
-use Rattle.check_state.proofs.valid_topics.is_new.Reads as reads
-use Rattle.check_state.proofs.valid_topics.is_new.Lts as lts
-use Rattle.check_state.proofs.valid_topics.is_other.Reads as is-other-reads
+use Rattle.check_topics.proofs.is_new.Statement.{statement}
+use Rattle.check_topics.proofs.is_new.Tie as tie
+use Rattle.check_topics.proofs.is_new.Reads as reads
+use Rattle.check_topics.proofs.is_new.Lts as lts
+use Rattle.check_topics.proofs.is_other.Reads as is-other-reads
 
 abbrev Inv-loop : tie.InvT-loop
 Inv-loop store e t m ledger entry first j₀ j =

@@ -1,4 +1,4 @@
--- `check_state::valid_topics::messages_valid` meets its contract: one pass over the messages. The loop's invariant: those before m are
+-- `check_topics::messages_valid` meets its contract: one pass over the messages. The loop's invariant: those before m are
 -- valid, with ids distinct and none after the greatest.
 use mathlib.Core.Path.{_≡_, refl, sym, ap, _∙_, subst}
 use mathlib.Core.Bool.{not, false}
@@ -20,16 +20,16 @@ use Rattle.layout.specs.Offsets.{topic-at, message-in}
 use Rattle.layout.proofs.Gets.{messages-short, read-message-count, read-message-ledger, read-message-entry, read-message-handle, read-message-batch}
 use Rattle.store.proofs.Tests.{fails, passes, answered-no, answered-yes}
 use Rattle.store.proofs.Inside.{topic-inside}
-use Rattle.check_state.proofs.Ids.{above-after, id-read, Bounded}
-use Rattle.check_state.proofs.Topics.{ids, message-words, messages-valid, message-steps, next-greater, next-new}
+use Rattle.check_topics.proofs.Ids.{above-after, id-read, Bounded}
+use Rattle.check_topics.proofs.Topics.{ids, message-words, messages-valid, message-steps, next-greater, next-new}
 use Rattle.store.proofs.Prefixes.{Passed, passed-start, passed-stop, passed-end}
-use Rattle.check_state.proofs.valid_topics.messages_valid.Statement.{statement}
-use Rattle.check_state.proofs.valid_topics.messages_valid.Tie as tie
-use Rattle.check_state.proofs.valid_topics.messages_valid.Reads as reads
-use Rattle.check_state.proofs.valid_topics.messages_valid.Lts as lts
+use Rattle.check_topics.proofs.messages_valid.Statement.{statement}
+use Rattle.check_topics.proofs.messages_valid.Tie as tie
+use Rattle.check_topics.proofs.messages_valid.Reads as reads
+use Rattle.check_topics.proofs.messages_valid.Lts as lts
 use Rattle.store.proofs.stretch.word.Reads as word-reads
 use Rattle.check_rows.proofs.is_above.Reads as is-above-reads
-use Rattle.check_state.proofs.valid_topics.is_new.Reads as is-new-reads
+use Rattle.check_topics.proofs.is_new.Reads as is-new-reads
 
 abbrev Inv-loop : tie.InvT-loop
 Inv-loop store e t first n ledger₀ entry₀ m₀ ledger entry m =

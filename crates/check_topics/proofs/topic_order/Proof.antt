@@ -1,4 +1,4 @@
--- `check_state::valid_topics::topic_order` meets its contract: number, count and messages are tested in order, first whether they
+-- `check_topics::topic_order` meets its contract: number, count and messages are tested in order, first whether they
 -- ascend.
 use mathlib.Core.Path.{_≡_, sym, ap₂, _∙_}
 use mathlib.Core.Bool.{Bool, true, _&&_}
@@ -15,16 +15,16 @@ use Rattle.layout.specs.Offsets.{topic-at}
 use Rattle.layout.proofs.Gets.{messages-short, read-topic-number, read-message-count}
 use Rattle.store.proofs.Tests.{fails, passes}
 use Rattle.store.proofs.Inside.{topic-inside}
-use Rattle.check_state.proofs.Bytes.{byte-over, byte-within}
-use Rattle.check_state.specs.Orders.{messages-ascend}
-use Rattle.check_state.proofs.Topics.{messages-valid, topic-by-parts}
-use Rattle.check_state.proofs.Orders.{ascend-valid, valid-mixed, order-wrong, order-mixed, order-ascends}
+use Rattle.check_topics.proofs.Bytes.{byte-over, byte-within}
+use Rattle.check_topics.specs.Orders.{messages-ascend}
+use Rattle.check_topics.proofs.Topics.{messages-valid, topic-by-parts}
+use Rattle.check_topics.proofs.Orders.{ascend-valid, valid-mixed, order-wrong, order-mixed, order-ascends}
 use borrow.Author.Needs.{needs}
-use Rattle.check_state.proofs.valid_topics.topic_order.Statement.{statement}
-use Rattle.check_state.proofs.valid_topics.topic_order.Tie as tie
-use Rattle.check_state.proofs.valid_topics.topic_order.Reads as reads
-use Rattle.check_state.proofs.valid_topics.topic_order.Lts as lts
-use Rattle.check_state.proofs.valid_topics.messages_valid.Reads as messages-valid-reads
+use Rattle.check_topics.proofs.topic_order.Statement.{statement}
+use Rattle.check_topics.proofs.topic_order.Tie as tie
+use Rattle.check_topics.proofs.topic_order.Reads as reads
+use Rattle.check_topics.proofs.topic_order.Lts as lts
+use Rattle.check_topics.proofs.messages_valid.Reads as messages-valid-reads
 
 -- the places: what stands before each, by name
 abbrev entry-before-then1 : tie.Then1 → tie.Start

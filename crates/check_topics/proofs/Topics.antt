@@ -14,8 +14,8 @@ use Rattle.rules.proofs.Table.{decides-numbers}
 use Rattle.rules.proofs.State.{decides-ids}
 use Rattle.rules.proofs.Valid.{says-word}
 use Rattle.store.proofs.Prefixes.{Stepwise, Passed, all-steps, both-steps, map-steps, passed-turn}
-use Rattle.check_state.proofs.Distinct.{distinct-steps}
-use Rattle.check_state.proofs.Ids.{after-self, Bounded, greater-bounds, greater-new}
+use Rattle.check_topics.proofs.Distinct.{distinct-steps}
+use Rattle.check_topics.proofs.Ids.{after-self, Bounded, greater-bounds, greater-new}
 
 -- the ids of messages
 abbrev pub ids : List StoredMessage → List Id

@@ -28,7 +28,7 @@ ghost use Rattle.rules.specs.Valid.{valid-message, valid-topic};
 ghost use Rattle.layout.specs.Layout.{decode};
 ghost use Rattle.layout.specs.Canon.{Canon-store};
 ghost use Rattle.layout.specs.Fields.{topic-now};
-ghost use Rattle.check_state.specs.Orders.{messages-ascend, topic-order, Known, Ordered};
+ghost use Rattle.check_topics.specs.Orders.{messages-ascend, topic-order, Known, Ordered};
 
 // Whether the two words at `at` are another id than the given one.
 fn is_other(store: &[u64], at: usize, ledger: u64, entry: u64) -> bool
@@ -145,7 +145,7 @@ fn topic_order(store: &[u64], e: usize, t: usize) -> u8
 
 // Whether the topics are valid and their numbers distinct: each is found at its own slot. What each is
 // known as stands in `orders` then.
-pub(crate) fn topics_valid(store: &[u64], e: usize, orders: &mut [u8]) -> bool
+pub fn topics_valid(store: &[u64], e: usize, orders: &mut [u8]) -> bool
     requires canon { ⌜ Canon-store e (now store) ⌝ }
     requires orders { ⌜ (length (now orders) ≡ 9) × Known e (now store) (now orders) ⌝ }
     ensures { λ r. ⌜ Ordered e (now (store .entry)) (now (orders .exit)) r

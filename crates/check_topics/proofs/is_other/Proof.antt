@@ -1,4 +1,4 @@
--- `check_state::valid_topics::is_other` meets its contract: the two words are compared in order.
+-- `check_topics::is_other` meets its contract: the two words are compared in order.
 use mathlib.Core.Path.{sym, ap}
 use mathlib.Core.Bool.{not}
 use borrow.Author.Tests.{eq-eqb, ne-eqb}
@@ -6,10 +6,10 @@ use Rattle.rules.specs.State.{same-id}
 use Rattle.rules.proofs.Table.{decides-numbers, same-comm}
 use Rattle.store.proofs.Tests.{fails, passes}
 use borrow.Author.Needs.{needs}
-use Rattle.check_state.proofs.valid_topics.is_other.Statement.{statement}
-use Rattle.check_state.proofs.valid_topics.is_other.Tie as tie
-use Rattle.check_state.proofs.valid_topics.is_other.Reads as reads
-use Rattle.check_state.proofs.valid_topics.is_other.Lts as lts
+use Rattle.check_topics.proofs.is_other.Statement.{statement}
+use Rattle.check_topics.proofs.is_other.Tie as tie
+use Rattle.check_topics.proofs.is_other.Reads as reads
+use Rattle.check_topics.proofs.is_other.Lts as lts
 
 -- the places: what stands before each, by name
 abbrev entry-before-shared-slice-known2 : tie.After-shared-slice-known2 → tie.Start

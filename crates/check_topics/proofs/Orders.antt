@@ -23,14 +23,14 @@ use Rattle.layout.proofs.Gets.{read-message-count, read-message-ledger, read-me
 use Rattle.check_rows.specs.Below.{each-below}
 use Rattle.store.specs.Find.{slot}
 use Rattle.check_rows.specs.Rows.{row, row-second, twos-ascend}
-use Rattle.check_state.specs.Orders.{batch-right, messages-ascend, ledger-ascends, topic-order, Known}
+use Rattle.check_topics.specs.Orders.{batch-right, messages-ascend, ledger-ascends, topic-order, Known}
 use Rattle.check_rows.proofs.Below.{each-same}
-use Rattle.check_state.proofs.Elements.{all-each}
+use Rattle.check_rows.proofs.Elements.{all-each}
 use Rattle.topic.proofs.Ledgers.{ledger-at, ledger-none}
-use Rattle.check_state.proofs.Pairs.{zeros}
-use Rattle.check_state.proofs.RowLists.{twos-list}
+use Rattle.check_rows.proofs.Zeros.{zeros}
+use Rattle.check_rows.proofs.RowLists.{twos-list}
 use Rattle.check_rows.proofs.RowOrder.{ascend-distinct}
-use Rattle.check_state.proofs.Topics.{ids, messages-valid, message-words}
+use Rattle.check_topics.proofs.Topics.{ids, messages-valid, message-words}
 
 module _ {e : ℕ} {ws : List ℕ} (h : Canon-store e ws) (t : ℕ) (k : t < length (decode ws .topics)) where
   -- the messages

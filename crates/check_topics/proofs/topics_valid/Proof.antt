@@ -1,4 +1,4 @@
--- `check_state::valid_topics::topics_valid` meets its contract: the topics are tested one by one. The loop's invariant: those before t
+-- `check_topics::topics_valid` meets its contract: the topics are tested one by one. The loop's invariant: those before t
 -- have distinct numbers and are valid, and what is known of their order is true.
 use mathlib.Core.Path.{_≡_, sym, ap, _∙_}
 use mathlib.Core.Bool.{true, not, _&&_}
@@ -15,20 +15,20 @@ use Rattle.layout.specs.Layout.{decode}
 use Rattle.layout.specs.Fields.{zero-topic}
 use Rattle.layout.proofs.Gets.{read-topic-count, read-topic-number}
 use Rattle.store.specs.Find.{slot}
-use Rattle.check_state.specs.Orders.{Known}
+use Rattle.check_topics.specs.Orders.{Known}
 use Rattle.store.proofs.Tests.{fails, passes}
 use Rattle.store.proofs.Inside.{topic-inside}
-use Rattle.check_state.proofs.Distinct.{slot-seen, slot-new}
-use Rattle.check_state.proofs.Topics.{topic-steps}
-use Rattle.check_state.proofs.Orders.{order-none, order-some, known-more}
+use Rattle.check_topics.proofs.Distinct.{slot-seen, slot-new}
+use Rattle.check_topics.proofs.Topics.{topic-steps}
+use Rattle.check_topics.proofs.Orders.{order-none, order-some, known-more}
 use Rattle.store.proofs.Prefixes.{Passed, passed-start, passed-stop, passed-turn, passed-end}
-use Rattle.check_state.proofs.valid_topics.topics_valid.Statement.{statement}
-use Rattle.check_state.proofs.valid_topics.topics_valid.Tie as tie
-use Rattle.check_state.proofs.valid_topics.topics_valid.Reads as reads
-use Rattle.check_state.proofs.valid_topics.topics_valid.Lts as lts
+use Rattle.check_topics.proofs.topics_valid.Statement.{statement}
+use Rattle.check_topics.proofs.topics_valid.Tie as tie
+use Rattle.check_topics.proofs.topics_valid.Reads as reads
+use Rattle.check_topics.proofs.topics_valid.Lts as lts
 use Rattle.topic.proofs.table.find_topic.Reads as find-topic-reads
 use Rattle.store.proofs.stretch.word.Reads as word-reads
-use Rattle.check_state.proofs.valid_topics.topic_order.Reads as topic-order-reads
+use Rattle.check_topics.proofs.topic_order.Reads as topic-order-reads
 
 abbrev Inv-loop : tie.InvT-loop
 Inv-loop store e orders₀ n width t₀ orders t =

@@ -1,0 +1,5 @@
+pub mod Bytes
+pub mod Distinct
+pub mod Ids
+pub mod Orders
+pub mod Topics
