@@ -3,13 +3,11 @@
 use dispatcher::marks::complete_mark;
 use dispatcher::marks::mark_count;
 use dispatcher::marks::raise_marks;
+use dispatcher::numbers;
 use dispatcher::outside::find_outside;
 use dispatcher::outside::outside_count;
 use dispatcher::outside::remove_outside;
-use store::offsets::DISPATCHER_COUNT_AT;
-use store::offsets::DISPATCHERS_AT_E;
-use store::offsets::dispatcher_at;
-use store::stretch::word;
+use dispatcher::table::dispatcher_count;
 ghost use mathlib.Core.Path.{_≡_};
 ghost use mathlib.Core.List.{map};
 ghost use Rattle.rules.specs.Table.{Every};
@@ -28,7 +26,7 @@ pub(crate) fn new_entries(store: &mut [u64], e: usize, topic: u64, ledger: u64, 
     ensures { λ _. ⌜ now (store .exit) ≡ state-changed (now (store .entry))
         (λ s. with-dispatchers s (map (with-new-entry topic (id-of ledger entry)) (s .dispatchers))) ⌝ }
 {
-    let n = word(store, DISPATCHER_COUNT_AT + DISPATCHERS_AT_E * e);
+    let n = dispatcher_count(store, e);
     let mut d = 0;
     while d < n {
         new_entry(store, e, d, topic, ledger, entry);
@@ -41,8 +39,7 @@ fn new_entry(store: &mut [u64], e: usize, d: usize, topic: u64, ledger: u64, ent
     requires { ⌜ Dispatcher-in e (now store) d × Takes e topic (dispatcher-now (now store) d) ⌝ }
     ensures { λ _. ⌜ now (store .exit) ≡ dispatcher-changed (now (store .entry)) d (with-new-entry topic (id-of ledger entry)) ⌝ }
 {
-    let at = dispatcher_at(e, d);
-    if topic == store[at] {
+    if topic == numbers::topic(store, e, d) {
         gain_entry(store, e, d, ledger, entry);
     }
 }

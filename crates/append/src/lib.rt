@@ -5,14 +5,13 @@ use entry::new_entries;
 use store::answers::entries;
 use store::limits::MOST_BATCH;
 use store::limits::MOST_TOPICS;
-use store::offsets::TOPIC_COUNT_AT;
-use store::stretch::word;
 use topic::append::append_message;
 use topic::find::position_of;
 use topic::table::find_topic;
 use topic::table::message_count;
 use topic::table::raise_topics;
 use topic::table::set_number;
+use topic::table::topic_count;
 ghost use mathlib.Core.Path.{_≡_};
 ghost use mathlib.Core.Bool.{true};
 ghost use Prim.Native.Nat.{_<_};
@@ -51,7 +50,7 @@ fn refusal_of_append(store: &[u64], e: usize, t: usize, ledger: u64, entry: u64)
     requires { ⌜ Canon-store e (now store) ⌝ }
     ensures { λ r. ⌜ r ≡ append-refusal (decode (now (store .entry))) t (id-of ledger entry) ⌝ }
 {
-    let topics = word(store, TOPIC_COUNT_AT);
+    let topics = topic_count(store, e);
     if topics <= t {
         return if MOST_TOPICS <= topics { 5 } else { 0 };
     }
@@ -86,7 +85,7 @@ fn make_topic(store: &mut [u64], e: usize, t: usize, topic: u64)
     requires { ⌜ Canon-store e (now store) × (t ≡ slot by-number topic (decode (now store) .topics)) × (t < 8) ⌝ }
     ensures { λ _. ⌜ now (store .exit) ≡ state-changed (now (store .entry)) (λ s. with-topic s t topic) ⌝ }
 {
-    let n = word(store, TOPIC_COUNT_AT);
+    let n = topic_count(store, e);
     if n <= t {
         raise_topics(store, e, n);
         set_number(store, e, t, topic);

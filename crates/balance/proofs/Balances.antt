@@ -1,88 +1,38 @@
--- The balance check by words: who is live under a pair, a sum with one more consumer, and the range that a sum stays in.
-use mathlib.Core.Path.{_≡_, refl, sym, ap₂, _∙_}
+-- The balance check: who is live under a pair, a sum with one more consumer, and the range that a sum stays in.
+use mathlib.Core.Path.{_≡_, refl, sym, ap, _∙_}
 use mathlib.Core.Bool.{Bool, true, false, cond, _&&_}
 use mathlib.Core.List.{List, []}
 use mathlib.Core.Option.{Option, none, some}
 use Prim.Native.Nat.{ℕ, suc, _+_, _-_, _*_, _^_, _≤_, _<_}
 use native.Mathlib.Omega.{arith}
-use lib.Dec.{eqb}
 use lib.ListN.{length, getD, drop, drop-of-length-le}
 use lib.Seq.{drop-cons}
-use borrow.Author.Tests.{eq-eqb, ne-eqb}
-use Rattle.words.specs.Codec.{bit}
 use Rattle.rules.specs.Permits.{zero-permits, least-permits, most-permits}
 use Rattle.rules.specs.State.{Pair, same-pair, Kind, by-kind, Consumer, State, by-id, consumer-of}
-use Rattle.rules.specs.State.Kind.{plain, shared}
 use Rattle.rules.specs.Dispatcher.{live-under, add-permits, sum-permits}
 use Rattle.rules.specs.Valid.{Valid-consumer, Valid}
-use Rattle.rules.proofs.Table.{by-test}
+use Rattle.rules.proofs.Table.{by-test, same-comm}
+use Rattle.rules.proofs.State.{decides-pairs}
 use Rattle.rules.proofs.Kept.Every.{found-in}
 use Rattle.layout.specs.Records.{flag-of}
-use Rattle.layout.specs.Layout.{decode}
-use Rattle.layout.specs.Offsets.{consumer-at, dispatcher-at}
-use Rattle.layout.specs.Fields.{consumer-nth, dispatcher-nth}
-use Rattle.layout.specs.Placed.{Consumer-in, Dispatcher-in}
-use Rattle.layout.proofs.Gets.{read-consumer-kind, read-consumer-topic, read-consumer-subscription}
-use Rattle.layout.proofs.GetsDispatcher.{read-dispatcher-topic, read-dispatcher-subscription}
+use Rattle.consumer.proofs.Records.{flag-shared, flag-plain}
 
 -- ---- who is live under a pair
 
--- a plain consumer is under none
-plain-kind : (k : Kind) (t : Bool) → bit (flag-of k) ≡ 0 → by-kind k false t ≡ false
-unfolding by-kind
-plain-kind plain t e = refl
-plain-kind shared t e = absurd (omega arith)
+module _ (p : Pair) (c : Consumer) where
+  -- a plain consumer is under none
+  pub under-plain : flag-of (c .kind) ≡ false → false ≡ live-under p c
+  unfolding live-under by-kind
+  under-plain f = sym (ap (λ (k : Kind). by-kind k false (same-pair p (c .pair))) (flag-plain (c .kind) f))
 
--- of a shared one the test decides
-shared-kind : (k : Kind) (t : Bool) → (bit (flag-of k) ≡ 0 → ⊥) → by-kind k false t ≡ t
-unfolding by-kind
-shared-kind plain t f = absurd (f refl)
-shared-kind shared t f = refl
-
-module _ {e d i at to : ℕ} {ws : List ℕ} (h : Dispatcher-in e ws d) (k : Consumer-in e ws i) (a : at ≡ consumer-at i) (b : to ≡ dispatcher-at e d) where
-  abbrev the-pair : Pair
-  the-pair = dispatcher-nth (decode ws) d .pair
-
-  abbrev the-consumer : Consumer
-  the-consumer = consumer-nth (decode ws) i
-
-  -- what the words are
-  kind-here : getD ws (at + 3) 0 ≡ bit (flag-of (the-consumer .kind))
-  kind-here = rw a (read-consumer-kind (k .canon) i (k .there))
-
-  topic-here : getD ws (at + 1) 0 ≡ the-consumer .pair .topic
-  topic-here = rw a (read-consumer-topic (k .canon) i (k .there))
-
-  pair-topic : getD ws to 0 ≡ the-pair .topic
-  pair-topic = rw b (read-dispatcher-topic (h .canon) d (h .there))
-
-  -- a plain consumer
-  pub under-plain : getD ws (at + 3) 0 ≡ 0 → false ≡ live-under the-pair the-consumer
-  unfolding live-under
-  under-plain z = sym (plain-kind (the-consumer .kind) (same-pair the-pair (the-consumer .pair)) (sym kind-here ∙ z))
-
-  module _ (s : getD ws (at + 3) 0 ≡ 0 → ⊥) where
-    -- a shared one of another topic
-    pub under-other : (getD ws to 0 ≡ getD ws (at + 1) 0 → ⊥) → false ≡ live-under the-pair the-consumer
-    unfolding live-under same-pair
-    under-other f =
-        rw (
-          shared-kind (the-consumer .kind) (same-pair the-pair (the-consumer .pair)) (λ z. s (kind-here ∙ z)),
-          ne-eqb (the-pair .topic) (the-consumer .pair .topic) (λ q. f (pair-topic ∙ q ∙ sym topic-here)),
-        )
-
-    -- of one of the topic the subscription decides
-    pub under-same : getD ws to 0 ≡ getD ws (at + 1) 0 → eqb (getD ws (to + 1) 0) (getD ws (at + 2) 0) ≡ live-under the-pair the-consumer
-    unfolding live-under same-pair
-    under-same q =
-        rw (
-          shared-kind (the-consumer .kind) (same-pair the-pair (the-consumer .pair)) (λ z. s (kind-here ∙ z)),
-          eq-eqb (the-pair .topic) (the-consumer .pair .topic) (sym pair-topic ∙ q ∙ topic-here),
-          a,
-          b,
-          read-consumer-subscription (k .canon) i (k .there),
-          read-dispatcher-subscription (h .canon) d (h .there),
-        )
+  -- of a shared one the pair decides
+  pub under-shared : {q : Pair} {t : Bool} → flag-of (c .kind) ≡ true → q ≡ c .pair → t ≡ same-pair q p → t ≡ live-under p c
+  unfolding live-under by-kind
+  under-shared f e r =
+      r
+      ∙ ap (λ (x : Pair). same-pair x p) e
+      ∙ same-comm decides-pairs (c .pair) p
+      ∙ sym (ap (λ (k : Kind). by-kind k false (same-pair p (c .pair))) (flag-shared (c .kind) f))
 
 -- ---- a sum with one more
 

@@ -1,16 +1,14 @@
 // The balance check: what the permits of a ring's live consumers come to, from the oldest on. After
 // every honest list of calls it is the dispatcher's total; no operation asks for it.
+use consumer::fields::is_shared;
+use consumer::fields::permits;
+use consumer::fields::subscription;
+use consumer::fields::topic;
 use consumer::lookup::Lookup;
 use consumer::lookup::find_consumer;
 use dispatcher::ring::ring_count;
-use store::offsets::CONSUMER_SUBSCRIPTION_IN;
-use store::offsets::CONSUMER_TOPIC_IN;
-use store::offsets::KIND_IN;
-use store::offsets::PERMITS_IN;
-use store::offsets::RING_IDS_IN;
-use store::offsets::SUBSCRIPTION_IN;
-use store::offsets::consumer_at;
-use store::offsets::dispatcher_at;
+use dispatcher::ring::ring_id;
+use dispatcher::table::is_of_pair;
 use store::permits::ZERO_PERMITS;
 ghost use mathlib.Core.Path.{_≡_};
 ghost use mathlib.Core.Bool.{true};
@@ -26,15 +24,10 @@ fn is_under(store: &[u64], e: usize, d: usize, i: usize) -> bool
     requires { ⌜ Dispatcher-in e (now store) d × Consumer-in e (now store) i ⌝ }
     ensures { λ r. ⌜ r ≡ live-under (dispatcher-now (now (store .entry)) d .pair) (consumer-now (now (store .entry)) i) ⌝ }
 {
-    let at = consumer_at(i);
-    let to = dispatcher_at(e, d);
-    if store[at + KIND_IN] == 0 {
+    if !is_shared(store, e, i) {
         return false;
     }
-    if store[to] != store[at + CONSUMER_TOPIC_IN] {
-        return false;
-    }
-    store[to + SUBSCRIPTION_IN] == store[at + CONSUMER_SUBSCRIPTION_IN]
+    is_of_pair(store, e, d, topic(store, e, i), subscription(store, e, i))
 }
 
 // A sum with the permits of the consumer `id` added, if it is live under dispatcher `d`.
@@ -48,8 +41,7 @@ fn add_permits(store: &[u64], e: usize, d: usize, id: u64, sum: u64) -> u64
     if !is_under(store, e, d, i) {
         return sum;
     }
-    let at = consumer_at(i);
-    sum + store[at + PERMITS_IN] - ZERO_PERMITS
+    sum + permits(store, e, i) - ZERO_PERMITS
 }
 
 // The permits of the consumers of dispatcher `d`, in excess form.
@@ -58,11 +50,10 @@ pub fn balance_check(store: &[u64], e: usize, d: usize) -> u64
     ensures { λ r. ⌜ r ≡ balance-check (decode (now (store .entry))) (dispatcher-now (now (store .entry)) d) ⌝ }
 {
     let n = ring_count(store, e, d);
-    let first = dispatcher_at(e, d) + RING_IDS_IN;
     let mut sum = ZERO_PERMITS;
     let mut j = 0;
     while j < n {
-        sum = add_permits(store, e, d, store[first + j], sum);
+        sum = add_permits(store, e, d, ring_id(store, e, d, j), sum);
         j += 1;
     }
     sum

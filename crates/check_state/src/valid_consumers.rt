@@ -1,7 +1,7 @@
 // Whether the consumers that a store spells are valid: ids ascending, topic and subscription bytes,
 // permits in their range, cursor and nacked positions in the ledger, a shared one in its ring. The
 // store is spelt as it should be, so that counts are within their room.
-use dispatcher::find::in_ring;
+use dispatcher::table::in_ring;
 use store::limits::MOST_NUMBER;
 use store::offsets::CONSUMER_COUNT_AT;
 use store::offsets::CONSUMER_CURSOR_IN;

@@ -1,5 +1,5 @@
 // A live consumer in a store, by its slot: what operations read and write of it.
-use dispatcher::find::find_dispatcher;
+use dispatcher::table::find_dispatcher;
 use store::offsets::CONSUMER_CURSOR_IN;
 use store::offsets::CONSUMER_SUBSCRIPTION_IN;
 use store::offsets::CONSUMER_TOPIC_IN;
@@ -43,6 +43,15 @@ pub fn topic(store: &[u64], e: usize, i: usize) -> u64
     store[at + CONSUMER_TOPIC_IN]
 }
 
+// The subscription of consumer `i`.
+pub fn subscription(store: &[u64], e: usize, i: usize) -> u64
+    requires { ⌜ Consumer-in e (now store) i ⌝ }
+    ensures { λ r. ⌜ r ≡ consumer-now (now (store .entry)) i .pair .subscription ⌝ }
+{
+    let at = consumer_at(i);
+    store[at + CONSUMER_SUBSCRIPTION_IN]
+}
+
 // Whether consumer `i` is a shared one.
 pub fn is_shared(store: &[u64], e: usize, i: usize) -> bool
     requires { ⌜ Consumer-in e (now store) i ⌝ }
@@ -66,13 +75,7 @@ pub fn dispatcher_of(store: &[u64], e: usize, i: usize) -> usize
     requires { ⌜ Consumer-in e (now store) i ⌝ }
     ensures { λ r. ⌜ r ≡ slot by-pair (consumer-now (now (store .entry)) i .pair) (decode (now (store .entry)) .dispatchers) ⌝ }
 {
-    let at = consumer_at(i);
-    find_dispatcher(
-        store,
-        e,
-        store[at + CONSUMER_TOPIC_IN],
-        store[at + CONSUMER_SUBSCRIPTION_IN],
-    )
+    find_dispatcher(store, e, topic(store, e, i), subscription(store, e, i))
 }
 
 // Consumer `i` gets other permits.

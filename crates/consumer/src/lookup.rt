@@ -1,8 +1,7 @@
 // The live consumer with an id: what flow, ack, seek and redeliver look for first.
-use store::offsets::CONSUMER_COUNT_AT;
+use super::table::consumer_count;
 use store::offsets::CONSUMER_WORDS;
 use store::offsets::CONSUMERS_AT;
-use store::stretch::word;
 ghost use mathlib.Core.Path.{_≡_};
 ghost use Rattle.rules.specs.State.{Consumer};
 ghost use Rattle.rules.specs.Outcome.{Outcome, with-live};
@@ -24,7 +23,7 @@ pub fn find_consumer(store: &[u64], e: usize, id: u64) -> Lookup
     ensures answer { λ r. ⌜ ((f : Consumer → Outcome) → lookup-outcome (decode (now (store .entry)) .consumers) f r
         ≡ with-live (decode (now (store .entry))) id f) ⌝ }
 {
-    let n = word(store, CONSUMER_COUNT_AT);
+    let n = consumer_count(store, e);
     let mut i = 0;
     while i < n {
         if store[CONSUMERS_AT + i * CONSUMER_WORDS] == id {

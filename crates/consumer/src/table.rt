@@ -30,7 +30,7 @@ pub fn place_of(store: &[u64], e: usize, id: u64) -> usize
     requires { ⌜ Canon-store e (now store) ⌝ }
     ensures { λ r. ⌜ r ≡ place id (decode (now (store .entry)) .consumers) ⌝ }
 {
-    let n = word(store, CONSUMER_COUNT_AT);
+    let n = consumer_count(store, e);
     let mut i = 0;
     while i < n {
         if id < store[CONSUMERS_AT + i * CONSUMER_WORDS] {
@@ -58,7 +58,7 @@ pub fn remove_consumer(store: &mut [u64], e: usize, i: usize)
     ensures { λ _. ⌜ now (store .exit) ≡ state-changed (now (store .entry))
         (λ s. with-consumers s (take i (s .consumers) ++ drop (i + 1) (s .consumers))) ⌝ }
 {
-    let n = word(store, CONSUMER_COUNT_AT);
+    let n = consumer_count(store, e);
     let at = consumer_at(i);
     close_gap(store, at, CONSUMER_WORDS, (n - (i + 1)) * CONSUMER_WORDS);
     store[CONSUMER_COUNT_AT] = (n - 1) as u64;

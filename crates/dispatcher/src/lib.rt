@@ -1,6 +1,5 @@
 // The dispatcher of a shared subscription in a store.
 pub mod completion;
-pub mod find;
 pub mod flight;
 pub mod make;
 pub mod marks;
@@ -9,4 +8,5 @@ pub mod outside;
 pub mod queue;
 pub mod returns;
 pub mod ring;
+pub mod table;
 pub mod total;

@@ -1,4 +1,4 @@
-// The table of dispatchers, and a new dispatcher at its end, written word by word.
+// A new dispatcher at the end of the table, written word by word.
 use store::offsets::DISPATCHER_COUNT_AT;
 use store::offsets::DISPATCHERS_AT_E;
 use store::offsets::MARKS_IN;
@@ -7,7 +7,6 @@ use store::offsets::SUBSCRIPTION_IN;
 use store::offsets::TOTAL_IN;
 use store::offsets::dispatcher_at;
 use store::permits::ZERO_PERMITS;
-use store::stretch::word;
 ghost use mathlib.Core.Path.{_≡_};
 ghost use mathlib.Core.List.{_++_, _∷_, []};
 ghost use Prim.Native.Nat.{_≤_, _<_};
@@ -16,14 +15,6 @@ ghost use Rattle.rules.specs.State.{new-dispatcher, with-dispatchers};
 ghost use Rattle.layout.specs.Layout.{decode};
 ghost use Rattle.layout.specs.Canon.{Canon-store};
 ghost use Rattle.layout.specs.Fields.{zero-dispatcher, pair-of, state-changed};
-
-// The number of dispatchers.
-pub fn dispatcher_count(store: &[u64], e: usize) -> usize
-    requires { ⌜ Canon-store e (now store) ⌝ }
-    ensures { λ r. ⌜ r ≡ length (decode (now (store .entry)) .dispatchers) ⌝ }
-{
-    word(store, DISPATCHER_COUNT_AT + DISPATCHERS_AT_E * e)
-}
 
 // The table, which has `n` dispatchers and room, gains a blank one at its end: the words there are 0
 // already.

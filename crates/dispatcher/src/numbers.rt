@@ -1,4 +1,4 @@
-// The four numbers of a dispatcher as one record, and its next slot and mark-delete by themselves. Each
+// The topic of a dispatcher, its four numbers as one record, and its next slot and mark-delete by themselves. Each
 // has one word.
 use head::Head;
 use store::offsets::CURSOR_IN;
@@ -12,6 +12,15 @@ ghost use Rattle.rules.specs.Dispatcher.{with-next};
 ghost use Rattle.layout.specs.Fields.{dispatcher-now, dispatcher-changed};
 ghost use Rattle.layout.specs.Placed.{Dispatcher-in};
 ghost use Rattle.dispatcher.specs.Values.{head-of, with-head};
+
+// The topic of dispatcher `d`.
+pub fn topic(store: &[u64], e: usize, d: usize) -> u64
+    requires { ⌜ Dispatcher-in e (now store) d ⌝ }
+    ensures { λ r. ⌜ r ≡ dispatcher-now (now (store .entry)) d .pair .topic ⌝ }
+{
+    let at = dispatcher_at(e, d);
+    store[at]
+}
 
 // The next slot of dispatcher `d`.
 pub fn next(store: &[u64], e: usize, d: usize) -> usize

@@ -8,7 +8,7 @@ use store::stretch::word;
 ghost use mathlib.Core.Path.{_≡_};
 ghost use mathlib.Core.List.{_++_, _∷_, []};
 ghost use Prim.Native.Nat.{_+_, _<_};
-ghost use lib.ListN.{length, take, drop};
+ghost use lib.ListN.{length, getD, take, drop};
 ghost use Rattle.rules.specs.Dispatcher.{with-attached};
 ghost use Rattle.layout.specs.Fields.{dispatcher-now, dispatcher-changed};
 ghost use Rattle.layout.specs.Placed.{Dispatcher-in};
@@ -22,6 +22,15 @@ pub fn ring_count(store: &[u64], e: usize, d: usize) -> usize
 {
     let at = dispatcher_at(e, d);
     word(store, at + RING_IN)
+}
+
+// Ring id `j` of dispatcher `d`.
+pub fn ring_id(store: &[u64], e: usize, d: usize, j: usize) -> u64
+    requires { ⌜ Dispatcher-in e (now store) d × (j < length (dispatcher-now (now store) d .attached)) ⌝ }
+    ensures { λ r. ⌜ r ≡ getD (dispatcher-now (now (store .entry)) d .attached) j 0 ⌝ }
+{
+    let at = dispatcher_at(e, d);
+    store[at + RING_IDS_IN + j]
 }
 
 // The slot of `id` in the ring of dispatcher `d`; the number of ring ids where it is not there.

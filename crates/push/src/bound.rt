@@ -1,15 +1,13 @@
 // How many entries wait, whatever the permits: a push dispatches no more of them. No turn is made to
 // know it, and of a ledger only its length is read.
 use consumer::fields::is_shared;
+use consumer::table::consumer_count;
 use dispatcher::numbers::load_head;
+use dispatcher::numbers::topic;
 use dispatcher::queue::queue_count;
+use dispatcher::table::dispatcher_count;
 use push_plain::due::waiting;
 use push_plain::reader::smaller;
-use store::offsets::CONSUMER_COUNT_AT;
-use store::offsets::DISPATCHER_COUNT_AT;
-use store::offsets::DISPATCHERS_AT_E;
-use store::offsets::dispatcher_at;
-use store::stretch::word;
 use topic::table::ledger_length;
 ghost use mathlib.Core.Path.{_≡_};
 ghost use Rattle.layout.specs.Layout.{decode};
@@ -23,7 +21,7 @@ fn waiting_at(store: &[u64], e: usize, d: usize) -> usize
     requires { ⌜ Dispatcher-in e (now store) d ⌝ }
     ensures { λ r. ⌜ r ≡ waiting-at (decode (now (store .entry))) (dispatcher-now (now (store .entry)) d) ⌝ }
 {
-    let n = ledger_length(store, e, store[dispatcher_at(e, d)]);
+    let n = ledger_length(store, e, topic(store, e, d));
     let head = load_head(store, e, d);
     let from = smaller(head.cursor, n);
     queue_count(store, e, d) + (n - from)
@@ -45,7 +43,7 @@ fn waiting_shared(store: &[u64], e: usize) -> usize
     requires { ⌜ Canon-store e (now store) ⌝ }
     ensures { λ r. ⌜ r ≡ waiting-shared (decode (now (store .entry))) ⌝ }
 {
-    let n = word(store, DISPATCHER_COUNT_AT + DISPATCHERS_AT_E * e);
+    let n = dispatcher_count(store, e);
     let mut sum = 0;
     let mut d = 0;
     while d < n {
@@ -60,7 +58,7 @@ fn waiting_plain(store: &[u64], e: usize) -> usize
     requires { ⌜ Canon-store e (now store) ⌝ }
     ensures { λ r. ⌜ r ≡ waiting-plain (decode (now (store .entry))) ⌝ }
 {
-    let n = word(store, CONSUMER_COUNT_AT);
+    let n = consumer_count(store, e);
     let mut sum = 0;
     let mut i = 0;
     while i < n {

@@ -5,6 +5,7 @@ mod bound;
 
 use bound::most_due;
 use consumer::fields::permits;
+use consumer::table::consumer_count;
 use push_plain::due::due_plain;
 use push_plain::serve::serve_plain;
 use push_shared::push_pending_shared;
@@ -12,8 +13,6 @@ use push_turn::due::due_shared;
 use record::RECORD_WORDS;
 use store::answers::entries;
 use store::answers::value;
-use store::offsets::CONSUMER_COUNT_AT;
-use store::stretch::word;
 ghost use mathlib.Core.Path.{_≡_};
 ghost use mathlib.Core.Bool.{true};
 ghost use Prim.Native.Nat.{_*_, _/_, _≤_};
@@ -54,7 +53,7 @@ fn due(store: &[u64], e: usize) -> usize
     requires { ⌜ (spells (now store) ≡ true) × (e ≡ decode (now store) .entries) ⌝ }
     ensures { λ r. ⌜ r ≡ length (local-push (decode (now (store .entry))) .dispatched) ⌝ }
 {
-    let n = word(store, CONSUMER_COUNT_AT);
+    let n = consumer_count(store, e);
     let mut permits = [0u64; 32];
     due_with(store, e, &mut permits[..n])
 }
@@ -80,7 +79,7 @@ fn push_pending(store: &mut [u64], e: usize, list: &mut [u64]) -> usize
     ensures words { λ _. ⌜ now (store .exit) ≡ state-changed (now (store .entry)) (λ s. local-push s .state) ⌝ }
     ensures records { λ _. ⌜ now (list .exit) ≡ filled (now (list .entry)) 0 (local-push (decode (now (store .entry))) .dispatched) ⌝ }
 {
-    let n = word(store, CONSUMER_COUNT_AT);
+    let n = consumer_count(store, e);
     let mut permits = [0u64; 32];
     push_with(store, e, &mut permits[..n], list)
 }

@@ -3,10 +3,8 @@
 mod deliver;
 mod serve;
 
+use dispatcher::table::dispatcher_count;
 use serve::serve_dispatcher;
-use store::offsets::DISPATCHER_COUNT_AT;
-use store::offsets::DISPATCHERS_AT_E;
-use store::stretch::word;
 ghost use mathlib.Core.Path.{_≡_};
 ghost use mathlib.Core.Bool.{true};
 ghost use mathlib.Core.List.{map};
@@ -38,7 +36,7 @@ pub fn push_pending_shared(
     ensures fits { λ _. ⌜ All (Shaped-dispatcher e)
         (map (served-dispatcher (decode (now (store .entry)))) (services-now (now (store .entry)) (now (permits .entry)))) ⌝ }
 {
-    let n = word(store, DISPATCHER_COUNT_AT + DISPATCHERS_AT_E * e);
+    let n = dispatcher_count(store, e);
     let mut m = 0;
     let mut d = 0;
     while d < n {

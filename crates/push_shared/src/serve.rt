@@ -3,13 +3,13 @@
 use super::deliver::deliver;
 use dispatcher::numbers::load_head;
 use dispatcher::numbers::save_head;
+use dispatcher::numbers::topic;
 use dispatcher::queue::drop_queue;
 use dispatcher::ring::ring_count;
 use head::Head;
 use push_turn::ring::ring_slots;
 use push_turn::turn::Turn;
 use push_turn::turn::take_turn;
-use store::offsets::dispatcher_at;
 use topic::table::find_topic;
 use topic::table::ledger_length;
 ghost use mathlib.Core.Path.{_≡_};
@@ -99,7 +99,7 @@ fn serve_with(
     ensures records { λ _. ⌜ now (list .exit) ≡ filled (now (list .entry)) from (records-served (now (store .entry)) d (now (permits .entry))) ⌝ }
     ensures fits { λ _. ⌜ Shaped-dispatcher e (dispatcher-served (now (store .entry)) d (now (permits .entry))) ⌝ }
 {
-    let number = store[dispatcher_at(e, d)];
+    let number = topic(store, e, d);
     let t = find_topic(store, e, number);
     let n = ledger_length(store, e, number);
     ring_slots(store, e, d, ring);

@@ -4,11 +4,9 @@ use super::ring::ring_slots;
 use super::turn::Turn;
 use super::turn::take_turn;
 use dispatcher::numbers::load_head;
+use dispatcher::numbers::topic;
 use dispatcher::ring::ring_count;
-use store::offsets::DISPATCHER_COUNT_AT;
-use store::offsets::DISPATCHERS_AT_E;
-use store::offsets::dispatcher_at;
-use store::stretch::word;
+use dispatcher::table::dispatcher_count;
 use topic::table::find_topic;
 use topic::table::ledger_length;
 ghost use mathlib.Core.Path.{_≡_};
@@ -56,7 +54,7 @@ fn due_with(store: &[u64], e: usize, d: usize, ring: &mut [usize], permits: &mut
     ensures count { λ r. ⌜ r ≡ length (served-now (now (store .entry)) d (now (permits .entry)) .made) ⌝ }
     ensures permits { λ _. ⌜ now (permits .exit) ≡ served-now (now (store .entry)) d (now (permits .entry)) .after .permits ⌝ }
 {
-    let number = store[dispatcher_at(e, d)];
+    let number = topic(store, e, d);
     let t = find_topic(store, e, number);
     let n = ledger_length(store, e, number);
     ring_slots(store, e, d, ring);
@@ -80,7 +78,7 @@ pub fn due_shared(store: &[u64], e: usize, permits: &mut [u64]) -> usize
     ensures count { λ r. ⌜ r ≡ length (shared-records-now (now (store .entry)) (now (permits .entry))) ⌝ }
     ensures permits { λ _. ⌜ now (permits .exit) ≡ permits-left (now (permits .entry)) (services-now (now (store .entry)) (now (permits .entry))) ⌝ }
 {
-    let n = word(store, DISPATCHER_COUNT_AT + DISPATCHERS_AT_E * e);
+    let n = dispatcher_count(store, e);
     let mut count = 0;
     let mut d = 0;
     while d < n {

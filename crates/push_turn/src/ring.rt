@@ -1,10 +1,8 @@
 // The ring of a dispatcher as slots of the table of consumers.
 use consumer::lookup::Lookup;
 use consumer::lookup::find_consumer;
-use store::offsets::CONSUMER_COUNT_AT;
-use store::offsets::RING_IDS_IN;
-use store::offsets::dispatcher_at;
-use store::stretch::word;
+use consumer::table::consumer_count;
+use dispatcher::ring::ring_id;
 ghost use mathlib.Core.Path.{_≡_};
 ghost use lib.ListN.{length};
 ghost use Rattle.rules.specs.State.{by-id};
@@ -21,7 +19,7 @@ fn slot_of(store: &[u64], e: usize, id: u64) -> usize
     ensures { λ r. ⌜ r ≡ slot by-id id (decode (now (store .entry)) .consumers) ⌝ }
 {
     let Lookup::Live(i) = find_consumer(store, e, id) else {
-        return word(store, CONSUMER_COUNT_AT);
+        return consumer_count(store, e);
     };
     i
 }
@@ -31,10 +29,9 @@ pub fn ring_slots(store: &[u64], e: usize, d: usize, ring: &mut [usize])
     requires { ⌜ Dispatcher-in e (now store) d × (length (now ring) ≡ length (dispatcher-now (now store) d .attached)) ⌝ }
     ensures { λ _. ⌜ now (ring .exit) ≡ fixed-now (now (store .entry)) d .ring ⌝ }
 {
-    let at = dispatcher_at(e, d);
     let mut j = 0;
     while j < ring.len() {
-        ring[j] = slot_of(store, e, store[at + RING_IDS_IN + j]);
+        ring[j] = slot_of(store, e, ring_id(store, e, d, j));
         j += 1;
     }
 }

@@ -11,10 +11,9 @@ use consumer::lookup::find_consumer;
 use consumer::nacked::clear_nacked;
 use store::answers::entries;
 use store::answers::value;
-use store::offsets::TOPIC_COUNT_AT;
-use store::stretch::word;
 use topic::find::first_at_or_after;
 use topic::table::find_topic;
+use topic::table::topic_count;
 ghost use mathlib.Core.Path.{_≡_};
 ghost use mathlib.Core.Bool.{true};
 ghost use Rattle.rules.specs.State.{ledger-of};
@@ -72,7 +71,7 @@ fn seek_position(store: &[u64], e: usize, topic: u64, ledger: u64, entry: u64) -
     ensures { λ r. ⌜ r ≡ seek-position (id-of ledger entry) (ledger-of (decode (now (store .entry))) topic) ⌝ }
 {
     let t = find_topic(store, e, topic);
-    if t < word(store, TOPIC_COUNT_AT) {
+    if t < topic_count(store, e) {
         first_at_or_after(store, e, t, ledger, entry)
     } else {
         0

@@ -107,9 +107,6 @@ pub const TOPIC_RESERVED_IN: usize = 1;
 // The number of its messages (messages-in).
 pub const MESSAGES_IN: usize = 3;
 
-// That of topic 0, from the first word of the store.
-pub const MESSAGE_COUNTS_AT: usize = 2325;
-
 // Message 0 (message-in).
 pub const MESSAGE_IN: usize = 4;
 

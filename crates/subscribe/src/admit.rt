@@ -2,10 +2,10 @@
 use consumer::lookup::Lookup;
 use consumer::lookup::find_consumer;
 use consumer::table::consumer_count;
-use dispatcher::find::find_dispatcher;
-use dispatcher::find::in_ring;
-use dispatcher::make::dispatcher_count;
 use dispatcher::ring::ring_count;
+use dispatcher::table::dispatcher_count;
+use dispatcher::table::find_dispatcher;
+use dispatcher::table::in_ring;
 use store::limits::MOST_CONSUMERS;
 use store::limits::MOST_DISPATCHERS;
 use store::limits::MOST_RING_IDS;

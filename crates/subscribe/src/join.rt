@@ -1,10 +1,10 @@
 // A consumer that joins the ring of a pair. The pair's dispatcher is made first where it has none.
-use dispatcher::find::find_dispatcher;
-use dispatcher::make::dispatcher_count;
 use dispatcher::make::make_dispatcher;
 use dispatcher::ring::append_ring;
 use dispatcher::ring::find_ring;
 use dispatcher::ring::ring_count;
+use dispatcher::table::dispatcher_count;
+use dispatcher::table::find_dispatcher;
 use topic::table::ledger_length;
 ghost use mathlib.Core.Path.{_≡_};
 ghost use mathlib.Core.Bool.{false};

@@ -2,8 +2,7 @@
 // ledger's length.
 use super::find::position_of;
 use super::table::find_topic;
-use store::offsets::TOPIC_COUNT_AT;
-use store::stretch::word;
+use super::table::topic_count;
 ghost use mathlib.Core.Path.{_≡_};
 ghost use Rattle.rules.specs.State.{ledger-of};
 ghost use Rattle.rules.specs.Ledger.{position-of};
@@ -18,7 +17,7 @@ fn position_in(store: &[u64], e: usize, topic: u64, ledger: u64, entry: u64) -> 
     ensures { λ r. ⌜ r ≡ position-of (id-of ledger entry) (ledger-of (decode (now (store .entry))) topic) ⌝ }
 {
     let t = find_topic(store, e, topic);
-    if t < word(store, TOPIC_COUNT_AT) {
+    if t < topic_count(store, e) {
         position_of(store, e, t, ledger, entry)
     } else {
         0

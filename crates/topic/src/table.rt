@@ -1,6 +1,5 @@
-// The table of topics: the slot of a topic by its number, the length of its ledger, and a topic made. A slot
-// equal to the number of topics means that there is none.
-use store::offsets::MESSAGE_COUNTS_AT;
+// The table of topics: their number, the slot of a topic by its number, the length of its ledger, and a topic made.
+// A slot equal to their number means that there is none.
 use store::offsets::MESSAGES_IN;
 use store::offsets::TOPIC_COUNT_AT;
 use store::offsets::TOPIC_WORDS;
@@ -19,12 +18,20 @@ ghost use Rattle.layout.specs.Fields.{zero-topic, topic-now, state-changed, top
 ghost use Rattle.layout.specs.Placed.{Topic-in};
 ghost use Rattle.store.specs.Find.{slot};
 
+// The number of topics.
+pub fn topic_count(store: &[u64], e: usize) -> usize
+    requires { ⌜ Canon-store e (now store) ⌝ }
+    ensures { λ r. ⌜ r ≡ length (decode (now (store .entry)) .topics) ⌝ }
+{
+    word(store, TOPIC_COUNT_AT)
+}
+
 // The slot of a topic.
 pub fn find_topic(store: &[u64], e: usize, topic: u64) -> usize
     requires { ⌜ Canon-store e (now store) ⌝ }
     ensures { λ r. ⌜ r ≡ slot by-number topic (decode (now (store .entry)) .topics) ⌝ }
 {
-    let n = word(store, TOPIC_COUNT_AT);
+    let n = topic_count(store, e);
     let width = TOPIC_WORDS + TOPIC_WORDS_E * e;
     let mut i = 0;
     while i < n {
@@ -42,11 +49,8 @@ pub fn ledger_length(store: &[u64], e: usize, topic: u64) -> usize
     ensures { λ r. ⌜ r ≡ length (ledger-of (decode (now (store .entry))) topic) ⌝ }
 {
     let t = find_topic(store, e, topic);
-    if t < word(store, TOPIC_COUNT_AT) {
-        word(
-            store,
-            MESSAGE_COUNTS_AT + t * (TOPIC_WORDS + TOPIC_WORDS_E * e),
-        )
+    if t < topic_count(store, e) {
+        message_count(store, e, t)
     } else {
         0
     }

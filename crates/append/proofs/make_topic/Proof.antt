@@ -6,20 +6,19 @@ use borrow.Author.Needs.{needs}
 use Rattle.layout.specs.Layout.{decode, put}
 use Rattle.rules.specs.State.{State}
 use Rattle.layout.proofs.Store.{put-decode}
-use Rattle.layout.proofs.Gets.{read-topic-count}
 use Rattle.append.proofs.Appends.{joined-in, made-words, topic-made-there}
 use Rattle.append.proofs.make_topic.Statement.{statement}
 use Rattle.append.proofs.make_topic.Tie as tie
 
 -- the places: what stands before each, by name
-abbrev entry-before-word : tie.After-word → tie.Start
-entry-before-word c = c .before .before .before
+abbrev entry-before-topic-count : tie.After-topic-count → tie.Start
+entry-before-topic-count c = c .before .before .before
 
 abbrev entry-before-else1 : tie.Else1 → tie.Start
-entry-before-else1 c = entry-before-word (c .before)
+entry-before-else1 c = entry-before-topic-count (c .before)
 
 abbrev entry-before-raise-topics-arg : tie.After-raise-topics-arg → tie.Start
-entry-before-raise-topics-arg c = entry-before-word (c .before .before)
+entry-before-raise-topics-arg c = entry-before-topic-count (c .before .before)
 
 abbrev raise-topics-before-set-number-arg : tie.After-set-number-arg → tie.After-raise-topics
 raise-topics-before-set-number-arg c = c .before .before .before
@@ -27,11 +26,11 @@ raise-topics-before-set-number-arg c = c .before .before .before
 abbrev then1-before-set-number-arg : tie.After-set-number-arg → tie.Then1
 then1-before-set-number-arg c = raise-topics-before-set-number-arg c .before .before
 
-abbrev word-before-set-number-arg : tie.After-set-number-arg → tie.After-word
-word-before-set-number-arg c = then1-before-set-number-arg c .before
+abbrev topic-count-before-set-number-arg : tie.After-set-number-arg → tie.After-topic-count
+topic-count-before-set-number-arg c = then1-before-set-number-arg c .before
 
 abbrev entry-before-set-number-arg : tie.After-set-number-arg → tie.Start
-entry-before-set-number-arg c = entry-before-word (word-before-set-number-arg c)
+entry-before-set-number-arg c = entry-before-topic-count (topic-count-before-set-number-arg c)
 
 abbrev raise-topics-before-slice-known3 : tie.After-slice-known3 → tie.After-raise-topics
 raise-topics-before-slice-known3 c = raise-topics-before-set-number-arg (c .before .before .before)
@@ -39,18 +38,18 @@ raise-topics-before-slice-known3 c = raise-topics-before-set-number-arg (c .befo
 abbrev then1-before-slice-known3 : tie.After-slice-known3 → tie.Then1
 then1-before-slice-known3 c = raise-topics-before-slice-known3 c .before .before
 
-abbrev word-before-slice-known3 : tie.After-slice-known3 → tie.After-word
-word-before-slice-known3 c = then1-before-slice-known3 c .before
+abbrev topic-count-before-slice-known3 : tie.After-slice-known3 → tie.After-topic-count
+topic-count-before-slice-known3 c = then1-before-slice-known3 c .before
 
 abbrev entry-before-slice-known3 : tie.After-slice-known3 → tie.Start
-entry-before-slice-known3 c = entry-before-word (word-before-slice-known3 c)
+entry-before-slice-known3 c = entry-before-topic-count (topic-count-before-slice-known3 c)
 
 -- the count is the number of topics
-counted : (c : tie.After-word) → c .word .result ≡ length (decode (entry-before-word c .args .store .now) .topics)
-counted c = c .word .ensures ∙ read-topic-count (entry-before-word c .pre .0)
+counted : (c : tie.After-topic-count) → c .topic-count .result ≡ length (decode (entry-before-topic-count c .args .store .now) .topics)
+counted c = c .topic-count .ensures
 
-word-requires : tie.Need-word-requires
-word-requires c κs = search needs
+topic-count-requires : tie.Need-topic-count-requires
+topic-count-requires c κs = search needs
 
 raise-topics-requires : tie.Need-raise-topics-requires
 raise-topics-requires c κs =
@@ -62,7 +61,7 @@ set-number-requires : tie.Need-set-number-requires
 set-number-requires c κs =
     let a = entry-before-set-number-arg c .args in
     let p = entry-before-set-number-arg c .pre in
-    let n = counted (word-before-set-number-arg c) in
+    let n = counted (topic-count-before-set-number-arg c) in
     let t = then1-before-set-number-arg c .if1 .taken in
     let b = p .2 in
     joined-in (a .t) (a .topic) (p .0) (p .1) (omega arith) (omega arith) (raise-topics-before-set-number-arg c .raise-topics .ensures)
@@ -74,7 +73,7 @@ returns : tie.Need-returns
 returns c =
     let a = entry-before-slice-known3 c .args in
     let p = entry-before-slice-known3 c .pre in
-    let n = counted (word-before-slice-known3 c) in
+    let n = counted (topic-count-before-slice-known3 c) in
     let t = then1-before-slice-known3 c .if1 .taken in
     let b = p .2 in
     made-words (a .t) (a .topic) (p .0) (p .1) (omega arith) (omega arith) (raise-topics-before-slice-known3 c .raise-topics .ensures) (c .before .before .set-number .ensures)
@@ -94,7 +93,7 @@ pub make-topic-spec : {M : Type 1} → statement M
 make-topic-spec =
     tie.close
     (tie.spec
-    word-requires
+    topic-count-requires
     raise-topics-requires
     set-number-requires
     same-length

@@ -1,12 +1,11 @@
 -- `append::refusal_of_append` meets its contract: each way out is one refusal, or none.
-use mathlib.Core.Path.{_≡_, _∙_}
+use mathlib.Core.Path.{_≡_}
 use Prim.Native.Nat.{_<_}
 use native.Mathlib.Omega.{arith}
 use lib.ListN.{length}
 use borrow.Author.Needs.{needs}
 use Rattle.layout.specs.Layout.{decode}
 use Rattle.layout.proofs.Store.{canon-entries}
-use Rattle.layout.proofs.Gets.{read-topic-count}
 use Rattle.layout.proofs.Placed.{topic-in}
 use Rattle.topic.specs.Ids.{id-of}
 use Rattle.append.proofs.Appends.{refusal-5, refusal-new, refusal-7, refusal-6, refusal-none}
@@ -51,15 +50,15 @@ abbrev entry-before-else4 : tie.Else4 → tie.Start
 entry-before-else4 c = entry-before-message-count (message-count-before-else4 c)
 
 -- the count is the number of topics
-counted : (c : tie.After-word) → c .word .result ≡ length (decode (c .before .before .args .store .now) .topics)
-counted c = c .word .ensures ∙ read-topic-count (c .before .before .pre)
+counted : (c : tie.After-topic-count) → c .topic-count .result ≡ length (decode (c .before .before .args .store .now) .topics)
+counted c = c .topic-count .ensures
 
 -- past the first test the topic is there
 there : (c : tie.Else1) → entry-before-else1 c .args .t < length (decode (entry-before-else1 c .args .store .now) .topics)
 there c = let n = counted (c .before) in let l = c .if1 .left in omega arith
 
-word-requires : tie.Need-word-requires
-word-requires c κs = search needs
+topic-count-requires : tie.Need-topic-count-requires
+topic-count-requires c κs = search needs
 
 returns : tie.Need-returns
 returns c =
@@ -115,7 +114,7 @@ pub refusal-of-append-spec : {M : Type 1} → statement M
 refusal-of-append-spec =
     tie.close
     (tie.spec
-    word-requires
+    topic-count-requires
     returns
     returns-2
     message-count-requires

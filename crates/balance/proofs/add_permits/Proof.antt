@@ -1,15 +1,14 @@
 -- `balance::add_permits` meets its contract: the consumer is missing, live elsewhere, or live under the dispatcher.
 use mathlib.Core.Path.{_≡_, refl, sym, _∙_}
-use Prim.Native.Nat.{_+_, _^_, _≤_, _<_}
+use Prim.Native.Nat.{_^_, _≤_, _<_}
 use native.Mathlib.Omega.{arith}
-use lib.ListN.{length, getD}
+use lib.ListN.{length}
 use Rattle.rules.specs.State.{by-id}
 use Rattle.rules.specs.Permits.{least-permits, most-permits}
 use Rattle.layout.specs.Layout.{decode}
 use Rattle.layout.specs.Fields.{consumer-nth, dispatcher-nth}
 use Rattle.layout.specs.Placed.{Consumer-in}
 use Rattle.layout.proofs.Placed.{consumer-in}
-use Rattle.layout.proofs.Gets.{read-consumer-permits}
 use Rattle.store.specs.Find.{slot}
 use Rattle.store.proofs.Tests.{answered-no, answered-yes}
 use Rattle.operation_laws.proofs.Frame.{valid-now, consumer-found, consumer-missing}
@@ -22,7 +21,7 @@ use Rattle.balance.proofs.add_permits.Reads as reads
 use Rattle.balance.proofs.add_permits.Lts as lts
 use Rattle.balance.proofs.is_under.Reads as is-under-reads
 use Rattle.consumer.proofs.lookup.find_consumer.Reads as find-consumer-reads
-use Rattle.store.proofs.offsets.consumer_at.Reads as consumer-at-reads
+use Rattle.consumer.proofs.fields.permits.Reads as permits-reads
 
 -- the places: what stands before each, by name
 abbrev entry-before-i : tie.After-i → tie.Start
@@ -43,20 +42,14 @@ entry-before-then1 c = entry-before-i (i-before-then1 c)
 abbrev i-before-else1 : tie.Else1 → tie.After-i
 i-before-else1 c = c .before .before .before
 
-abbrev i-before-consumer-at : tie.After-consumer-at → tie.After-i
-i-before-consumer-at c = i-before-else1 (c .before)
+abbrev is-under-before-permits : tie.After-permits → tie.After-is-under
+is-under-before-permits c = c .before .before
 
-abbrev entry-before-consumer-at : tie.After-consumer-at → tie.Start
-entry-before-consumer-at c = entry-before-i (i-before-consumer-at c)
+abbrev i-before-permits : tie.After-permits → tie.After-i
+i-before-permits c = i-before-else1 (c .before)
 
-abbrev is-under-before-shared-slice-known2 : tie.After-shared-slice-known2 → tie.After-is-under
-is-under-before-shared-slice-known2 c = c .before .before .before
-
-abbrev i-before-shared-slice-known2 : tie.After-shared-slice-known2 → tie.After-i
-i-before-shared-slice-known2 c = i-before-consumer-at (c .before)
-
-abbrev entry-before-shared-slice-known2 : tie.After-shared-slice-known2 → tie.Start
-entry-before-shared-slice-known2 c = entry-before-consumer-at (c .before)
+abbrev entry-before-permits : tie.After-permits → tie.Start
+entry-before-permits c = entry-before-i (i-before-permits c)
 
 find-consumer-requires : tie.Need-find-consumer-requires
 find-consumer-requires c κs = search needs
@@ -92,47 +85,29 @@ returns-2 c =
     adds-nothing (dispatcher-nth (decode ws) (entry-before-then1 c .args .d) .pair) (entry-before-then1 c .args .sum)
     (consumer-found (decode ws) (i-before-then1 c .i .given .0 .0) (entry-before-then1 c .args .id) (f .0) (f .1)) (answered-no (c .before .is-under .ensures) (c .if1 .taken))
 
-consumer-at-requires : tie.Need-consumer-at-requires
-consumer-at-requires c κs = let k = there (i-before-else1 c) .few in omega arith
+permits-requires : tie.Need-permits-requires
+permits-requires c κs = there (i-before-else1 c)
+
+-- what is added is in range
+ranged : (c : tie.After-permits) → (least-permits ≤ c .permits .result) × (c .permits .result ≤ most-permits)
+ranged c =
+    let ws = entry-before-permits c .args .store .now in
+    let f = found (i-before-permits c) in
+    rw (c .permits .ensures) (found-range (decode ws) (entry-before-permits c .args .id) (consumer-nth (decode ws) (i-before-permits c .i .given .0 .0)) (valid-now ws (entry-before-permits c .pre .1))
+    (consumer-found (decode ws) (i-before-permits c .i .given .0 .0) (entry-before-permits c .args .id) (f .0) (f .1)))
 
 add-result : tie.Need-add-result
-add-result c = search needs
-
-mul-result : tie.Need-mul-result
-mul-result c = let k = there (i-before-consumer-at c) .few in let a = c .consumer-at .ensures in omega arith
-
--- the word that is added, and its range
-worth : (c : tie.After-consumer-at) → getD (entry-before-consumer-at c .args .store .now) (c .consumer-at .result + 4) 0 ≡ consumer-nth (decode (entry-before-consumer-at c .args .store .now)) (i-before-consumer-at c .i .given .0 .0) .permits
-worth c =
-    let k = there (i-before-consumer-at c) in rw (c .consumer-at .ensures) (read-consumer-permits (k .canon) (i-before-consumer-at c .i .given .0 .0) (k .there))
-
-ranged : (c : tie.After-consumer-at) → (least-permits ≤ getD (entry-before-consumer-at c .args .store .now) (c .consumer-at .result + 4) 0) × (getD (entry-before-consumer-at c .args .store .now) (c .consumer-at .result + 4) 0 ≤ most-permits)
-ranged c =
-    let ws = entry-before-consumer-at c .args .store .now in
-    let f = found (i-before-consumer-at c) in
-    rw (worth c) (found-range (decode ws) (entry-before-consumer-at c .args .id) (consumer-nth (decode ws) (i-before-consumer-at c .i .given .0 .0)) (valid-now ws (entry-before-consumer-at c .pre .1))
-    (consumer-found (decode ws) (i-before-consumer-at c .i .given .0 .0) (entry-before-consumer-at c .args .id) (f .0) (f .1)))
-
-shared-slice-read-result : tie.Need-shared-slice-read-result
-shared-slice-read-result c =
-    let k = there (i-before-shared-slice-known2 c) in
-    let a = c .before .consumer-at .ensures in
-    let i = k .inside in
-    let l = k .canon .long in
-    omega arith
-
-add-result-2 : tie.Need-add-result-2
-add-result-2 c = let r = ranged (c .before) in let h = entry-before-shared-slice-known2 c .pre .3 in let y = r .1 in omega arith
+add-result c = let r = ranged c in let h = entry-before-permits c .pre .3 in let y = r .1 in omega arith
 
 sub-result : tie.Need-sub-result
-sub-result c = let r = ranged (c .before) in let h = entry-before-shared-slice-known2 c .pre .2 in let x = r .0 in omega arith
+sub-result c = let r = ranged c in let h = entry-before-permits c .pre .2 in let x = r .0 in omega arith
 
 returns-3 : tie.Need-returns-3
 returns-3 c =
-    let ws = entry-before-shared-slice-known2 c .args .store .now in
-    let f = found (i-before-shared-slice-known2 c) in
-    adds-permits (dispatcher-nth (decode ws) (entry-before-shared-slice-known2 c .args .d) .pair) (entry-before-shared-slice-known2 c .args .sum)
-    (consumer-found (decode ws) (i-before-shared-slice-known2 c .i .given .0 .0) (entry-before-shared-slice-known2 c .args .id) (f .0) (f .1)) (answered-yes (is-under-before-shared-slice-known2 c .is-under .ensures) (c .before .before .if1 .left)) (worth (c .before))
+    let ws = entry-before-permits c .args .store .now in
+    let f = found (i-before-permits c) in
+    adds-permits (dispatcher-nth (decode ws) (entry-before-permits c .args .d) .pair) (entry-before-permits c .args .sum)
+    (consumer-found (decode ws) (i-before-permits c .i .given .0 .0) (entry-before-permits c .args .id) (f .0) (f .1)) (answered-yes (is-under-before-permits c .is-under .ensures) (c .before .if1 .left)) (c .permits .ensures)
 
 pub add-permits-spec : {M : Type 1} → statement M
 add-permits-spec =
@@ -144,10 +119,7 @@ add-permits-spec =
     returns
     is-under-requires
     returns-2
-    consumer-at-requires
+    permits-requires
     add-result
-    mul-result
-    shared-slice-read-result
-    add-result-2
     sub-result
     returns-3)

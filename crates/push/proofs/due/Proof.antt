@@ -1,11 +1,9 @@
 -- `push::due` meets its contract: the permits of at most 32 consumers lie in a local array.
-use mathlib.Core.Path.{_≡_, _∙_}
+use mathlib.Core.Path.{_≡_}
 use Prim.Native.Nat.{_≤_}
-use native.Mathlib.Omega.{arith}
 use lib.ListN.{length}
 use Rattle.layout.specs.Layout.{decode}
 use Rattle.layout.specs.Canon.{Canon-store}
-use Rattle.layout.proofs.Gets.{read-consumer-count}
 use Rattle.operation_laws.proofs.Frame.{canon-of}
 use Rattle.push_turn.proofs.Zeros.{zeros-enough, zeros-lent, zeros-sized}
 use borrow.Author.Needs.{needs}
@@ -21,15 +19,15 @@ canon : (c : tie.Start) → Canon-store (c .args .e) (c .args .store .now)
 canon c = canon-of (c .args .e) (c .args .store .now) (c .pre .0) (c .pre .1)
 
 -- there are as many consumers as the count says
-counted : (c : tie.After-word) → c .word .result ≡ length (decode (c .before .before .args .store .now) .consumers)
-counted c = c .word .ensures ∙ read-consumer-count (canon (c .before .before))
+counted : (c : tie.After-consumer-count) → c .consumer-count .result ≡ length (decode (c .before .before .args .store .now) .consumers)
+counted c = c .consumer-count .ensures
 
 -- which are few
 few : (c : tie.Start) → length (decode (c .args .store .now) .consumers) ≤ 32
 few c = canon c .shaped .consumers-fit
 
-word-requires : tie.Need-word-requires
-word-requires c κs = let l = canon (c .before) .long in omega (arith, l)
+consumer-count-requires : tie.Need-consumer-count-requires
+consumer-count-requires c κs = canon (c .before)
 
 array-borrow-prefix-permits : tie.Need-array-borrow-prefix-permits
 array-borrow-prefix-permits c = zeros-enough (counted c) (few (c .before .before))
@@ -49,7 +47,7 @@ pub due-spec : {M : Type 1} → statement M
 due-spec =
     tie.close
     (tie.spec
-    word-requires
+    consumer-count-requires
     array-borrow-prefix-permits
     slice-aggregate-due-with
     due-with-requires

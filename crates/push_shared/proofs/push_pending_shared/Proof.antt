@@ -1,12 +1,11 @@
 -- `push_shared::push_pending_shared` meets its contract. The loop's invariant: what is left to serve, with what is written,
 -- is the whole.
-use mathlib.Core.Path.{_≡_, refl, _∙_}
+use mathlib.Core.Path.{_≡_, refl}
 use Prim.Native.Nat.{_-_, _≤_, _<_}
 use native.Mathlib.Omega.{arith}
 use lib.ListN.{length}
 use Rattle.layout.specs.Layout.{decode}
 use Rattle.layout.specs.Canon.{Canon-store}
-use Rattle.layout.proofs.Gets.{read-dispatcher-count}
 use Rattle.operation_laws.proofs.Frame.{canon-of}
 use Rattle.push_shared.proofs.Sharing.{Sharing, sharing-start, ready-next, permits-now, room-next, sharing-on, words-end, permits-end, records-end, count-end, fits-end}
 use borrow.Author.Needs.{needs}
@@ -15,7 +14,7 @@ use Rattle.push_shared.proofs.push_pending_shared.Tie as tie
 use Rattle.push_shared.proofs.push_pending_shared.Reads as reads
 use Rattle.push_shared.proofs.push_pending_shared.Lts as lts
 use Rattle.push_shared.proofs.serve.serve_dispatcher.Reads as serve-dispatcher-reads
-use Rattle.store.proofs.stretch.word.Reads as word-reads
+use Rattle.dispatcher.proofs.table.dispatcher_count.Reads as dispatcher-count-reads
 
 abbrev Inv-loop : tie.InvT-loop
 Inv-loop store₀ e permits₀ list₀ n m₀ d₀ store permits list m d =
@@ -26,17 +25,17 @@ abbrev μ-loop : tie.MeasureT-loop
 μ-loop store₀ e permits₀ list₀ n m₀ d₀ store permits list m d = n - d
 
 -- the places: what stands before each, by name
-abbrev entry-before-word-arg : tie.After-word-arg Inv-loop μ-loop → tie.Start Inv-loop μ-loop
-entry-before-word-arg c = c .before .before .before .before
+abbrev entry-before-dispatcher-count-arg : tie.After-dispatcher-count-arg Inv-loop μ-loop → tie.Start Inv-loop μ-loop
+entry-before-dispatcher-count-arg c = c .before .before .before .before
 
-abbrev entry-before-word : tie.After-word Inv-loop μ-loop → tie.Start Inv-loop μ-loop
-entry-before-word c = entry-before-word-arg (c .before)
+abbrev entry-before-dispatcher-count : tie.After-dispatcher-count Inv-loop μ-loop → tie.Start Inv-loop μ-loop
+entry-before-dispatcher-count c = entry-before-dispatcher-count-arg (c .before)
 
 abbrev entry-before-in-loop : tie.In-loop Inv-loop μ-loop → tie.Start Inv-loop μ-loop
-entry-before-in-loop c = entry-before-word (c .before .before)
+entry-before-in-loop c = entry-before-dispatcher-count (c .before .before)
 
 abbrev entry-before-after-loop : tie.After-loop Inv-loop μ-loop → tie.Start Inv-loop μ-loop
-entry-before-after-loop c = entry-before-word (c .before .before)
+entry-before-after-loop c = entry-before-dispatcher-count (c .before .before)
 
 abbrev in-loop-before-serve-dispatcher-arg3 : tie.After-serve-dispatcher-arg3 Inv-loop μ-loop → tie.In-loop Inv-loop μ-loop
 in-loop-before-serve-dispatcher-arg3 c = c .before .before .before
@@ -64,26 +63,20 @@ canon : (c : tie.Start Inv-loop μ-loop) → Canon-store (c .args .e) (c .args .
 canon c = canon-of (c .args .e) (c .args .store .now) (c .pre .0) (c .pre .1)
 
 -- the count is the number of dispatchers
-counted : (c : tie.After-word Inv-loop μ-loop) → c .word .result ≡ length (decode (entry-before-word c .args .store .now) .dispatchers)
-counted c = c .word .ensures ∙ read-dispatcher-count (canon (entry-before-word c))
+counted : (c : tie.After-dispatcher-count Inv-loop μ-loop) → c .dispatcher-count .result ≡ length (decode (entry-before-dispatcher-count c .args .store .now) .dispatchers)
+counted c = c .dispatcher-count .ensures
 
 -- the dispatcher of a turn is one of them
 here : (c : tie.In-loop Inv-loop μ-loop) → c .before .loop .d < length (decode (entry-before-in-loop c .args .store .now) .dispatchers)
 here c = let n = counted (c .before .before) in let t = c .loop-test .taken in omega (arith, n, t)
 
-mul-word : tie.Need-mul-word Inv-loop μ-loop
-mul-word c = let h = canon (entry-before-word-arg c) .E-to in omega (arith, h)
-
-add-word : tie.Need-add-word Inv-loop μ-loop
-add-word c = let h = canon (entry-before-word-arg c) .E-to in omega (arith, h)
-
-word-requires : tie.Need-word-requires Inv-loop μ-loop
-word-requires c κs = let h = canon (entry-before-word-arg c) .long in omega (arith, h)
+dispatcher-count-requires : tie.Need-dispatcher-count-requires Inv-loop μ-loop
+dispatcher-count-requires c κs = canon (entry-before-dispatcher-count-arg c)
 
 loop-holds : tie.Need-loop-holds Inv-loop μ-loop
 loop-holds c =
-    let p = entry-before-word c .pre in
-    (refl, refl, refl, sharing-start (entry-before-word c .args .store .now) (p .0) (p .1) (entry-before-word c .args .permits .now) (entry-before-word c .args .list .now) (p .2))
+    let p = entry-before-dispatcher-count c .pre in
+    (refl, refl, refl, sharing-start (entry-before-dispatcher-count c .args .store .now) (p .0) (p .1) (entry-before-dispatcher-count c .args .permits .now) (entry-before-dispatcher-count c .args .list .now) (p .2))
 
 serve-dispatcher-requires : tie.Need-serve-dispatcher-requires Inv-loop μ-loop
 serve-dispatcher-requires c κs =
@@ -135,9 +128,7 @@ push-pending-shared-spec =
     (tie.spec
     Inv-loop
     μ-loop
-    mul-word
-    add-word
-    word-requires
+    dispatcher-count-requires
     loop-holds
     serve-dispatcher-requires
     add-d

@@ -1,10 +1,8 @@
 -- `seek::seek_position` meets its contract: the topic exists, or its ledger is empty.
-use mathlib.Core.Path.{_∙_}
 use Prim.Native.Nat.{_<_}
 use native.Mathlib.Omega.{arith}
 use lib.ListN.{length}
 use Rattle.layout.specs.Layout.{decode}
-use Rattle.layout.proofs.Gets.{read-topic-count}
 use Rattle.layout.proofs.Placed.{topic-in}
 use Rattle.topic.specs.Ids.{id-of}
 use Rattle.seek.proofs.Seeks.{position-there, position-none}
@@ -27,13 +25,13 @@ entry-before-first-at-or-after c = entry-before-then1 (c .before)
 
 -- the slot that was found lies in the table
 here : (c : tie.Then1) → c .before .before .find-topic .result < length (decode (entry-before-then1 c .args .store .now) .topics)
-here c = let n = c .before .word .ensures ∙ read-topic-count (entry-before-then1 c .pre) in let t = c .if1 .taken in omega arith
+here c = let n = c .before .topic-count .ensures in let t = c .if1 .taken in omega arith
 
 find-topic-requires : tie.Need-find-topic-requires
 find-topic-requires c κs = search needs
 
-word-requires : tie.Need-word-requires
-word-requires c κs = search needs
+topic-count-requires : tie.Need-topic-count-requires
+topic-count-requires c κs = search needs
 
 first-at-or-after-requires : tie.Need-first-at-or-after-requires
 first-at-or-after-requires c κs = topic-in (entry-before-then1 c .pre) (c .before .before .find-topic .result) (here c)
@@ -47,11 +45,11 @@ returns c =
 returns-2 : tie.Need-returns-2
 returns-2 c =
     let a = entry-before-else1 c .args in
-    let n = c .before .word .ensures ∙ read-topic-count (entry-before-else1 c .pre) in
+    let n = c .before .topic-count .ensures in
     let t = c .if1 .left in
     position-none (decode (a .store .now)) (c .before .before .find-topic .result) (a .topic) (id-of (a .ledger) (a .entry)) (c .before .before .find-topic .ensures) (omega arith)
 
 pub seek-position-spec : {M : Type 1} → statement M
 seek-position-spec =
     tie.close
-    (tie.spec find-topic-requires word-requires first-at-or-after-requires returns returns-2)
+    (tie.spec find-topic-requires topic-count-requires first-at-or-after-requires returns returns-2)

@@ -1,12 +1,11 @@
 -- `append::entry::new_entries` meets its contract: the dispatchers one after another. The loop's invariant: the words are
 -- those of the state in which the first d have the new entry.
-use mathlib.Core.Path.{_≡_, refl, _∙_}
+use mathlib.Core.Path.{_≡_, refl}
 use Prim.Native.Nat.{_-_, _≤_, _<_}
 use native.Mathlib.Omega.{arith}
 use lib.ListN.{length}
 use borrow.Author.Needs.{needs}
 use Rattle.layout.specs.Layout.{decode}
-use Rattle.layout.proofs.Gets.{read-dispatcher-count}
 use Rattle.topic.specs.Ids.{id-of}
 use Rattle.append.proofs.Entries.{Stepped, step-start, step-in, step-turn, step-end}
 use Rattle.append.proofs.entry.new_entries.Statement.{statement}
@@ -19,14 +18,14 @@ abbrev μ-loop : tie.MeasureT-loop
 μ-loop store₀ e topic ledger entry n d₀ store d = n - d
 
 -- the places: what stands before each, by name
-abbrev entry-before-word : tie.After-word Inv-loop μ-loop → tie.Start Inv-loop μ-loop
-entry-before-word c = c .before .before .before
+abbrev entry-before-dispatcher-count : tie.After-dispatcher-count Inv-loop μ-loop → tie.Start Inv-loop μ-loop
+entry-before-dispatcher-count c = c .before .before .before
 
 abbrev entry-before-in-loop : tie.In-loop Inv-loop μ-loop → tie.Start Inv-loop μ-loop
-entry-before-in-loop c = entry-before-word (c .before .before)
+entry-before-in-loop c = entry-before-dispatcher-count (c .before .before)
 
 abbrev entry-before-after-loop : tie.After-loop Inv-loop μ-loop → tie.Start Inv-loop μ-loop
-entry-before-after-loop c = entry-before-word (c .before .before)
+entry-before-after-loop c = entry-before-dispatcher-count (c .before .before)
 
 abbrev entry-before-new-entry-arg : tie.After-new-entry-arg Inv-loop μ-loop → tie.Start Inv-loop μ-loop
 entry-before-new-entry-arg c = entry-before-in-loop (c .before)
@@ -41,24 +40,18 @@ abbrev entry-before-slice-known2 : tie.After-slice-known2 Inv-loop μ-loop → t
 entry-before-slice-known2 c = entry-before-in-loop (in-loop-before-slice-known2 c)
 
 -- there are as many dispatchers as the count says
-counted : (c : tie.After-word Inv-loop μ-loop) → c .word .result ≡ length (decode (entry-before-word c .args .store .now) .dispatchers)
-counted c = c .word .ensures ∙ read-dispatcher-count (entry-before-word c .pre .0)
+counted : (c : tie.After-dispatcher-count Inv-loop μ-loop) → c .dispatcher-count .result ≡ length (decode (entry-before-dispatcher-count c .args .store .now) .dispatchers)
+counted c = c .dispatcher-count .ensures
 
 -- the slot of a turn lies in the table
 here : (c : tie.In-loop Inv-loop μ-loop) → c .before .loop .d < length (decode (entry-before-in-loop c .args .store .now) .dispatchers)
 here c = let n = counted (c .before .before) in omega arith
 
-mul-word : tie.Need-mul-word Inv-loop μ-loop
-mul-word c = let l = c .before .before .pre .0 .long in omega arith
-
-add-word : tie.Need-add-word Inv-loop μ-loop
-add-word c = let l = c .before .before .pre .0 .long in omega arith
-
-word-requires : tie.Need-word-requires Inv-loop μ-loop
-word-requires c κs = let l = c .before .before .pre .0 .long in omega arith
+dispatcher-count-requires : tie.Need-dispatcher-count-requires Inv-loop μ-loop
+dispatcher-count-requires c κs = c .before .before .pre .0
 
 loop-holds : tie.Need-loop-holds Inv-loop μ-loop
-loop-holds c = (search needs, refl, step-start (entry-before-word c .args .topic) (id-of (entry-before-word c .args .ledger) (entry-before-word c .args .entry)) (entry-before-word c .pre .0))
+loop-holds c = (search needs, refl, step-start (entry-before-dispatcher-count c .args .topic) (id-of (entry-before-dispatcher-count c .args .ledger) (entry-before-dispatcher-count c .args .entry)) (entry-before-dispatcher-count c .pre .0))
 
 new-entry-requires : tie.Need-new-entry-requires Inv-loop μ-loop
 new-entry-requires c κs =
@@ -94,9 +87,7 @@ new-entries-spec =
     (tie.spec
     Inv-loop
     μ-loop
-    mul-word
-    add-word
-    word-requires
+    dispatcher-count-requires
     loop-holds
     new-entry-requires
     add-d

@@ -9,7 +9,7 @@ use Rattle.check_state.proofs.valid_consumers.attached_valid.Statement.
 use Rattle.check_state.proofs.valid_consumers.attached_valid.Tie as tie
 use Rattle.check_state.proofs.valid_consumers.attached_valid.Reads as reads
 use Rattle.check_state.proofs.valid_consumers.attached_valid.Lts as lts
-use Rattle.dispatcher.proofs.find.in_ring.Reads as in-ring-reads
+use Rattle.dispatcher.proofs.table.in_ring.Reads as in-ring-reads
 
 -- the places: what stands before each, by name
 abbrev entry-before-then1 : tie.Then1 → tie.Start

@@ -9,14 +9,14 @@ use borrow.Author.Tests.{eq-eqb, ne-eqb}
 use Rattle.rules.specs.State.{by-id}
 use Rattle.layout.specs.Layout.{decode}
 use Rattle.layout.specs.Fields.{zero-consumer}
-use Rattle.layout.proofs.Gets.{read-consumer-count, read-consumer-id}
+use Rattle.layout.proofs.Gets.{read-consumer-id}
 use Rattle.store.proofs.Finding.{Sought, sought-start, sought-here, sought-on, sought-end}
 use Rattle.consumer.proofs.Lookups.{lookup-live, lookup-missing, lookup-rules}
 use Rattle.consumer.proofs.lookup.find_consumer.Statement.{statement}
 use Rattle.consumer.proofs.lookup.find_consumer.Tie as tie
 use Rattle.consumer.proofs.lookup.find_consumer.Reads as reads
 use Rattle.consumer.proofs.lookup.find_consumer.Lts as lts
-use Rattle.store.proofs.stretch.word.Reads as word-reads
+use Rattle.consumer.proofs.table.consumer_count.Reads as consumer-count-reads
 
 abbrev Inv-loop : tie.InvT-loop
 Inv-loop store e id n i₀ i = (i ≤ n) × Sought by-id id (decode store .consumers) i
@@ -44,8 +44,8 @@ abbrev entry-before-else1 : tie.Else1 Inv-loop μ-loop → tie.Start Inv-loop μ
 entry-before-else1 c = entry-before-in-loop (c .before .before)
 
 -- there are as many consumers as the count says
-counted : (c : tie.After-word Inv-loop μ-loop) → c .word .result ≡ length (decode (c .before .before .args .store .now) .consumers)
-counted c = c .word .ensures ∙ read-consumer-count (c .before .before .pre)
+counted : (c : tie.After-consumer-count Inv-loop μ-loop) → c .consumer-count .result ≡ length (decode (c .before .before .args .store .now) .consumers)
+counted c = c .consumer-count .ensures
 
 -- the slot of a turn lies in the table
 here : (c : tie.In-loop Inv-loop μ-loop) → c .before .loop .i < length (decode (entry-before-in-loop c .args .store .now) .consumers)
@@ -55,8 +55,8 @@ here c = let n = counted (c .before .before) in omega arith
 inside : (c : tie.In-loop Inv-loop μ-loop) → 17 + c .before .loop .i * 72 < length (entry-before-in-loop c .args .store .now)
 inside c = let k = here c in let f = entry-before-in-loop c .pre .shaped .consumers-fit in let l = entry-before-in-loop c .pre .long in omega arith
 
-word-requires : tie.Need-word-requires Inv-loop μ-loop
-word-requires c κs = let l = c .before .pre .long in omega arith
+consumer-count-requires : tie.Need-consumer-count-requires Inv-loop μ-loop
+consumer-count-requires c κs = search needs
 
 loop-holds : tie.Need-loop-holds Inv-loop μ-loop
 loop-holds c = (search needs, sought-start by-id (c .before .before .args .id) (decode (c .before .before .args .store .now) .consumers))
@@ -114,7 +114,7 @@ find-consumer-spec =
     (tie.spec
     Inv-loop
     μ-loop
-    word-requires
+    consumer-count-requires
     loop-holds
     mul-if1
     add-if1

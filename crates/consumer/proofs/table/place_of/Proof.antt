@@ -1,11 +1,11 @@
 -- `consumer::table::place_of` meets its contract. The loop's invariant: the place among the consumers from i on is the
 -- place among all.
-use mathlib.Core.Path.{_≡_, _∙_}
+use mathlib.Core.Path.{_≡_}
 use Prim.Native.Nat.{_+_, _*_, _-_, _≤_, _<_}
 use native.Mathlib.Omega.{arith}
 use lib.ListN.{length}
 use Rattle.layout.specs.Layout.{decode}
-use Rattle.layout.proofs.Gets.{read-consumer-count, read-consumer-id}
+use Rattle.layout.proofs.Gets.{read-consumer-id}
 use Rattle.consumer.proofs.Openings.{Placing, placing-start, placing-here, placing-on, placing-end}
 use borrow.Author.Needs.{needs}
 use Rattle.consumer.proofs.table.place_of.Statement.{statement}
@@ -37,8 +37,8 @@ abbrev entry-before-else1 : tie.Else1 Inv-loop μ-loop → tie.Start Inv-loop μ
 entry-before-else1 c = entry-before-in-loop (c .before .before)
 
 -- there are as many consumers as the count says
-counted : (c : tie.After-word Inv-loop μ-loop) → c .word .result ≡ length (decode (c .before .before .args .store .now) .consumers)
-counted c = c .word .ensures ∙ read-consumer-count (c .before .before .pre)
+counted : (c : tie.After-consumer-count Inv-loop μ-loop) → c .consumer-count .result ≡ length (decode (c .before .before .args .store .now) .consumers)
+counted c = c .consumer-count .ensures
 
 -- the slot of a turn lies in the table
 here : (c : tie.In-loop Inv-loop μ-loop) → c .before .loop .i < length (decode (entry-before-in-loop c .args .store .now) .consumers)
@@ -48,8 +48,8 @@ here c = let n = counted (c .before .before) in omega arith
 inside : (c : tie.In-loop Inv-loop μ-loop) → 17 + c .before .loop .i * 72 < length (entry-before-in-loop c .args .store .now)
 inside c = let k = here c in let f = entry-before-in-loop c .pre .shaped .consumers-fit in let l = entry-before-in-loop c .pre .long in omega arith
 
-word-requires : tie.Need-word-requires Inv-loop μ-loop
-word-requires c κs = let l = c .before .pre .long in omega arith
+consumer-count-requires : tie.Need-consumer-count-requires Inv-loop μ-loop
+consumer-count-requires c κs = search needs
 
 loop-holds : tie.Need-loop-holds Inv-loop μ-loop
 loop-holds c = (search needs, placing-start (c .before .before .args .id) (decode (c .before .before .args .store .now) .consumers))
@@ -98,7 +98,7 @@ place-of-spec =
     (tie.spec
     Inv-loop
     μ-loop
-    word-requires
+    consumer-count-requires
     loop-holds
     mul-if1
     add-if1

@@ -1,45 +1,44 @@
 -- `consumer::table::remove_consumer` meets its contract: the gap is closed, then the count lowered.
-use mathlib.Core.Path.{_≡_, _∙_}
+use mathlib.Core.Path.{_≡_}
 use Prim.Native.Nat.{_≤_, _<_}
 use native.Mathlib.Omega.{arith}
 use lib.ListN.{length}
 use Rattle.layout.specs.Layout.{decode}
-use Rattle.layout.proofs.Gets.{read-consumer-count}
 use Rattle.consumer.proofs.Removed.{removed-consumer}
 use borrow.Author.Needs.{needs}
 use Rattle.consumer.proofs.table.remove_consumer.Statement.{statement}
 use Rattle.consumer.proofs.table.remove_consumer.Tie as tie
 
 -- the places: what stands before each, by name
-abbrev entry-before-word : tie.After-word → tie.Start
-entry-before-word c = c .before .before .before
+abbrev entry-before-consumer-count : tie.After-consumer-count → tie.Start
+entry-before-consumer-count c = c .before .before .before
 
 abbrev entry-before-close-gap-arg : tie.After-close-gap-arg → tie.Start
-entry-before-close-gap-arg c = entry-before-word (c .before .before)
+entry-before-close-gap-arg c = entry-before-consumer-count (c .before .before)
 
 abbrev consumer-at-before-slice-known2 : tie.After-slice-known2 → tie.After-consumer-at
 consumer-at-before-slice-known2 c = c .before .before .before .before
 
-abbrev word-before-slice-known2 : tie.After-slice-known2 → tie.After-word
-word-before-slice-known2 c = consumer-at-before-slice-known2 c .before
+abbrev consumer-count-before-slice-known2 : tie.After-slice-known2 → tie.After-consumer-count
+consumer-count-before-slice-known2 c = consumer-at-before-slice-known2 c .before
 
 abbrev entry-before-slice-known2 : tie.After-slice-known2 → tie.Start
-entry-before-slice-known2 c = entry-before-word (word-before-slice-known2 c)
+entry-before-slice-known2 c = entry-before-consumer-count (consumer-count-before-slice-known2 c)
 
 -- the count is the number of consumers
-counted : (c : tie.After-word) → c .word .result ≡ length (decode (entry-before-word c .args .store .now) .consumers)
-counted c = c .word .ensures ∙ read-consumer-count (entry-before-word c .pre .canon)
+counted : (c : tie.After-consumer-count) → c .consumer-count .result ≡ length (decode (entry-before-consumer-count c .args .store .now) .consumers)
+counted c = c .consumer-count .ensures
 
 -- the consumer is one of them, and there are at most 32
-there : (c : tie.After-word) → (entry-before-word c .args .i < c .word .result) × (c .word .result ≤ 32)
+there : (c : tie.After-consumer-count) → (entry-before-consumer-count c .args .i < c .consumer-count .result) × (c .consumer-count .result ≤ 32)
 there c =
     let n = counted c in
-    let h = entry-before-word c .pre .there in
-    let f = entry-before-word c .pre .canon .shaped .consumers-fit in
+    let h = entry-before-consumer-count c .pre .there in
+    let f = entry-before-consumer-count c .pre .canon .shaped .consumers-fit in
     (omega arith, omega arith)
 
-word-requires : tie.Need-word-requires
-word-requires c κs = search needs
+consumer-count-requires : tie.Need-consumer-count-requires
+consumer-count-requires c κs = search needs
 
 consumer-at-requires : tie.Need-consumer-at-requires
 consumer-at-requires c κs = search needs
@@ -61,7 +60,7 @@ close-gap-requires c κs =
     omega (arith, t .0, t .1)
 
 sub-store : tie.Need-sub-store
-sub-store c = let t = there (word-before-slice-known2 c) in omega (arith, t .0)
+sub-store c = let t = there (consumer-count-before-slice-known2 c) in omega (arith, t .0)
 
 slice-write-store : tie.Need-slice-write-store
 slice-write-store c = search needs
@@ -70,13 +69,13 @@ same-length : tie.Need-same-length
 same-length c = search needs
 
 returns : tie.Need-returns
-returns c = removed-consumer (entry-before-slice-known2 c .args .i) (consumer-at-before-slice-known2 c .consumer-at .result) (word-before-slice-known2 c .word .result) (entry-before-slice-known2 c .pre) (consumer-at-before-slice-known2 c .consumer-at .ensures) (counted (word-before-slice-known2 c)) (c .before .before .close-gap .ensures)
+returns c = removed-consumer (entry-before-slice-known2 c .args .i) (consumer-at-before-slice-known2 c .consumer-at .result) (consumer-count-before-slice-known2 c .consumer-count .result) (entry-before-slice-known2 c .pre) (consumer-at-before-slice-known2 c .consumer-at .ensures) (counted (consumer-count-before-slice-known2 c)) (c .before .before .close-gap .ensures)
 
 pub remove-consumer-spec : {M : Type 1} → statement M
 remove-consumer-spec =
     tie.close
     (tie.spec
-    word-requires
+    consumer-count-requires
     consumer-at-requires
     add-close-gap
     sub-close-gap

@@ -2,11 +2,10 @@
 use mathlib.Core.Path.{_≡_, ap, _∙_}
 use Prim.Native.Nat.{ℕ}
 use native.Mathlib.Omega.{arith}
-use lib.ListN.{length, getD}
+use lib.ListN.{length}
 use Rattle.rules.specs.State.{ledger-of}
 use Rattle.layout.specs.Layout.{decode}
 use Rattle.layout.specs.Fields.{dispatcher-nth}
-use Rattle.layout.proofs.GetsDispatcher.{read-dispatcher-topic}
 use Rattle.topic.proofs.LedgerWords.{ledger-fits}
 use Rattle.head.specs.declared.Head as numbers
 use Rattle.dispatcher.specs.Values.{head-of}
@@ -19,7 +18,7 @@ use Rattle.push.proofs.bound.waiting_at.Tie as tie
 
 -- the places: what stands before each, by name
 abbrev entry-before-ledger-length : tie.After-ledger-length → tie.Start
-entry-before-ledger-length c = c .before .before .before .before
+entry-before-ledger-length c = c .before .before .before
 
 abbrev ledger-length-before-queue-count : tie.After-queue-count → tie.After-ledger-length
 ledger-length-before-queue-count c = c .before .before .before
@@ -32,19 +31,10 @@ entries-are : (c : tie.After-ledger-length)
     → c .ledger-length .result ≡ length (ledger-under (decode (entry-before-ledger-length c .args .store .now)) (entry-before-ledger-length c .args .d))
 entries-are c =
     let a = entry-before-ledger-length c .args in
-    let h = entry-before-ledger-length c .pre in
-    c .ledger-length .ensures
-    ∙ ap (λ (k : ℕ). length (ledger-of (decode (a .store .now)) (getD (a .store .now) k 0))) (c .before .before .dispatcher-at .ensures)
-    ∙ ap (λ (t : ℕ). length (ledger-of (decode (a .store .now)) t)) (read-dispatcher-topic (h .canon) (a .d) (h .there))
+    c .ledger-length .ensures ∙ ap (λ (t : ℕ). length (ledger-of (decode (a .store .now)) t)) (c .before .topic .ensures)
 
-dispatcher-at-requires : tie.Need-dispatcher-at-requires
-dispatcher-at-requires c κs = search needs
-
-mul-ledger-length : tie.Need-mul-ledger-length
-mul-ledger-length c = search needs
-
-shared-slice-read-ledger-length : tie.Need-shared-slice-read-ledger-length
-shared-slice-read-ledger-length c = search needs
+topic-requires : tie.Need-topic-requires
+topic-requires c κs = search needs
 
 ledger-length-requires : tie.Need-ledger-length-requires
 ledger-length-requires c κs = search needs
@@ -84,9 +74,7 @@ pub waiting-at-spec : {M : Type 1} → statement M
 waiting-at-spec =
     tie.close
     (tie.spec
-    dispatcher-at-requires
-    mul-ledger-length
-    shared-slice-read-ledger-length
+    topic-requires
     ledger-length-requires
     load-head-requires
     smaller-requires

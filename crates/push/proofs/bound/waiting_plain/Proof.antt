@@ -1,11 +1,10 @@
 -- `push::bound::waiting_plain` meets its contract. The loop's invariant: what was added up and what is left are all.
-use mathlib.Core.Path.{_≡_, _∙_}
+use mathlib.Core.Path.{_≡_}
 use Prim.Native.Nat.{_-_, _≤_, _<_}
 use native.Mathlib.Omega.{arith}
 use lib.ListN.{length}
 use Rattle.layout.specs.Layout.{decode}
 use Rattle.layout.specs.Fields.{zero-consumer}
-use Rattle.layout.proofs.Gets.{read-consumer-count}
 use Rattle.layout.proofs.Placed.{consumer-in}
 use Rattle.push.specs.Bound.{waiting-for}
 use Rattle.push.proofs.Most.{Adding, adding-first, adding-on, adding-below, adding-last, plain-small}
@@ -30,15 +29,15 @@ abbrev entry-before-waiting-for : tie.After-waiting-for Inv-loop μ-loop → tie
 entry-before-waiting-for c = entry-before-in-loop (c .before)
 
 -- there are as many consumers as the count says
-counted : (c : tie.After-word Inv-loop μ-loop) → c .word .result ≡ length (decode (c .before .before .args .store .now) .consumers)
-counted c = c .word .ensures ∙ read-consumer-count (c .before .before .pre)
+counted : (c : tie.After-consumer-count Inv-loop μ-loop) → c .consumer-count .result ≡ length (decode (c .before .before .args .store .now) .consumers)
+counted c = c .consumer-count .ensures
 
 -- that of a turn is one of them
 here : (c : tie.In-loop Inv-loop μ-loop) → c .before .loop .i < length (decode (entry-before-in-loop c .args .store .now) .consumers)
 here c = let n = counted (c .before .before) in let t = c .loop-test .taken in omega (arith, n, t)
 
-word-requires : tie.Need-word-requires Inv-loop μ-loop
-word-requires c κs = let l = c .before .pre .long in omega (arith, l)
+consumer-count-requires : tie.Need-consumer-count-requires Inv-loop μ-loop
+consumer-count-requires c κs = c .before .pre
 
 loop-holds : tie.Need-loop-holds Inv-loop μ-loop
 loop-holds c = (search needs, adding-first (waiting-for (decode (c .before .before .args .store .now))) (decode (c .before .before .args .store .now) .consumers))
@@ -77,7 +76,7 @@ waiting-plain-spec =
     (tie.spec
     Inv-loop
     μ-loop
-    word-requires
+    consumer-count-requires
     loop-holds
     waiting-for-requires
     add-sum

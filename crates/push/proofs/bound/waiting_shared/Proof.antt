@@ -1,11 +1,10 @@
 -- `push::bound::waiting_shared` meets its contract. The loop's invariant: what was added up and what is left are all.
-use mathlib.Core.Path.{_≡_, _∙_}
+use mathlib.Core.Path.{_≡_}
 use Prim.Native.Nat.{_-_, _≤_, _<_}
 use native.Mathlib.Omega.{arith}
 use lib.ListN.{length}
 use Rattle.layout.specs.Layout.{decode}
 use Rattle.layout.specs.Fields.{zero-dispatcher}
-use Rattle.layout.proofs.Gets.{read-dispatcher-count}
 use Rattle.layout.proofs.Placed.{dispatcher-in}
 use Rattle.push.specs.Bound.{waiting-at}
 use Rattle.push.proofs.Most.{Adding, adding-first, adding-on, adding-below, adding-last, shared-small}
@@ -30,21 +29,15 @@ abbrev entry-before-waiting-at : tie.After-waiting-at Inv-loop μ-loop → tie.S
 entry-before-waiting-at c = entry-before-in-loop (c .before)
 
 -- there are as many dispatchers as the count says
-counted : (c : tie.After-word Inv-loop μ-loop) → c .word .result ≡ length (decode (c .before .before .args .store .now) .dispatchers)
-counted c = c .word .ensures ∙ read-dispatcher-count (c .before .before .pre)
+counted : (c : tie.After-dispatcher-count Inv-loop μ-loop) → c .dispatcher-count .result ≡ length (decode (c .before .before .args .store .now) .dispatchers)
+counted c = c .dispatcher-count .ensures
 
 -- that of a turn is one of them
 here : (c : tie.In-loop Inv-loop μ-loop) → c .before .loop .d < length (decode (entry-before-in-loop c .args .store .now) .dispatchers)
 here c = let n = counted (c .before .before) in let t = c .loop-test .taken in omega (arith, n, t)
 
-mul-word : tie.Need-mul-word Inv-loop μ-loop
-mul-word c = let e = c .before .pre .E-to in omega (arith, e)
-
-add-word : tie.Need-add-word Inv-loop μ-loop
-add-word c = let e = c .before .pre .E-to in omega (arith, e)
-
-word-requires : tie.Need-word-requires Inv-loop μ-loop
-word-requires c κs = let l = c .before .pre .long in omega (arith, l)
+dispatcher-count-requires : tie.Need-dispatcher-count-requires Inv-loop μ-loop
+dispatcher-count-requires c κs = c .before .pre
 
 loop-holds : tie.Need-loop-holds Inv-loop μ-loop
 loop-holds c = (search needs, adding-first (waiting-at (decode (c .before .before .args .store .now))) (decode (c .before .before .args .store .now) .dispatchers))
@@ -83,9 +76,7 @@ waiting-shared-spec =
     (tie.spec
     Inv-loop
     μ-loop
-    mul-word
-    add-word
-    word-requires
+    dispatcher-count-requires
     loop-holds
     waiting-at-requires
     add-sum

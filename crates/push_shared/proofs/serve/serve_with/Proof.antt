@@ -3,11 +3,10 @@ use mathlib.Core.Path.{_≡_, ap, _∙_}
 use mathlib.Core.List.{List}
 use Prim.Native.Nat.{ℕ}
 use native.Mathlib.Omega.{arith}
-use lib.ListN.{length, getD}
+use lib.ListN.{length}
 use Rattle.rules.specs.State.{by-number, ledger-of}
 use Rattle.layout.specs.Layout.{decode}
 use Rattle.layout.specs.Fields.{dispatcher-nth}
-use Rattle.layout.proofs.GetsDispatcher.{read-dispatcher-topic}
 use Rattle.store.specs.Find.{slot}
 use Rattle.push_turn.proofs.Served.{ring-length, next-valid}
 use Rattle.push_shared.proofs.Readied.{ready-serving, ready-room}
@@ -19,7 +18,7 @@ use Rattle.push_shared.proofs.serve.serve_with.Lts as lts
 use Rattle.push_shared.proofs.serve.serve_turns.Reads as serve-turns-reads
 use Rattle.topic.proofs.table.find_topic.Reads as find-topic-reads
 use Rattle.topic.proofs.table.ledger_length.Reads as ledger-length-reads
-use Rattle.store.proofs.offsets.dispatcher_at.Reads as dispatcher-at-reads
+use Rattle.dispatcher.proofs.numbers.topic.Reads as topic-reads
 use Rattle.push_turn.proofs.ring.ring_slots.Reads as ring-slots-reads
 
 -- the places: what stands before each, by name
@@ -32,20 +31,14 @@ ledger-length-before-serve-turns-arg4 c = ring-slots-before-serve-turns-arg4 c .
 abbrev find-topic-before-serve-turns-arg4 : tie.After-serve-turns-arg4 → tie.After-find-topic
 find-topic-before-serve-turns-arg4 c = ledger-length-before-serve-turns-arg4 c .before .before
 
-abbrev dispatcher-at-before-serve-turns-arg4 : tie.After-serve-turns-arg4 → tie.After-dispatcher-at
-dispatcher-at-before-serve-turns-arg4 c = find-topic-before-serve-turns-arg4 c .before .before .before
+abbrev topic-before-serve-turns-arg4 : tie.After-serve-turns-arg4 → tie.After-topic
+topic-before-serve-turns-arg4 c = find-topic-before-serve-turns-arg4 c .before .before
 
 abbrev entry-before-serve-turns-arg4 : tie.After-serve-turns-arg4 → tie.Start
-entry-before-serve-turns-arg4 c = dispatcher-at-before-serve-turns-arg4 c .before .before .before .before .before
+entry-before-serve-turns-arg4 c = topic-before-serve-turns-arg4 c .before .before .before .before .before .before
 
-dispatcher-at-requires : tie.Need-dispatcher-at-requires
-dispatcher-at-requires c κs = search needs
-
-mul-number : tie.Need-mul-number
-mul-number c = search needs
-
-slice-read-number : tie.Need-slice-read-number
-slice-read-number c = search needs
+topic-requires : tie.Need-topic-requires
+topic-requires c κs = search needs
 
 find-topic-requires : tie.Need-find-topic-requires
 find-topic-requires c κs = search needs
@@ -63,8 +56,7 @@ serve-turns-requires c κs =
     let ws = a .store .now in
     let s = decode ws in
     let h = p .0 .here in
-    let w : getD ws (dispatcher-at-before-serve-turns-arg4 c .dispatcher-at .result) 0 ≡ dispatcher-nth s (a .d) .pair .topic =
-    ap (λ (k : ℕ). getD ws k 0) (dispatcher-at-before-serve-turns-arg4 c .dispatcher-at .ensures) ∙ read-dispatcher-topic (h .canon) (a .d) (h .there) in
+    let w = topic-before-serve-turns-arg4 c .topic .ensures in
     let t : find-topic-before-serve-turns-arg4 c .find-topic .result ≡ slot by-number (dispatcher-nth s (a .d) .pair .topic) (s .topics) =
     find-topic-before-serve-turns-arg4 c .find-topic .ensures ∙ ap (λ (k : ℕ). slot by-number k (s .topics)) w in
     let n : ledger-length-before-serve-turns-arg4 c .ledger-length .result ≡ length (ledger-of s (dispatcher-nth s (a .d) .pair .topic)) =
@@ -94,9 +86,7 @@ pub serve-with-spec : {M : Type 1} → statement M
 serve-with-spec =
     tie.close
     (tie.spec
-    dispatcher-at-requires
-    mul-number
-    slice-read-number
+    topic-requires
     find-topic-requires
     ledger-length-requires
     ring-slots-requires

@@ -1,5 +1,5 @@
 -- `push_turn::due::due_shared` meets its contract. The loop's invariant: what is ahead, with what was counted, is the whole.
-use mathlib.Core.Path.{_≡_, refl, _∙_}
+use mathlib.Core.Path.{_≡_, refl}
 use Prim.Native.Nat.{_-_, _≤_, _<_}
 use native.Mathlib.Omega.{arith}
 use lib.ListN.{length}
@@ -7,7 +7,6 @@ use Rattle.rules.specs.State.{by-number}
 use Rattle.layout.specs.Layout.{decode}
 use Rattle.layout.specs.Canon.{Canon-store}
 use Rattle.layout.specs.Fields.{dispatcher-nth}
-use Rattle.layout.proofs.Gets.{read-dispatcher-count}
 use Rattle.store.specs.Find.{slot}
 use Rattle.operation_laws.proofs.Frame.{canon-of}
 use Rattle.push_turn.specs.Turns.{ledger-under}
@@ -24,14 +23,14 @@ abbrev μ-loop : tie.MeasureT-loop
 μ-loop store e permits₀ n count₀ d₀ permits count d = n - d
 
 -- the places: what stands before each, by name
-abbrev entry-before-word : tie.After-word Inv-loop μ-loop → tie.Start Inv-loop μ-loop
-entry-before-word c = c .before .before .before
+abbrev entry-before-dispatcher-count : tie.After-dispatcher-count Inv-loop μ-loop → tie.Start Inv-loop μ-loop
+entry-before-dispatcher-count c = c .before .before .before
 
 abbrev entry-before-in-loop : tie.In-loop Inv-loop μ-loop → tie.Start Inv-loop μ-loop
-entry-before-in-loop c = entry-before-word (c .before .before)
+entry-before-in-loop c = entry-before-dispatcher-count (c .before .before)
 
 abbrev entry-before-after-loop : tie.After-loop Inv-loop μ-loop → tie.Start Inv-loop μ-loop
-entry-before-after-loop c = entry-before-word (c .before .before)
+entry-before-after-loop c = entry-before-dispatcher-count (c .before .before)
 
 abbrev entry-before-due-of-arg : tie.After-due-of-arg Inv-loop μ-loop → tie.Start Inv-loop μ-loop
 entry-before-due-of-arg c = entry-before-in-loop (c .before)
@@ -50,8 +49,8 @@ canon : (c : tie.Start Inv-loop μ-loop) → Canon-store (c .args .e) (c .args .
 canon c = canon-of (c .args .e) (c .args .store .now) (c .pre .0) (c .pre .1)
 
 -- there are as many dispatchers as the count says
-counted : (c : tie.After-word Inv-loop μ-loop) → c .word .result ≡ length (decode (entry-before-word c .args .store .now) .dispatchers)
-counted c = c .word .ensures ∙ read-dispatcher-count (canon (entry-before-word c))
+counted : (c : tie.After-dispatcher-count Inv-loop μ-loop) → c .dispatcher-count .result ≡ length (decode (entry-before-dispatcher-count c .args .store .now) .dispatchers)
+counted c = c .dispatcher-count .ensures
 
 -- the dispatcher of a turn is one of them
 here : (c : tie.In-loop Inv-loop μ-loop) → c .before .loop .d < length (decode (entry-before-in-loop c .args .store .now) .dispatchers)
@@ -68,17 +67,11 @@ small c =
     let r = c .before .before .due-of .ensures .0 in
     omega arith
 
-mul-word : tie.Need-mul-word Inv-loop μ-loop
-mul-word c = let e = canon (c .before .before) .E-to in omega arith
-
-add-word : tie.Need-add-word Inv-loop μ-loop
-add-word c = let e = canon (c .before .before) .E-to in omega arith
-
-word-requires : tie.Need-word-requires Inv-loop μ-loop
-word-requires c κs = let l = canon (c .before .before) .long in omega arith
+dispatcher-count-requires : tie.Need-dispatcher-count-requires Inv-loop μ-loop
+dispatcher-count-requires c κs = canon (c .before .before)
 
 loop-holds : tie.Need-loop-holds Inv-loop μ-loop
-loop-holds c = (search needs, refl, carried-start (decode (entry-before-word c .args .store .now)) (entry-before-word c .args .permits .now))
+loop-holds c = (search needs, refl, carried-start (decode (entry-before-dispatcher-count c .args .store .now)) (entry-before-dispatcher-count c .args .permits .now))
 
 due-of-requires : tie.Need-due-of-requires Inv-loop μ-loop
 due-of-requires c κs = let p = entry-before-due-of-arg c .pre in (p .0, p .1, here (c .before))
@@ -122,9 +115,7 @@ due-shared-spec =
     (tie.spec
     Inv-loop
     μ-loop
-    mul-word
-    add-word
-    word-requires
+    dispatcher-count-requires
     loop-holds
     due-of-requires
     add-count

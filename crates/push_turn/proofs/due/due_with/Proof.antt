@@ -1,14 +1,13 @@
 -- `push_turn::due::due_with` meets its contract: the ring is written, and the dispatcher is served by it.
-use mathlib.Core.Path.{_≡_, ap, _∙_}
+use mathlib.Core.Path.{ap, _∙_}
 use mathlib.Core.List.{List}
 use Prim.Native.Nat.{ℕ}
 use native.Mathlib.Omega.{arith}
-use lib.ListN.{length, getD}
+use lib.ListN.{length}
 use Rattle.rules.specs.State.{by-number, ledger-of}
 use Rattle.layout.specs.Layout.{decode}
 use Rattle.layout.specs.Fields.{dispatcher-nth}
 use Rattle.layout.specs.Placed.{Dispatcher-in}
-use Rattle.layout.proofs.GetsDispatcher.{read-dispatcher-topic}
 use Rattle.layout.proofs.Placed.{dispatcher-in}
 use Rattle.store.specs.Find.{slot}
 use Rattle.operation_laws.proofs.Frame.{canon-of}
@@ -21,14 +20,11 @@ use Rattle.push_turn.proofs.due.due_with.Tie as tie
 abbrev entry-before-slice-known2 : tie.After-slice-known2 → tie.Start
 entry-before-slice-known2 c = c .before .before .before
 
-abbrev entry-before-dispatcher-at : tie.After-dispatcher-at → tie.Start
-entry-before-dispatcher-at c = entry-before-slice-known2 (c .before)
-
-abbrev entry-before-shared-slice-known2 : tie.After-shared-slice-known2 → tie.Start
-entry-before-shared-slice-known2 c = entry-before-dispatcher-at (c .before)
+abbrev entry-before-topic : tie.After-topic → tie.Start
+entry-before-topic c = entry-before-slice-known2 (c .before)
 
 abbrev entry-before-find-topic : tie.After-find-topic → tie.Start
-entry-before-find-topic c = entry-before-shared-slice-known2 (c .before)
+entry-before-find-topic c = entry-before-topic (c .before)
 
 abbrev entry-before-ring-slots-arg : tie.After-ring-slots-arg → tie.Start
 entry-before-ring-slots-arg c = entry-before-find-topic (c .before .before)
@@ -42,8 +38,8 @@ ledger-length-before-due-turns-arg2 c = ring-slots-before-due-turns-arg2 c .befo
 abbrev find-topic-before-due-turns-arg2 : tie.After-due-turns-arg2 → tie.After-find-topic
 find-topic-before-due-turns-arg2 c = ledger-length-before-due-turns-arg2 c .before
 
-abbrev dispatcher-at-before-due-turns-arg2 : tie.After-due-turns-arg2 → tie.After-dispatcher-at
-dispatcher-at-before-due-turns-arg2 c = find-topic-before-due-turns-arg2 c .before .before
+abbrev topic-before-due-turns-arg2 : tie.After-due-turns-arg2 → tie.After-topic
+topic-before-due-turns-arg2 c = find-topic-before-due-turns-arg2 c .before
 
 abbrev entry-before-due-turns-arg2 : tie.After-due-turns-arg2 → tie.Start
 entry-before-due-turns-arg2 c = entry-before-find-topic (find-topic-before-due-turns-arg2 c)
@@ -52,17 +48,11 @@ entry-before-due-turns-arg2 c = entry-before-find-topic (find-topic-before-due-t
 there : (c : tie.Start) → Dispatcher-in (c .args .e) (c .args .store .now) (c .args .d)
 there c = dispatcher-in (canon-of (c .args .e) (c .args .store .now) (c .pre .0) (c .pre .1)) (c .args .d) (c .pre .2)
 
-dispatcher-at-requires : tie.Need-dispatcher-at-requires
-dispatcher-at-requires c κs = let h = there (entry-before-slice-known2 c) in let e = h .canon .E-to in let f = h .few in (omega arith, omega arith)
-
-mul-number : tie.Need-mul-number
-mul-number c = let h = there (entry-before-dispatcher-at c) in let i = h .inside in let l = h .canon .long in let a = c .dispatcher-at .ensures in let e = h .canon .E-to in omega arith
-
-shared-slice-read-number : tie.Need-shared-slice-read-number
-shared-slice-read-number c = let h = there (entry-before-shared-slice-known2 c) in let i = h .inside in let l = h .canon .long in let a = c .before .dispatcher-at .ensures in omega arith
+topic-requires : tie.Need-topic-requires
+topic-requires c κs = there (entry-before-slice-known2 c)
 
 find-topic-requires : tie.Need-find-topic-requires
-find-topic-requires c κs = there (entry-before-shared-slice-known2 c) .canon
+find-topic-requires c κs = there (entry-before-topic c) .canon
 
 ledger-length-requires : tie.Need-ledger-length-requires
 ledger-length-requires c κs = there (entry-before-find-topic c) .canon
@@ -76,9 +66,7 @@ due-turns-requires c κs =
     let p = entry-before-due-turns-arg2 c .pre in
     let ws = a .store .now in
     let s = decode ws in
-    let h = there (entry-before-due-turns-arg2 c) in
-    let w : getD ws (dispatcher-at-before-due-turns-arg2 c .dispatcher-at .result) 0 ≡ dispatcher-nth s (a .d) .pair .topic =
-    ap (λ (k : ℕ). getD ws k 0) (dispatcher-at-before-due-turns-arg2 c .dispatcher-at .ensures) ∙ read-dispatcher-topic (h .canon) (a .d) (h .there) in
+    let w = topic-before-due-turns-arg2 c .topic .ensures in
     let v = serving-now ws (a .d) (p .0) (p .2) (a .e) (find-topic-before-due-turns-arg2 c .find-topic .result) (ledger-length-before-due-turns-arg2 c .ledger-length .result) (p .1)
     (find-topic-before-due-turns-arg2 c .find-topic .ensures ∙ ap (λ (k : ℕ). slot by-number k (s .topics)) w) (ledger-length-before-due-turns-arg2 c .ledger-length .ensures ∙ ap (λ (k : ℕ). length (ledger-of s k)) w) in
     let r = ring-slots-before-due-turns-arg2 c .ring-slots .ensures in
@@ -100,9 +88,7 @@ pub due-with-spec : {M : Type 1} → statement M
 due-with-spec =
     tie.close
     (tie.spec
-    dispatcher-at-requires
-    mul-number
-    shared-slice-read-number
+    topic-requires
     find-topic-requires
     ledger-length-requires
     ring-slots-requires

@@ -3,7 +3,6 @@ use mathlib.Core.Path.{sym, _∙_}
 use native.Mathlib.Omega.{arith}
 use Rattle.rules.specs.State.{by-id}
 use Rattle.layout.specs.Layout.{decode}
-use Rattle.layout.proofs.Gets.{read-consumer-count}
 use Rattle.store.proofs.Finding.{slot-le}
 use Rattle.consumer.proofs.Looked.{found-live, found-missing}
 use borrow.Author.Needs.{needs}
@@ -17,11 +16,11 @@ find-consumer-before-known-told c = c .before .before .before
 abbrev entry-before-known-told : tie.After-known-told → tie.Start
 entry-before-known-told c = find-consumer-before-known-told c .before .before
 
-abbrev find-consumer-before-word : tie.After-word → tie.After-find-consumer
-find-consumer-before-word c = c .before .before .before
+abbrev find-consumer-before-consumer-count : tie.After-consumer-count → tie.After-find-consumer
+find-consumer-before-consumer-count c = c .before .before .before
 
-abbrev entry-before-word : tie.After-word → tie.Start
-entry-before-word c = find-consumer-before-word c .before .before
+abbrev entry-before-consumer-count : tie.After-consumer-count → tie.Start
+entry-before-consumer-count c = find-consumer-before-consumer-count c .before .before
 
 find-consumer-requires : tie.Need-find-consumer-requires
 find-consumer-requires c κs = search needs
@@ -32,15 +31,15 @@ enum-known-i c = search needs
 enum-told : tie.Need-enum-told
 enum-told c = search needs
 
-word-requires : tie.Need-word-requires
-word-requires c κs = search needs
+consumer-count-requires : tie.Need-consumer-count-requires
+consumer-count-requires c κs = search needs
 
 returns : tie.Need-returns
 returns c =
-    let ws = entry-before-word c .args .store .now in
-    let id = entry-before-word c .args .id in
-    let m = found-missing id (decode ws .consumers) (sym (c .before .enum-told .given .1) ∙ find-consumer-before-word c .find-consumer .ensures .0) in
-    let n = c .word .ensures ∙ read-consumer-count (entry-before-word c .pre) in
+    let ws = entry-before-consumer-count c .args .store .now in
+    let id = entry-before-consumer-count c .args .id in
+    let m = found-missing id (decode ws .consumers) (sym (c .before .enum-told .given .1) ∙ find-consumer-before-consumer-count c .find-consumer .ensures .0) in
+    let n = c .consumer-count .ensures in
     let l = slot-le by-id id (decode ws .consumers) in
     omega arith
 
@@ -52,4 +51,4 @@ returns-2 c =
 pub slot-of-spec : {M : Type 1} → statement M
 slot-of-spec =
     tie.close
-    (tie.spec find-consumer-requires enum-known-i enum-told word-requires returns returns-2)
+    (tie.spec find-consumer-requires enum-known-i enum-told consumer-count-requires returns returns-2)

@@ -9,14 +9,14 @@ use borrow.Author.Tests.{eq-eqb, ne-eqb}
 use Rattle.rules.specs.State.{by-number}
 use Rattle.layout.specs.Layout.{decode}
 use Rattle.layout.specs.Fields.{zero-topic}
-use Rattle.layout.proofs.Gets.{read-topic-count, read-topic-number}
+use Rattle.layout.proofs.Gets.{read-topic-number}
 use Rattle.store.proofs.Inside.{topic-inside}
 use Rattle.store.proofs.Finding.{Sought, sought-start, sought-here, sought-on, sought-end}
 use Rattle.topic.proofs.table.find_topic.Statement.{statement}
 use Rattle.topic.proofs.table.find_topic.Tie as tie
 use Rattle.topic.proofs.table.find_topic.Reads as reads
 use Rattle.topic.proofs.table.find_topic.Lts as lts
-use Rattle.store.proofs.stretch.word.Reads as word-reads
+use Rattle.topic.proofs.table.topic_count.Reads as topic-count-reads
 
 abbrev Inv-loop : tie.InvT-loop
 Inv-loop store e topic n width i₀ i = (i ≤ n) × Sought by-number topic (decode store .topics) i
@@ -44,8 +44,8 @@ abbrev entry-before-else1 : tie.Else1 Inv-loop μ-loop → tie.Start Inv-loop μ
 entry-before-else1 c = entry-before-in-loop (c .before .before)
 
 -- there are as many topics as the count says
-counted : (c : tie.After-word Inv-loop μ-loop) → c .word .result ≡ length (decode (c .before .before .args .store .now) .topics)
-counted c = c .word .ensures ∙ read-topic-count (c .before .before .pre)
+counted : (c : tie.After-topic-count Inv-loop μ-loop) → c .topic-count .result ≡ length (decode (c .before .before .args .store .now) .topics)
+counted c = c .topic-count .ensures
 
 -- the slot of a turn lies in the table
 here : (c : tie.In-loop Inv-loop μ-loop) → c .before .loop .i < length (decode (entry-before-in-loop c .args .store .now) .topics)
@@ -55,8 +55,8 @@ here c = let n = counted (c .before .before) in omega arith
 inside : (c : tie.In-loop Inv-loop μ-loop) → 2322 + (c .before .loop .i * (4 + 4 * entry-before-in-loop c .args .e) + (4 + 4 * entry-before-in-loop c .args .e)) ≤ length (entry-before-in-loop c .args .store .now)
 inside c = topic-inside (entry-before-in-loop c .pre) (c .before .loop .i) (here c)
 
-word-requires : tie.Need-word-requires Inv-loop μ-loop
-word-requires c κs = search needs
+topic-count-requires : tie.Need-topic-count-requires Inv-loop μ-loop
+topic-count-requires c κs = search needs
 
 mul-width : tie.Need-mul-width Inv-loop μ-loop
 mul-width c = search needs
@@ -113,7 +113,7 @@ find-topic-spec =
     (tie.spec
     Inv-loop
     μ-loop
-    word-requires
+    topic-count-requires
     mul-width
     add-width
     loop-holds

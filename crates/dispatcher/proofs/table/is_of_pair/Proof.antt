@@ -1,4 +1,4 @@
--- `dispatcher::find::is_of_pair` meets its contract: the two numbers of the dispatcher's pair are tested in order.
+-- `dispatcher::table::is_of_pair` meets its contract: the two numbers of the dispatcher's pair are tested in order.
 use mathlib.Core.Path.{sym, ap, _∙_}
 use Prim.Native.Nat.{ℕ}
 use native.Mathlib.Omega.{arith}
@@ -10,10 +10,10 @@ use Rattle.layout.proofs.GetsDispatcher.{read-dispatcher-topic, read-dispatcher
 use Rattle.store.proofs.Inside.{dispatcher-inside}
 use Rattle.store.proofs.Tests.{fails, passes}
 use borrow.Author.Needs.{needs}
-use Rattle.dispatcher.proofs.find.is_of_pair.Statement.{statement}
-use Rattle.dispatcher.proofs.find.is_of_pair.Tie as tie
-use Rattle.dispatcher.proofs.find.is_of_pair.Reads as reads
-use Rattle.dispatcher.proofs.find.is_of_pair.Lts as lts
+use Rattle.dispatcher.proofs.table.is_of_pair.Statement.{statement}
+use Rattle.dispatcher.proofs.table.is_of_pair.Tie as tie
+use Rattle.dispatcher.proofs.table.is_of_pair.Reads as reads
+use Rattle.dispatcher.proofs.table.is_of_pair.Lts as lts
 
 -- the places: what stands before each, by name
 abbrev entry-before-shared-slice-known2 : tie.After-shared-slice-known2 → tie.Start

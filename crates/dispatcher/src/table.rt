@@ -1,5 +1,5 @@
-// The dispatcher of a pair: its slot, and whether an id is in its ring. A slot equal to the number of dispatchers
-// means that there is none.
+// The table of dispatchers: their number, the one of a pair, whether an id is in a pair's ring. A slot equal to their
+// number means that there is none.
 use store::offsets::DISPATCHER_COUNT_AT;
 use store::offsets::DISPATCHER_WORDS;
 use store::offsets::DISPATCHER_WORDS_E;
@@ -18,8 +18,16 @@ ghost use Rattle.layout.specs.Canon.{Canon-store};
 ghost use Rattle.layout.specs.Fields.{pair-of, dispatcher-now};
 ghost use Rattle.store.specs.Find.{slot};
 
+// The number of dispatchers.
+pub fn dispatcher_count(store: &[u64], e: usize) -> usize
+    requires { ⌜ Canon-store e (now store) ⌝ }
+    ensures { λ r. ⌜ r ≡ length (decode (now (store .entry)) .dispatchers) ⌝ }
+{
+    word(store, DISPATCHER_COUNT_AT + DISPATCHERS_AT_E * e)
+}
+
 // Whether a dispatcher is the one of a pair.
-fn is_of_pair(store: &[u64], e: usize, d: usize, topic: u64, subscription: u64) -> bool
+pub fn is_of_pair(store: &[u64], e: usize, d: usize, topic: u64, subscription: u64) -> bool
     requires { ⌜ Canon-store e (now store) × (d < length (decode (now store) .dispatchers)) ⌝ }
     ensures { λ r. ⌜ r ≡ same-pair (pair-of topic subscription) (dispatcher-now (now (store .entry)) d .pair) ⌝ }
 {
@@ -37,7 +45,7 @@ pub fn find_dispatcher(store: &[u64], e: usize, topic: u64, subscription: u64) -
     requires { ⌜ Canon-store e (now store) ⌝ }
     ensures { λ r. ⌜ r ≡ slot by-pair (pair-of topic subscription) (decode (now (store .entry)) .dispatchers) ⌝ }
 {
-    let n = word(store, DISPATCHER_COUNT_AT + DISPATCHERS_AT_E * e);
+    let n = dispatcher_count(store, e);
     let mut d = 0;
     while d < n {
         if is_of_pair(store, e, d, topic, subscription) {
@@ -71,7 +79,7 @@ pub fn in_ring(store: &[u64], e: usize, topic: u64, subscription: u64, id: u64) 
     ensures { λ r. ⌜ r ≡ member id (dispatcher (decode (now (store .entry))) (pair-of topic subscription) .attached) ⌝ }
 {
     let d = find_dispatcher(store, e, topic, subscription);
-    if d < word(store, DISPATCHER_COUNT_AT + DISPATCHERS_AT_E * e) {
+    if d < dispatcher_count(store, e) {
         ring_holds(store, e, d, id)
     } else {
         false

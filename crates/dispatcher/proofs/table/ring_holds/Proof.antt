@@ -1,4 +1,4 @@
--- `dispatcher::find::ring_holds` meets its contract: the ring is looked at id by id. The loop's invariant: none before j is the id.
+-- `dispatcher::table::ring_holds` meets its contract: the ring is looked at id by id. The loop's invariant: none before j is the id.
 use mathlib.Core.Path.{_≡_, sym, ap, _∙_}
 use mathlib.Core.Bool.{not}
 use mathlib.Core.List.{List}
@@ -15,10 +15,10 @@ use Rattle.layout.specs.Offsets.{dispatcher-at}
 use Rattle.layout.proofs.GetsDispatcher.{dispatcher-short, read-ring-count, read-ring}
 use Rattle.store.proofs.Inside.{dispatcher-inside}
 use Rattle.store.proofs.Prefixes.{Passed, none-steps, passed-start, passed-stop, passed-turn, passed-end}
-use Rattle.dispatcher.proofs.find.ring_holds.Statement.{statement}
-use Rattle.dispatcher.proofs.find.ring_holds.Tie as tie
-use Rattle.dispatcher.proofs.find.ring_holds.Reads as reads
-use Rattle.dispatcher.proofs.find.ring_holds.Lts as lts
+use Rattle.dispatcher.proofs.table.ring_holds.Statement.{statement}
+use Rattle.dispatcher.proofs.table.ring_holds.Tie as tie
+use Rattle.dispatcher.proofs.table.ring_holds.Reads as reads
+use Rattle.dispatcher.proofs.table.ring_holds.Lts as lts
 use Rattle.store.proofs.stretch.word.Reads as word-reads
 
 abbrev Inv-loop : tie.InvT-loop

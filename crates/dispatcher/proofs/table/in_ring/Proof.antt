@@ -1,4 +1,4 @@
--- `dispatcher::find::in_ring` meets its contract: the ring of the pair's slot is asked, or there is none.
+-- `dispatcher::table::in_ring` meets its contract: the ring of the pair's slot is asked, or there is none.
 use mathlib.Core.Path.{_≡_, sym, ap, _∙_}
 use mathlib.Core.List.{List}
 use Prim.Native.Nat.{ℕ, _≤_, _<_}
@@ -8,17 +8,16 @@ use Rattle.rules.specs.Table.{any, member}
 use Rattle.rules.specs.State.{Pair, Dispatcher, by-pair}
 use Rattle.layout.specs.Layout.{decode}
 use Rattle.layout.specs.Fields.{dispatcher-nth}
-use Rattle.layout.proofs.Gets.{read-dispatcher-count}
 use Rattle.store.specs.Find.{slot}
 use Rattle.dispatcher.proofs.Rings.{dispatcher-is, ring-none}
 use borrow.Author.Needs.{needs}
-use Rattle.dispatcher.proofs.find.in_ring.Statement.{statement}
-use Rattle.dispatcher.proofs.find.in_ring.Tie as tie
-use Rattle.dispatcher.proofs.find.in_ring.Reads as reads
-use Rattle.dispatcher.proofs.find.in_ring.Lts as lts
-use Rattle.dispatcher.proofs.find.find_dispatcher.Reads as find-dispatcher-reads
-use Rattle.dispatcher.proofs.find.ring_holds.Reads as ring-holds-reads
-use Rattle.store.proofs.stretch.word.Reads as word-reads
+use Rattle.dispatcher.proofs.table.in_ring.Statement.{statement}
+use Rattle.dispatcher.proofs.table.in_ring.Tie as tie
+use Rattle.dispatcher.proofs.table.in_ring.Reads as reads
+use Rattle.dispatcher.proofs.table.in_ring.Lts as lts
+use Rattle.dispatcher.proofs.table.find_dispatcher.Reads as find-dispatcher-reads
+use Rattle.dispatcher.proofs.table.ring_holds.Reads as ring-holds-reads
+use Rattle.dispatcher.proofs.table.dispatcher_count.Reads as dispatcher-count-reads
 
 -- the places: what stands before each, by name
 abbrev entry-before-then1 : tie.Then1 → tie.Start
@@ -39,19 +38,13 @@ wanted c = record { topic = c .args .topic; subscription = c .args .subscription
 
 -- the slot that was found lies in the table
 here : (c : tie.Then1) → c .before .before .find-dispatcher .result < length (decode (entry-before-then1 c .args .store .now) .dispatchers)
-here c = let e = c .before .word .ensures ∙ read-dispatcher-count (entry-before-then1 c .pre) in let t = c .if1 .taken in omega arith
+here c = let e = c .before .dispatcher-count .ensures in let t = c .if1 .taken in omega arith
 
 find-dispatcher-requires : tie.Need-find-dispatcher-requires
 find-dispatcher-requires c κs = search needs
 
-mul-word : tie.Need-mul-word
-mul-word c = search needs
-
-add-word : tie.Need-add-word
-add-word c = search needs
-
-word-requires : tie.Need-word-requires
-word-requires c κs = search needs
+dispatcher-count-requires : tie.Need-dispatcher-count-requires
+dispatcher-count-requires c κs = search needs
 
 ring-holds-requires : tie.Need-ring-holds-requires
 ring-holds-requires c κs = let k = here c in search needs
@@ -72,7 +65,7 @@ returns-2 c =
     let s = decode (entry-before-else1 c .args .store .now) in
     let p : Pair = wanted (entry-before-else1 c) in
     let e : c .before .before .find-dispatcher .result ≡ slot by-pair p (s .dispatchers) = c .before .before .find-dispatcher .ensures in
-    let n = c .before .word .ensures ∙ read-dispatcher-count (entry-before-else1 c .pre) in
+    let n = c .before .dispatcher-count .ensures in
     let h : length (s .dispatchers) ≤ slot by-pair p (s .dispatchers) = omega (arith, c .if1 .left) in
     sym (ap (λ (l : List ℕ). member (entry-before-else1 c .args .id) l) (ring-none s p h))
 
@@ -81,9 +74,7 @@ in-ring-spec =
     tie.close
     (tie.spec
     find-dispatcher-requires
-    mul-word
-    add-word
-    word-requires
+    dispatcher-count-requires
     ring-holds-requires
     returns
     returns-2)

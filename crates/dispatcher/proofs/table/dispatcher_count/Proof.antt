@@ -1,9 +1,9 @@
--- `dispatcher::make::dispatcher_count` meets its contract: the word at its offset.
+-- `dispatcher::table::dispatcher_count` meets its contract: the word at its offset.
 use mathlib.Core.Path.{_∙_}
 use Rattle.layout.proofs.Gets.{read-dispatcher-count}
 use borrow.Author.Needs.{needs}
-use Rattle.dispatcher.proofs.make.dispatcher_count.Statement.{statement}
-use Rattle.dispatcher.proofs.make.dispatcher_count.Tie as tie
+use Rattle.dispatcher.proofs.table.dispatcher_count.Statement.{statement}
+use Rattle.dispatcher.proofs.table.dispatcher_count.Tie as tie
 
 mul-word : tie.Need-mul-word
 mul-word c = search needs
