@@ -3,12 +3,10 @@ use balance::balance_check;
 use cases_show::show_balance;
 use cases_show::show_count;
 use check_state::spells;
+use dispatcher::table::dispatcher_count;
 use dispatcher::total::total_available_permits;
 use libc::STDOUT_FILENO;
 use store::answers::entries;
-use store::offsets::DISPATCHER_COUNT_AT;
-use store::offsets::DISPATCHERS_AT_E;
-use store::stretch::word;
 ghost use mathlib.Core.Path.{_≡_};
 ghost use mathlib.Core.Bool.{true};
 ghost use Rattle.layout.specs.Layout as layout;
@@ -28,7 +26,7 @@ pub(crate) fn show_balances(store: &[u64]) {
 fn show_each(store: &[u64], e: usize)
     requires { ⌜ Canon-store e (now store) × (layout.spells (now store) ≡ true) ⌝ }
 {
-    let n = word(store, DISPATCHER_COUNT_AT + DISPATCHERS_AT_E * e);
+    let n = dispatcher_count(store, e);
     show_count(n as u64);
     let mut d = 0;
     while d < n {

@@ -1,12 +1,11 @@
 -- Each dispatcher's slot lies in the table.
-use mathlib.Core.Path.{_≡_, _∙_}
+use mathlib.Core.Path.{_≡_}
 use Prim.Native.Nat.{_-_, _≤_}
 use native.Mathlib.Omega.{arith}
 use lib.ListN.{length}
 use borrow.Author.Needs.{needs}
 use Rattle.layout.specs.Layout.{decode}
 use Rattle.layout.specs.Placed.{Dispatcher-in}
-use Rattle.layout.proofs.Gets.{read-dispatcher-count}
 use Rattle.layout.proofs.Placed.{dispatcher-in}
 use Rattle.cases.proofs.balances.show_each.Statement.{statement}
 use Rattle.cases.proofs.balances.show_each.Tie as tie
@@ -18,27 +17,21 @@ abbrev μ-loop : tie.MeasureT-loop
 μ-loop store e n d₀ d = n - d
 
 -- the places: what stands before each, by name
-abbrev word-before-in-loop : tie.In-loop Inv-loop μ-loop → tie.After-word Inv-loop μ-loop
-word-before-in-loop c = c .before .before .before
+abbrev dispatcher-count-before-in-loop : tie.In-loop Inv-loop μ-loop → tie.After-dispatcher-count Inv-loop μ-loop
+dispatcher-count-before-in-loop c = c .before .before .before
 
 abbrev entry-before-in-loop : tie.In-loop Inv-loop μ-loop → tie.Start Inv-loop μ-loop
-entry-before-in-loop c = word-before-in-loop c .before .before
+entry-before-in-loop c = dispatcher-count-before-in-loop c .before .before
 
 -- the slot of a turn lies in the table
 here : (c : tie.In-loop Inv-loop μ-loop) → Dispatcher-in (entry-before-in-loop c .args .e) (entry-before-in-loop c .args .store .now) (c .before .loop .d)
 here c =
     let p = entry-before-in-loop c .pre in
-    let n : word-before-in-loop c .word .result ≡ length (decode (entry-before-in-loop c .args .store .now) .dispatchers) = word-before-in-loop c .word .ensures ∙ read-dispatcher-count (p .0) in
+    let n : dispatcher-count-before-in-loop c .dispatcher-count .result ≡ length (decode (entry-before-in-loop c .args .store .now) .dispatchers) = dispatcher-count-before-in-loop c .dispatcher-count .ensures in
     dispatcher-in (p .0) (c .before .loop .d) (omega arith)
 
-mul-word : tie.Need-mul-word Inv-loop μ-loop
-mul-word c = let l = c .before .pre .0 .long in omega arith
-
-add-word : tie.Need-add-word Inv-loop μ-loop
-add-word c = let l = c .before .pre .0 .long in omega arith
-
-word-requires : tie.Need-word-requires Inv-loop μ-loop
-word-requires c κs = let l = c .before .pre .0 .long in omega arith
+dispatcher-count-requires : tie.Need-dispatcher-count-requires Inv-loop μ-loop
+dispatcher-count-requires c κs = c .before .pre .0
 
 show-count-requires : tie.Need-show-count-requires Inv-loop μ-loop
 show-count-requires c κs = search needs
@@ -73,9 +66,7 @@ show-each-spec =
     (tie.spec
     Inv-loop
     μ-loop
-    mul-word
-    add-word
-    word-requires
+    dispatcher-count-requires
     show-count-requires
     loop-holds
     balance-check-requires
