@@ -1,4 +1,4 @@
--- A row sought slot by slot: what the loops of `find.rt` turn on, for any table, and what the slot says of the row.
+-- A row sought slot by slot: what the loops that look for one turn on, for any table, and what the slot says of the row.
 use mathlib.Core.Path.{_≡_, refl, sym, ap, _∙_}
 use mathlib.Core.Bool.{Bool, true, false, cond}
 use mathlib.Core.List.{List, [], _∷_}
