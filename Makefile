@@ -1,7 +1,8 @@
 # The two commands: `make run` (the main job) and `make test` (the gate); `make faults` runs the library
 # for C at its limits and on damaged words alone, `make examples` its callers, `make bench` times its
-# calls, `make edits` reads what a gate run said of the must-fail edits, `make install` puts it in place.
-.PHONY: run test faults examples bench edits install
+# calls, `make edits` reads what a gate run said of the must-fail edits, `make runs` is the gate without its
+# proofs, `make install` puts it in place.
+.PHONY: run test runs faults examples bench edits install
 
 LIBRARY = target/staticlib/libbroker.a
 
@@ -44,18 +45,23 @@ run:
 	$(build-terminal)
 	target/terminal
 
-# The layout of the sources, the rooms as they are drawn, the library for C, the runs of it and of broker.rs,
-# its limits and faults, its examples, the check on changed words, then the proofs from nothing with the
-# must-fail edits. rt ci comes last, so that its verdict is the last line.
+# The layout of the sources, the rooms as they are drawn, the proofs from nothing with the must-fail edits, then
+# what runs the library. The proofs come before it, so that it is built from what they leave; their verdict is
+# said again at the end, as the last line.
 test:
 	rt fmt --check
 	tests/rooms
+	@work=$$(mktemp -d); trap 'rm -rf "$$work"' EXIT; \
+	{ rt ci || touch "$$work/failed"; } | tee "$$work/said"; \
+	[ ! -e "$$work/failed" ] && $(MAKE) --no-print-directory runs && tail -n 1 "$$work/said"
+
+# The library for C, the runs of it and of broker.rs, its limits and faults, its examples, the check on changed words.
+runs:
 	rt staticlib broker
 	LIBBROKER=$(LIBRARY) CALLS=$(CALLS) reference/check
 	$(run-faults)
 	$(run-examples)
 	fuzz/run fuzz 1
-	rt ci
 
 # The library for C at its limits and one past them, with lists and stores of every wrong shape.
 faults:
