@@ -1,12 +1,12 @@
 -- Laws of a ledger: positions of ids, and what an append changes.
 use Prim.Native.Nat.{ℕ, suc, _+_, _≤_, _<_}
-use mathlib.Core.Path.{_≡_, sym, ap, _∙_, subst}
-use mathlib.Core.Bool.{true}
+use mathlib.Core.Path.{_≡_, refl, sym, ap, _∙_, subst}
+use mathlib.Core.Bool.{true, cond}
 use mathlib.Core.List.{List, [], _∷_, _++_}
 use native.Mathlib.Omega.{arith}
 use lib.ListN.{length, List·getD-eq-default}
 use Rattle.rules.specs.State.{Id, same-id, StoredMessage}
-use Rattle.rules.specs.Ledger.{position-of, no-message, message-at, batch-size-of}
+use Rattle.rules.specs.Ledger.{position-of, no-message, message-at, batch-size-of, at-or-after, first-at-or-after, seek-position}
 use Rattle.rules.proofs.Table.{by-test}
 use Rattle.rules.proofs.State.{decides-ids}
 
@@ -52,3 +52,25 @@ position-same i j l h e =
     let k : Id = message-at l (position-of j l) .id in
     decides-ids .equal i k (subst (λ (n : ℕ). same-id i (message-at l n .id) ≡ true) e (position-id i l h))
     ∙ sym (decides-ids .equal j k (position-id j l (omega arith)))
+
+-- ---- the position that a seek finds
+
+-- counted from one more, it is one more
+first-suc : (i : Id) (k : ℕ) (l : List StoredMessage) → first-at-or-after i (suc k) l ≡ suc (first-at-or-after i k l)
+unfolding first-at-or-after
+first-suc i k [] = refl
+first-suc i k (m ∷ l) = by-test (at-or-after (m .id) i) (λ t. rw t) (λ t. rw t (first-suc i (suc k) l))
+
+-- entry by entry
+pub seek-position-cons : (i : Id) (m : StoredMessage) (l : List StoredMessage)
+    → seek-position i (m ∷ l) ≡ cond (at-or-after (m .id) i) 0 (suc (seek-position i l))
+unfolding seek-position first-at-or-after
+seek-position-cons i m l = rw (first-suc i 0 l)
+
+-- it is the length at most
+pub seek-position-le : (i : Id) (l : List StoredMessage) → seek-position i l ≤ length l
+unfolding seek-position first-at-or-after
+seek-position-le i [] = omega arith
+seek-position-le i (m ∷ l) =
+    let h = seek-position-le i l in
+    rw (seek-position-cons i m l) (by-test (at-or-after (m .id) i) (λ t. rw t (omega arith)) (λ t. rw t (omega arith)))

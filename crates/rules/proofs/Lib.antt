@@ -7,6 +7,8 @@ pub mod Table
 pub mod State
 pub mod Ids
 pub mod Ledger
+pub mod Appended
 pub mod Demand
 pub mod Kept
+pub mod Readers
 pub mod Answers

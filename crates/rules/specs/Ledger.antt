@@ -40,12 +40,12 @@ unfoldable pub insert-id : Id → List Id → List Id
 insert-id i [] = i ∷ []
 insert-id i (j ∷ l) = cond (after-id j i) (i ∷ j ∷ l) (j ∷ insert-id i l)
 
--- the first position, in append order, whose id is at or after an id, counted from k; else 0
+-- the first position, in append order, whose id is at or after an id, counted from k; the end where there is none
 unfoldable pub first-at-or-after : Id → ℕ → List StoredMessage → ℕ
-first-at-or-after i k [] = 0
+first-at-or-after i k [] = k
 first-at-or-after i k (m ∷ l) = cond (at-or-after (m .id) i) k (first-at-or-after i (suc k) l)
 
--- the position that a seek by id finds
+-- the position that a seek by id finds; the ledger's length where no entry is at or after the id
 unfoldable pub seek-position : Id → List StoredMessage → ℕ
 seek-position i l = first-at-or-after i 0 l
 

@@ -11,5 +11,6 @@ pub mod Push
 pub mod Calls
 pub mod Book
 pub mod Demand
+pub mod Readers
 pub mod Readings
 pub mod Histories

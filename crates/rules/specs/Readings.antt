@@ -127,11 +127,11 @@ readings =
     ∷ row (ring-1 (after false false (shared-1 7 ∷ shared-1 8 ∷ Flow 7 1 ∷ Flow 8 1 ∷ Push 0 ∷ []))) (pos 1 ∷ pos 2 ∷ [])
     ∷ row (then (shared-1 7 ∷ shared-1 8 ∷ Flow 7 1 ∷ Flow 8 1 ∷ Push 0 ∷ append-1 1 0 0 ∷ []) (Push 1))
     (pos 0 ∷ pos 1 ∷ pos 8 ∷ pos 1 ∷ pos 0 ∷ pos 0 ∷ pos 1 ∷ pos 0 ∷ [])
-    -- K9 ids (1,0), (1,3): seek (1,2) gives 1, (1,5) gives 0
+    -- K9 ids (1,0), (1,3): seek (1,2) gives 1, (1,5) gives 2 (request A1)
     ∷ row (then (append-1 1 0 0 ∷ append-1 1 3 0 ∷ Subscribe 7 plain pair-1 ∷ []) (Seek 7 (to-id (record { ledger = 1; entry = 2 }))))
     (pos 0 ∷ pos 1 ∷ [])
     ∷ row (then (append-1 1 0 0 ∷ append-1 1 3 0 ∷ Subscribe 7 plain pair-1 ∷ []) (Seek 7 (to-id (record { ledger = 1; entry = 5 }))))
-    (pos 0 ∷ pos 0 ∷ [])
+    (pos 0 ∷ pos 2 ∷ [])
     -- K10 7 holds, 8 acks, 7 closes: the next push sends it to 8, whose balance is above 0
     ∷ row (then (append-1 1 0 0 ∷ shared-1 7 ∷ shared-1 8 ∷ Flow 7 1 ∷ Push 1 ∷ Flow 8 2 ∷ Ack 8 (1 ∷ 0 ∷ 0 ∷ []) ∷ Close 7 ∷ [])
     (Push 1))

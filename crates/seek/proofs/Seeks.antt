@@ -45,7 +45,7 @@ position-there s t topic k i e h p =
     let m : ledger-of s topic ≡ topic-nth s t .messages = rw e (ledger-at s topic (rw e at h)) in
     p ∙ ap (λ (l : List StoredMessage). seek-position i l) (sym m)
 
--- there is none in a ledger that does not exist
+-- in a ledger that does not exist it is the length, 0
 pub position-none : (s : State) (t topic : ℕ) (i : Id) → t ≡ slot by-number topic (s .topics) → length (s .topics) ≤ t → 0 ≡ seek-position i (ledger-of s topic)
 unfolding seek-position first-at-or-after
 position-none s t topic i e h = rw (ledger-none s topic (rw e at h))

@@ -65,7 +65,7 @@ fn target_position(store: &[u64], e: usize, topic: u64, target: Target) -> usize
     }
 }
 
-// The first position in the ledger of a topic at or after an id, else 0.
+// The first position in the ledger of a topic at or after an id, else its length: 0 where the topic does not exist.
 fn seek_position(store: &[u64], e: usize, topic: u64, ledger: u64, entry: u64) -> usize
     requires { ⌜ Canon-store e (now store) ⌝ }
     ensures { λ r. ⌜ r ≡ seek-position (id-of ledger entry) (ledger-of (decode (now (store .entry))) topic) ⌝ }

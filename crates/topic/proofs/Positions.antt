@@ -1,18 +1,16 @@
 -- A message sought position by position: what the loops of `find.rt` turn on.
-use mathlib.Core.Path.{_≡_, refl, sym, ap₂, _∙_}
-use mathlib.Core.Bool.{true, false, cond}
+use mathlib.Core.Path.{_≡_, refl, ap₂, _∙_}
 use mathlib.Core.List.{List, [], _∷_}
-use Prim.Native.Nat.{ℕ, suc, _+_, _*_, _≤_, _<_}
-use native.Mathlib.Numerals.{add-one}
+use Prim.Native.Nat.{ℕ, suc, _+_, _*_, _<_}
 use native.Mathlib.Omega.{arith}
 use lib.Dec.{leb, ltb}
-use lib.ListN.{length, getD, set, drop, drop-of-length-le}
-use lib.Seq.{drop-cons}
+use lib.ListN.{length, getD, set}
 use borrow.Author.Tests.{eq-eqb, ne-eqb, le-ltb}
 use Rattle.rules.specs.Table.{Key}
 use Rattle.rules.specs.State.{Id, same-id, StoredMessage}
 use Rattle.rules.specs.Ledger.{position-of, at-or-after, first-at-or-after, seek-position, appended, no-message, message-at}
 use Rattle.rules.proofs.Table.{by-test}
+use Rattle.rules.proofs.Ledger.{seek-position-cons}
 use Rattle.words.specs.Act.{lay}
 use Rattle.layout.specs.Layout.{decode, put}
 use Rattle.layout.specs.Offsets.{topic-at, message-in}
@@ -33,32 +31,15 @@ unfolding position-of slot
 position-slot i [] = refl
 position-slot i (m ∷ l) = rw (position-slot i l)
 
-module _ (i : Id) (l : List StoredMessage) where
-  -- what is found among the messages from k on is what is found among all
-  abbrev pub Seeking : ℕ → Type 0
-  Seeking k = first-at-or-after i k (drop k l) ≡ seek-position i l
+-- and by ids that they are at or after
+abbrev pub by-later-id : Key StoredMessage Id
+by-later-id = record { key = λ m. m .id; same = λ i j. at-or-after j i }
 
-  pub seek-start : Seeking 0
-  unfolding seek-position
-  seek-start = refl
-
-  step : (k : ℕ) → k < length l
-      → first-at-or-after i k (drop k l) ≡ cond (at-or-after (getD l k no-message .id) i) k (first-at-or-after i (k + 1) (drop (k + 1) l))
-  unfolding first-at-or-after
-  step k h = rw (add-one k, drop-cons l k no-message h)
-
-  -- the message at k is the one
-  pub seek-here : (k : ℕ) → k < length l → Seeking k → at-or-after (getD l k no-message .id) i ≡ true → k ≡ seek-position i l
-  seek-here k h s t = sym (step k h ∙ rw t) ∙ s
-
-  -- it is not
-  pub seek-on : (k : ℕ) → k < length l → Seeking k → at-or-after (getD l k no-message .id) i ≡ false → Seeking (k + 1)
-  seek-on k h s t = sym (step k h ∙ rw t) ∙ s
-
-  -- no message is left
-  pub seek-end : (k : ℕ) → length l ≤ k → Seeking k → 0 ≡ seek-position i l
-  unfolding first-at-or-after
-  seek-end k h s = rw (drop-of-length-le l h) at s
+-- the position that a seek finds is that slot
+pub seek-slot : (i : Id) (l : List StoredMessage) → seek-position i l ≡ slot by-later-id i l
+unfolding seek-position first-at-or-after slot
+seek-slot i [] = refl
+seek-slot i (m ∷ l) = seek-position-cons i m l ∙ rw (seek-slot i l)
 
 -- ---- one comparison
 

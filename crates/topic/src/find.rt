@@ -55,7 +55,8 @@ pub fn position_of(store: &[u64], e: usize, t: usize, ledger: u64, entry: u64) -
     k
 }
 
-// The first position in the ledger of topic `t` whose id is (`ledger`, `entry`) or greater, else 0.
+// The first position in the ledger of topic `t` whose id is (`ledger`, `entry`) or greater; the number of messages
+// where there is none.
 pub fn first_at_or_after(store: &[u64], e: usize, t: usize, ledger: u64, entry: u64) -> usize
     requires { ⌜ Topic-in e (now store) t ⌝ }
     ensures { λ r. ⌜ r ≡ seek-position (id-of ledger entry) (topic-now (now (store .entry)) t .messages) ⌝ }
@@ -69,5 +70,5 @@ pub fn first_at_or_after(store: &[u64], e: usize, t: usize, ledger: u64, entry: 
         }
         k += 1;
     }
-    0
+    n
 }

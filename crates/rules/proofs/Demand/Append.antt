@@ -3,23 +3,24 @@
 use Prim.Native.Nat.{ℕ, suc, _+_, _<_, _≤_}
 use mathlib.Core.Path.{_≡_, refl, sym, ap, _∙_, subst}
 use mathlib.Core.Bool.{Bool, true, false, cond, not}
-use mathlib.Core.List.{List, [], _∷_, _++_, map}
+use mathlib.Core.List.{List, [], _∷_, _++_}
 use mathlib.Core.Option.{Option, none, some, Option·map}
 use native.Mathlib.Omega.{arith}
 use lib.Dec.{eqb, ltb}
 use lib.ListN.{length, getD, length-append, replicate-append-replicate, List·getD-append, List·getD-eq-default}
 use lib.Seq.{getD-at}
 use borrow.Author.Tests.{eqb-true, eqb-false, ltb-true, ltb-false, lt-ltb, le-ltb}
-use Rattle.rules.specs.Table.{find, put, keep, any, or-else}
-use Rattle.rules.specs.State.{Id, same-id, StoredMessage, Pair, Acked, Mark, Held, Dispatcher, State, completed, unacknowledged, new-mark, new-dispatcher, by-number, by-pair, topic-of, consumer-of, dispatcher-of, ledger-of, dispatcher, with-topics, with-dispatchers}
-use Rattle.rules.specs.Ledger.{position-of, holds-id, no-message, message-at, appended}
+use Rattle.rules.specs.Table.{find, keep, any, or-else}
+use Rattle.rules.specs.State.{Id, same-id, StoredMessage, Pair, Acked, Mark, Held, Dispatcher, State, completed, unacknowledged, new-mark, new-dispatcher, by-pair, consumer-of, dispatcher-of, ledger-of, dispatcher, with-topics, with-dispatchers}
+use Rattle.rules.specs.Ledger.{position-of, holds-id, no-message, message-at}
 use Rattle.rules.specs.Dispatcher.{with-marks, is-outside}
 use Rattle.rules.specs.Commands.{with-new-entry, append}
 use Rattle.rules.specs.Calls.Call.{Append}
 use Rattle.rules.specs.Book.{Book, updated, with-list, enter-done, records-of}
-use Rattle.rules.proofs.Table.{by-test, decides-numbers, turned-round, same-comm, find-put, find-map, keys-map, once-map, any-keep}
+use Rattle.rules.proofs.Table.{by-test, decides-numbers, turned-round, same-comm, find-map, keys-map, once-map, any-keep}
 use Rattle.rules.proofs.State.{decides-ids, dispatcher-pair}
 use Rattle.rules.proofs.Ledger.{position-kept, position-past}
+use Rattle.rules.proofs.Appended.{entry-added, ledger-after, entry-pair}
 use Rattle.rules.proofs.Demand.Invariant.{acked-by, Marks-agree, Placed, Fits, Invariant}
 use Rattle.rules.proofs.Demand.Outcomes.{Keeps, keeps-guard}
 
@@ -33,63 +34,44 @@ grown i d =
     (keep (λ (j : Id). not (same-id i j)) (d .outside))
 
 module _ (s : State) (topic : ℕ) (m : StoredMessage) where
-  -- the state after an append
-  abbrev after-append : State
-  after-append =
-      with-dispatchers
-      (with-topics s (put by-number (appended m (record { number = topic; messages = ledger-of s topic })) (s .topics)))
-      (map (with-new-entry topic (m .id)) (s .dispatchers))
-
-  -- the ledgers after it
-  ledger-after : (n : ℕ) → ledger-of after-append n ≡ cond (eqb n topic) (ledger-of s topic ++ m ∷ []) (ledger-of s n)
-  unfolding ledger-of topic-of with-dispatchers with-topics or-else appended
-  ledger-after n =
-      rw (find-put by-number decides-numbers n (appended m (record { number = topic; messages = ledger-of s topic })) (s .topics))
-      (by-test (eqb n topic) (λ t. rw t) (λ t. rw t))
-
-  -- a new entry keeps the pair
-  entry-pair : (d : Dispatcher) → with-new-entry topic (m .id) d .pair ≡ d .pair
-  unfolding with-new-entry with-marks
-  entry-pair d = by-test (eqb topic (d .pair .topic)) (λ t. rw t) (λ t. rw t)
-
   -- a pair with no dispatcher, over the ledger that grew
-  new-after : (p : Pair) → new-dispatcher p (length (ledger-of after-append (p .topic))) ≡ with-new-entry topic (m .id)
+  new-after : (p : Pair) → new-dispatcher p (length (ledger-of (entry-added s topic m) (p .topic))) ≡ with-new-entry topic (m .id)
       (new-dispatcher p (length (ledger-of s (p .topic))))
   unfolding with-new-entry with-marks new-dispatcher is-outside any keep
   new-after p =
       by-test (eqb (p .topic) topic)
       (λ t.
-      let f : ledger-of after-append (p .topic) ≡ ledger-of s topic ++ m ∷ [] = ledger-after (p .topic) ∙ rw t in
-      let e : length (ledger-of after-append (p .topic)) ≡ length (ledger-of s (p .topic)) + 1 =
+      let f : ledger-of (entry-added s topic m) (p .topic) ≡ ledger-of s topic ++ m ∷ [] = ledger-after s topic m (p .topic) ∙ rw t in
+      let e : length (ledger-of (entry-added s topic m) (p .topic)) ≡ length (ledger-of s (p .topic)) + 1 =
       ap length f ∙ length-append (ledger-of s topic) (m ∷ []) ∙ ap (λ (n : ℕ). length (ledger-of s n) + 1) (sym (eqb-true (p .topic) topic t)) in
       rw (same-comm decides-numbers topic (p .topic), t, e, ← (replicate-append-replicate (length (ledger-of s (p .topic))) 1 new-mark)))
-      (λ t. rw (same-comm decides-numbers topic (p .topic), t, ledger-after (p .topic), t))
+      (λ t. rw (same-comm decides-numbers topic (p .topic), t, ledger-after s topic m (p .topic), t))
 
   -- the dispatchers after it
-  dispatcher-after : (p : Pair) → dispatcher after-append p ≡ with-new-entry topic (m .id) (dispatcher s p)
+  dispatcher-after : (p : Pair) → dispatcher (entry-added s topic m) p ≡ with-new-entry topic (m .id) (dispatcher s p)
   unfolding dispatcher dispatcher-of with-dispatchers or-else
-  dispatcher-after p = rw (find-map by-pair (with-new-entry topic (m .id)) entry-pair p (s .dispatchers)) (go (find by-pair p (s .dispatchers)))
+  dispatcher-after p = rw (find-map by-pair (with-new-entry topic (m .id)) (entry-pair s topic m) p (s .dispatchers)) (go (find by-pair p (s .dispatchers)))
     where
       go : (o : Option Dispatcher) → or-else (Option·map (with-new-entry topic (m .id)) o)
-          (new-dispatcher p (length (ledger-of after-append (p .topic))))
+          (new-dispatcher p (length (ledger-of (entry-added s topic m) (p .topic))))
           ≡ with-new-entry topic (m .id) (or-else o (new-dispatcher p (length (ledger-of s (p .topic)))))
       go none = new-after p
       go (some d) = refl
 
   -- something holds of every ledger if it does of the one that grew and of all before
   each-ledger : (P : List StoredMessage → Type 0) → P (ledger-of s topic ++ m ∷ []) → ((n : ℕ) → P (ledger-of s n)) → (n : ℕ)
-      → P (ledger-of after-append n)
+      → P (ledger-of (entry-added s topic m) n)
   each-ledger P here there n =
-      subst P (sym (ledger-after n)) (by-test (eqb n topic) (λ t. rw t here) (λ t. rw t (there n)))
+      subst P (sym (ledger-after s topic m n)) (by-test (eqb n topic) (λ t. rw t here) (λ t. rw t (there n)))
 
   -- something holds of every pair's ledger and dispatcher if it does of those that grew and of all before
   each-after : (P : Pair → List StoredMessage → Dispatcher → Type 0)
       → ((p : Pair) → p .topic ≡ topic → P p (ledger-of s (p .topic) ++ m ∷ []) (grown (m .id) (dispatcher s p)))
       → ((p : Pair) → P p (ledger-of s (p .topic)) (dispatcher s p)) → (p : Pair)
-      → P p (ledger-of after-append (p .topic)) (dispatcher after-append p)
+      → P p (ledger-of (entry-added s topic m) (p .topic)) (dispatcher (entry-added s topic m) p)
   unfolding with-new-entry
   each-after P here there p =
-      subst (λ (l : List StoredMessage). P p l (dispatcher after-append p)) (sym (ledger-after (p .topic)))
+      subst (λ (l : List StoredMessage). P p l (dispatcher (entry-added s topic m) p)) (sym (ledger-after s topic m (p .topic)))
       (subst (λ (d : Dispatcher). P p (cond (eqb (p .topic) topic) (ledger-of s topic ++ m ∷ []) (ledger-of s (p .topic))) d)
       (sym (dispatcher-after p))
       (subst (λ (t : Bool). P p (cond (eqb (p .topic) topic) (ledger-of s topic ++ m ∷ []) (ledger-of s (p .topic)))
@@ -212,7 +194,7 @@ module _ (l : List StoredMessage) (m : StoredMessage) (out : length l ≤ positi
 module _ (s : State) (b : Book) (h : Invariant s b) (topic : ℕ) (m : StoredMessage)
     (small : m .batch-size ≤ 256) (out : length (ledger-of s topic) ≤ position-of (m .id) (ledger-of s topic)) where
   -- the lists of the book
-  lists-after : (n : ℕ) → updated eqb (b .topics) topic (b .topics topic ++ m ∷ []) n ≡ ledger-of (after-append s topic m) n
+  lists-after : (n : ℕ) → updated eqb (b .topics) topic (b .topics topic ++ m ∷ []) n ≡ ledger-of (entry-added s topic m) n
   unfolding updated
   lists-after n = rw (ledger-after s topic m n, h .lists topic) (by-test (eqb n topic) (λ t. rw t) (λ t. rw t (h .lists n)))
 
@@ -221,7 +203,7 @@ module _ (s : State) (b : Book) (h : Invariant s b) (topic : ℕ) (m : StoredMes
   out-of p e = subst (λ (n : ℕ). length (ledger-of s n) ≤ position-of (m .id) (ledger-of s n)) (sym e) out
 
   -- an append that is done
-  append-done : Invariant (after-append s topic m) (enter-done b (Append topic m) [])
+  append-done : Invariant (entry-added s topic m) (enter-done b (Append topic m) [])
   unfolding enter-done with-list with-dispatchers with-topics consumer-of with-marks is-outside
   append-done = record {
     leak-off = h .leak-off;

@@ -4,10 +4,10 @@ use Prim.Native.Nat.{ℕ, suc, _+_, _-_, _<_, _≤_}
 use mathlib.Core.Path.{_≡_, refl, sym, ap, ap₂, _∙_, subst}
 use mathlib.Core.Bool.{Bool, true, false, cond, not, _||_}
 use mathlib.Core.List.{List, [], _∷_}
-use mathlib.Core.Option.{Option, none, some, Option·none-ne-some, Option·some-injective}
+use mathlib.Core.Option.{Option, none, some, Option·some-injective}
 use native.Mathlib.Omega.{arith}
 use lib.Dec.{ltb}
-use lib.ListN.{length, getD, take, drop}
+use lib.ListN.{length, getD}
 use borrow.Author.Tests.{ltb-true, not-false}
 use Rattle.rules.specs.Permits.{above-zero}
 use Rattle.rules.specs.Table.{count, is-empty}
@@ -16,12 +16,13 @@ use Rattle.rules.specs.State.Kind.{shared}
 use Rattle.rules.specs.Ledger.{position-of, message-at, batch-size-of}
 use Rattle.rules.specs.Dispatcher.{with-next, with-cursor, with-total, with-places, mark-at, dispatch-gate-open, cost}
 use Rattle.rules.specs.Commands.{with-permits}
-use Rattle.rules.specs.Push.{Turn, Choice, choose-ready, first-ready, choose, slot-after, dispatch-of, hand-out, hand-out-next, serve-choice, shared-turn}
+use Rattle.rules.specs.Push.{Turn, Choice, choose, slot-after, dispatch-of, hand-out, hand-out-next, serve-choice, shared-turn}
 use Rattle.rules.specs.Push.Turn.{halt, sent}
 use Rattle.rules.specs.Book.{Book, Who, updated, with-who, with-handed-out, enter-record}
 use Rattle.rules.proofs.Permits.{above-zero-lt}
-use Rattle.rules.proofs.Table.{by-test, never-both, count-append, count-self, count-drop, count-take}
+use Rattle.rules.proofs.Table.{by-test, never-both}
 use Rattle.rules.proofs.State.{decides-pairs, updated-here, updated-elsewhere, consumer-id, dispatcher-pair, dispatcher-here, put-twice}
+use Rattle.rules.proofs.Kept.Choice.{chosen-all}
 use Rattle.rules.proofs.Demand.Invariant.{Placed, Fits-at, Invariant}
 use Rattle.rules.proofs.Demand.Marks.{acked-inside}
 use Rattle.rules.proofs.Demand.Handed.{cost-le, held-now, from-queue, from-ledger}
@@ -184,41 +185,6 @@ module _ (s : State) (b : Book) (h : Invariant s b) (c : Consumer) (e : consumer
           handed-turn k (y .0) next (d .cursor) queue (y .1)
 
 -- ---- the consumer that is chosen
-
--- what holds of a ready consumer and of what follows holds of the choice
-choice-all : (P : Choice → Type 0) (slot : ℕ) (o : Option Consumer) (more : Option Choice)
-    → ((c : Consumer) → o ≡ some c → above-zero (c .permits) ≡ true → P (record { slot = slot; consumer = c }))
-    → ((x : Choice) → more ≡ some x → P x) → (x : Choice) → choose-ready slot o more ≡ some x → P x
-unfolding choose-ready
-choice-all P slot none more f g x e = g x e
-choice-all P slot (some c) more f g x e =
-    by-test (above-zero (c .permits))
-    (λ t. subst P (Option·some-injective (record { slot = slot; consumer = c }) x (rw t at e)) (f c refl t))
-    (λ t. g x (rw t at e))
-
--- what holds of every ready consumer of some ring ids, and of what follows, holds of the first one
-ready-all : (P : Choice → Type 0) (s : State) (slot : ℕ) (ring : List ℕ) (more : Option Choice)
-    → ((i n : ℕ) (c : Consumer) → 0 < count i ring → consumer-of s i ≡ some c → above-zero (c .permits) ≡ true
-    → P (record { slot = n; consumer = c }))
-    → ((x : Choice) → more ≡ some x → P x) → (x : Choice) → first-ready s slot ring more ≡ some x → P x
-unfolding first-ready
-ready-all P s slot [] more f g x e = g x e
-ready-all P s slot (i ∷ ring) more f g x e =
-    choice-all P slot (consumer-of s i) (first-ready s (suc slot) ring more)
-    (λ c y t. f i slot c (omega (arith, count-append i (i ∷ []) ring, count-self i)) y t)
-    (ready-all P s (suc slot) ring more (λ j n c q. f j n c (omega (arith, count-append j (i ∷ []) ring))) g) x e
-
--- and of the first one of the ring, going round
-chosen-all : (P : Choice → Type 0) (s : State) (y : Dispatcher)
-    → ((i n : ℕ) (c : Consumer) → 0 < count i (y .attached) → consumer-of s i ≡ some c → above-zero (c .permits) ≡ true
-    → P (record { slot = n; consumer = c }))
-    → (x : Choice) → choose s y ≡ some x → P x
-unfolding choose
-chosen-all P s y f =
-    ready-all P s (y .next) (drop (y .next) (y .attached)) (first-ready s 0 (take (y .next) (y .attached)) none)
-    (λ i n c q. f i n c (omega (arith, count-drop i (y .next) (y .attached))))
-    (ready-all P s 0 (take (y .next) (y .attached)) none (λ i n c q. f i n c (omega (arith, count-take i (y .next) (y .attached))))
-    (λ x e. absurd (Option·none-ne-some x e)))
 
 -- the turn that serves a consumer chosen at a slot of a pair's ring
 abbrev serves : State → Pair → Choice → Turn

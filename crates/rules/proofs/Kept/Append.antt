@@ -9,8 +9,8 @@ use native.Mathlib.Omega.{arith}
 use lib.Dec.{eqb}
 use lib.ListN.{length, length-append, length-map}
 use borrow.Author.Tests.{eqb-true, eq-eqb, ltb-false, leb-false, le-ltb, not-true}
-use Rattle.rules.specs.Table.{find, put, keep, Every, Distinct, is-some, or-else}
-use Rattle.rules.specs.State.{Id, same-id, StoredMessage, Topic, Pair, same-pair, Dispatcher, State, completed, unacknowledged, new-dispatcher, by-number, by-pair, topic-of, dispatcher-of, ledger-of, dispatcher, with-topics, with-dispatchers}
+use Rattle.rules.specs.Table.{find, keep, Every, Distinct, is-some, or-else}
+use Rattle.rules.specs.State.{Id, same-id, StoredMessage, Topic, same-pair, Dispatcher, State, completed, unacknowledged, by-number, by-pair, topic-of, ledger-of, with-topics, with-dispatchers}
 use Rattle.rules.specs.Ledger.{position-of, holds-id, appended}
 use Rattle.rules.specs.Dispatcher.{with-marks, is-outside}
 use Rattle.rules.specs.Commands.{with-new-entry, append}
@@ -19,8 +19,9 @@ use Rattle.rules.specs.Calls.Call.{Append}
 use Rattle.rules.specs.Valid.{Valid-message, Valid-topic, Valid-mark, Valid-outside, Valid-dispatcher, Sound}
 use Rattle.rules.proofs.Says.{says-and, every-cons}
 use Rattle.rules.proofs.Valid.{says-byte, says-word, says-id}
-use Rattle.rules.proofs.Table.{by-test, decides-numbers, turned-round, find-put, find-map, keys-map, length-keep}
+use Rattle.rules.proofs.Table.{by-test, decides-numbers, turned-round, keys-map, length-keep}
 use Rattle.rules.proofs.State.{decides-ids}
+use Rattle.rules.proofs.Appended.{entry-added, ledger-after, entry-pair, ring-after}
 use Rattle.rules.proofs.Ledger.{position-past}
 use Rattle.rules.proofs.Ids.{ascending-keep-ids}
 use Rattle.rules.proofs.Kept.Every.{every-snoc, kept-was, kept-passes, distinct-snoc, found-in, every-put, length-put, distinct-put}
@@ -61,12 +62,6 @@ still-absent j l m h f =
     let n : length (l ++ m ∷ []) ≡ length l + 1 = length-append l (m ∷ []) in
     le-ltb (position-of j (l ++ m ∷ [])) (length (l ++ m ∷ [])) (omega arith)
 
--- the state that an append leaves
-abbrev pub entry-added : State → ℕ → StoredMessage → State
-entry-added s topic m =
-    with-dispatchers (with-topics s (put by-number (appended m (record { number = topic; messages = ledger-of s topic })) (s .topics)))
-    (map (with-new-entry topic (m .id)) (s .dispatchers))
-
 module _ (s : State) (v : Sound s) (topic : ℕ) (m : StoredMessage) (topic-byte : topic < 256) (message : Valid-message m)
     (new : holds-id (m .id) (ledger-of s topic) ≡ false) (room : is-some (topic-of s topic) ≡ false → length (s .topics) < 8)
     (fewer : length (ledger-of s topic) < s .entries) where
@@ -96,38 +91,13 @@ module _ (s : State) (v : Sound s) (topic : ℕ) (m : StoredMessage) (topic-byte
             (absent (m .id) l (ltb-false (position-of (m .id) l) (length l) new)));
       }
 
-  -- the ledgers after it
-  ledger-after : (n : ℕ) → ledger-of after n ≡ cond (eqb n topic) (ledger-of s topic ++ m ∷ []) (ledger-of s n)
-  unfolding ledger-of topic-of with-dispatchers with-topics or-else appended
-  ledger-after n = rw (find-put by-number decides-numbers n grown-topic (s .topics)) (by-test (eqb n topic) (λ t. rw t) (λ t. rw t))
-
   -- none is shorter
   ledger-longer : (n : ℕ) → length (ledger-of s n) ≤ length (ledger-of after n)
   ledger-longer n =
-      rw (ledger-after n)
+      rw (ledger-after s topic m n)
       (by-test (eqb n topic)
       (λ t. rw (t, eqb-true n topic t, length-append (ledger-of s topic) (m ∷ [])) (omega arith))
       (λ t. rw t (omega arith)))
-
-  -- a dispatcher's pair and ring stay
-  entry-pair : (d : Dispatcher) → with-new-entry topic (m .id) d .pair ≡ d .pair
-  unfolding with-new-entry with-marks
-  entry-pair d = by-test (eqb topic (d .pair .topic)) (λ t. rw t) (λ t. rw t)
-
-  -- so does its ring
-  entry-ring : (d : Dispatcher) → with-new-entry topic (m .id) d .attached ≡ d .attached
-  unfolding with-new-entry with-marks
-  entry-ring d = by-test (eqb topic (d .pair .topic)) (λ t. rw t) (λ t. rw t)
-
-  -- so no ring changes
-  ring-after : (p : Pair) → dispatcher after p .attached ≡ dispatcher s p .attached
-  unfolding dispatcher dispatcher-of with-dispatchers or-else new-dispatcher
-  ring-after p = rw (find-map by-pair (with-new-entry topic (m .id)) entry-pair p (s .dispatchers)) (go (find by-pair p (s .dispatchers)))
-    where
-      go : (o : Option Dispatcher) → or-else (Option·map (with-new-entry topic (m .id)) o) (new-dispatcher p (length (ledger-of after (p .topic)))) .attached
-          ≡ or-else o (new-dispatcher p (length (ledger-of s (p .topic)))) .attached
-      go none = refl
-      go (some d) = entry-ring d
 
   -- what is left outside
   outside-after : (l : List StoredMessage) (ids : List Id) → Valid-outside l ids → Valid-outside (l ++ m ∷ []) (keep (λ (j : Id). not (same-id (m .id) j)) ids)
@@ -155,7 +125,7 @@ module _ (s : State) (v : Sound s) (topic : ℕ) (m : StoredMessage) (topic-byte
   grown-valid d e w =
       let l : List StoredMessage = ledger-of s (d .pair .topic) in
       let f : ledger-of after (d .pair .topic) ≡ l ++ m ∷ [] =
-      ledger-after (d .pair .topic) ∙ (rw (eq-eqb (d .pair .topic) topic e) (ap (λ (n : ℕ). ledger-of s n ++ m ∷ []) (sym e))) in
+      ledger-after s topic m (d .pair .topic) ∙ (rw (eq-eqb (d .pair .topic) topic e) (ap (λ (n : ℕ). ledger-of s n ++ m ∷ []) (sym e))) in
       by-parts after _ (w .pair-topic-byte) (w .pair-subscription-byte) (ring-of d (w .ring)) (w .total-from) (w .total-to)
       (le-trans (w .cursor-in-ledger) (ledger-longer (d .pair .topic))) (le-trans (w .mark-delete-in-ledger) (ledger-longer (d .pair .topic)))
       (places-of d (w .places))
@@ -169,7 +139,7 @@ module _ (s : State) (v : Sound s) (topic : ℕ) (m : StoredMessage) (topic-byte
       by-test (eqb topic (d .pair .topic))
       (λ t. rw t (grown-valid d (sym (eqb-true topic (d .pair .topic) t)) w))
       (λ t. rw t
-      (move-dispatcher s after d (ledger-after (d .pair .topic) ∙ rw (turned-round decides-numbers topic (d .pair .topic) t)) w))
+      (move-dispatcher s after d (ledger-after s topic m (d .pair .topic) ∙ rw (turned-round decides-numbers topic (d .pair .topic) t)) w))
 
   -- the state after it is sound
   pub appended-sound : Sound after
@@ -183,9 +153,9 @@ module _ (s : State) (v : Sound s) (topic : ℕ) (m : StoredMessage) (topic-byte
         consumers-ascending = v .consumers-ascending;
         each-consumer = λ c k.
             move-consumer s after c (ledger-longer (c .pair .topic))
-            (λ r. subst (λ (l : List ℕ). List·Memᴰ (c .id) l) (sym (ring-after (c .pair))) r) (v .each-consumer c k);
+            (λ r. subst (λ (l : List ℕ). List·Memᴰ (c .id) l) (sym (ring-after s topic m (c .pair))) r) (v .each-consumer c k);
         dispatcher-count = (le-trans (le-of-eq (length-map (s .dispatchers) (with-new-entry topic (m .id)))) (v .dispatcher-count));
-        pairs-distinct = subst (Distinct same-pair) (sym (keys-map by-pair (with-new-entry topic (m .id)) entry-pair (s .dispatchers))) (v .pairs-distinct);
+        pairs-distinct = subst (Distinct same-pair) (sym (keys-map by-pair (with-new-entry topic (m .id)) (entry-pair s topic m) (s .dispatchers))) (v .pairs-distinct);
         each-dispatcher = λ d k.
             let o = Memᴰ·of-map (with-new-entry topic (m .id)) (s .dispatchers) k in
             subst (Valid-dispatcher after) (o .2) (entry-valid (o .0) (v .each-dispatcher (o .0) (o .1)));

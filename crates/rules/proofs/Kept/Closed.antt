@@ -17,7 +17,7 @@ use Rattle.rules.specs.Calls.Call.{Append, Subscribe, Flow, Ack, Seek, R
 use Rattle.rules.proofs.Table.{by-test}
 use Rattle.rules.proofs.Kept.Outcomes.{Keeps, keeps-guard, keeps-live, keeps-groups, keeps-kind}
 use Rattle.rules.proofs.Kept.Turns.{Turned, push-keeps-both}
-use Rattle.rules.proofs.Kept.Append.{entry-added}
+use Rattle.rules.proofs.Appended.{entry-added}
 
 -- closed under a consumer put or left out, a dispatcher put, an entry added
 pub record Closed (P : State → Type 0) : Type 0 where

@@ -1,5 +1,5 @@
 -- Flow, seek and subscribe keep a state sound, and so does what a plain redeliver changes.
-use Prim.Native.Nat.{ℕ, suc, _+_, _^_, _≤_, _<_}
+use Prim.Native.Nat.{ℕ, _+_, _^_, _≤_, _<_}
 use mathlib.Core.Path.{_≡_, refl, sym, _∙_, subst}
 use mathlib.Core.Bool.{true, false, _&&_}
 use mathlib.Core.List.{List, [], _∷_, _++_, List·Memᴰ, List·Memᴰ·head, List·Memᴰ·not-nil, Memᴰ·append-left, Memᴰ·append-right}
@@ -10,9 +10,8 @@ use lib.ListN.{length, length-append}
 use borrow.Author.Tests.{ltb-false}
 use Rattle.rules.specs.Permits.{least-permits, most-permits, most-total}
 use Rattle.rules.specs.Table.{Every, member, is-some}
-use Rattle.rules.specs.State.{Id, StoredMessage, Pair, Kind, Consumer, Dispatcher, State, consumer-of, dispatcher-of, ledger-of, dispatcher, with-consumers, with-dispatchers, put-consumer, put-dispatcher}
+use Rattle.rules.specs.State.{StoredMessage, Pair, Kind, Consumer, Dispatcher, State, consumer-of, dispatcher-of, ledger-of, dispatcher, with-consumers, with-dispatchers, put-consumer, put-dispatcher}
 use Rattle.rules.specs.State.Kind.{shared}
-use Rattle.rules.specs.Ledger.{at-or-after, first-at-or-after, seek-position}
 use Rattle.rules.specs.Dispatcher.{with-attached, with-total}
 use Rattle.rules.specs.Commands.{new-consumer, joined, subscribe, with-permits, flow, Target, target-position, with-reading, seek}
 use Rattle.rules.specs.Commands.Target.{start, to-id}
@@ -23,6 +22,7 @@ use Rattle.rules.proofs.Says.{says-and, says-member}
 use Rattle.rules.proofs.Valid.{says-byte, says-word}
 use Rattle.rules.proofs.Table.{by-test, decides-numbers}
 use Rattle.rules.proofs.State.{decides-pairs, dispatcher-pair, dispatcher-put}
+use Rattle.rules.proofs.Ledger.{seek-position-le}
 use Rattle.rules.proofs.Kept.Every.{every-snoc, distinct-snoc, fails-on-each}
 use Rattle.rules.proofs.Kept.Frame.{consumer-valid, sound-put-consumer, sound-replace-consumer, sound-put-dispatcher, sound-own-dispatcher}
 use Rattle.rules.proofs.Kept.Parts.{Ring, ring-of, next-most, valid-with-total, valid-with-attached, dispatcher-valid}
@@ -102,18 +102,11 @@ flow-keeps s i grant v =
 
 -- ---- seek
 
--- the position that a seek finds lies in the ledger, or is 0
-first-in-ledger : (i : Id) (k : ℕ) (l : List StoredMessage) → first-at-or-after i k l ≤ k + length l
-unfolding first-at-or-after
-first-in-ledger i k [] = omega arith
-first-in-ledger i k (m ∷ l) =
-    by-test (at-or-after (m .id) i) (λ t. rw t (omega arith)) (λ t. rw t (let h = first-in-ledger i (suc k) l in omega arith))
-
--- so does a target's
+-- a target's position is the ledger's length at most
 target-in-ledger : (l : List StoredMessage) (target : Target) → target-position l target ≤ length l
-unfolding target-position seek-position
+unfolding target-position
 target-in-ledger l start = omega arith
-target-in-ledger l (to-id i) = let h = first-in-ledger i 0 l in omega arith
+target-in-ledger l (to-id i) = seek-position-le i l
 
 -- any seek
 pub seek-keeps : (s : State) (i : ℕ) (target : Target) → Sound s → Keeps Sound s (seek s i target)

@@ -102,6 +102,14 @@ unordered = append-1 1 0 0 ∷ append-1 5 0 0 ∷ append-1 3 0 0 ∷ []
 abbrev pub reader : List Call
 reader = plain-7 ++ Flow 7 4 ∷ Seek 7 (to-id (message-id 1 1)) ∷ Redeliver 7 (1 ∷ 2 ∷ 0 ∷ []) ∷ []
 
+-- that consumer, after a seek just beyond the last entry
+abbrev pub at-the-end : List Call
+at-the-end = reader ++ Seek 7 (to-id (message-id 1 3)) ∷ []
+
+-- plain consumer 7 with four permits, after a seek on a topic that no append has made
+abbrev pub before-the-topic : List Call
+before-the-topic = plain-1 7 ∷ Flow 7 4 ∷ Seek 7 (to-id (message-id 1 3)) ∷ []
+
 -- seek
 unfoldable pub seek-rows : List Row
 seek-rows =
@@ -115,9 +123,25 @@ seek-rows =
     ∷ gives (sought (append-1 1 5 0 ∷ append-1 2 4 0 ∷ []) 2 4) (0 ∷ 1 ∷ [])
     ∷ gives (sought unordered 2 0) (0 ∷ 1 ∷ [])
     ∷ gives (sought unordered 3 0) (0 ∷ 1 ∷ [])
-    -- else 0
-    ∷ gives (sought unordered 5 1) (0 ∷ 0 ∷ [])
+    -- where no entry is at or after the id, the ledger's length (request A1): an empty ledger included
+    ∷ gives (sought unordered 5 1) (0 ∷ 3 ∷ [])
+    ∷ gives (sought unordered 6 0) (0 ∷ 3 ∷ [])
+    ∷ gives (sought (append-1 1 5 0 ∷ append-1 2 0 0 ∷ []) 2 1) (0 ∷ 2 ∷ [])
+    ∷ gives (sought [] 0 0) (0 ∷ 0 ∷ [])
     ∷ gives (then (three-entries ++ Subscribe 7 plain other-topic ∷ []) (Seek 7 (to-id (message-id 1 1)))) (0 ∷ 0 ∷ [])
+    -- a reader waits there: a push sends it nothing, whatever was handed back; an append and a push the new entry and no other
+    ∷ gives (seen (own 7) at-the-end) (1 ∷ 1 ∷ 0 ∷ 4 ∷ 3 ∷ [])
+    ∷ gives (handed at-the-end) []
+    ∷ gives (handed (at-the-end ++ append-1 1 3 0 ∷ [])) (7 ∷ 3 ∷ [])
+    ∷ gives (then (at-the-end ++ append-1 1 3 0 ∷ []) (Push 1)) (0 ∷ 1 ∷ 7 ∷ 1 ∷ 3 ∷ 0 ∷ 1 ∷ 3 ∷ [])
+    ∷ gives (handed (at-the-end ++ append-1 1 3 0 ∷ Push 1 ∷ [])) []
+    -- the same on a topic that does not exist at the seek
+    ∷ gives (handed before-the-topic) []
+    ∷ gives (seen (own 7) before-the-topic) (1 ∷ 1 ∷ 0 ∷ 4 ∷ 0 ∷ [])
+    ∷ gives (handed (before-the-topic ++ append-1 1 0 0 ∷ [])) (7 ∷ 0 ∷ [])
+    ∷ gives (handed (before-the-topic ++ append-1 1 0 0 ∷ Push 1 ∷ [])) []
+    -- the place is told at the seek: of what is appended later an id before the one sought is sent too
+    ∷ gives (handed (at-the-end ++ append-1 1 9 0 ∷ append-1 0 7 0 ∷ [])) (7 ∷ 9 ∷ 7 ∷ 7 ∷ [])
     -- start: 0
     ∷ gives (then reader (Seek 7 start)) (0 ∷ 0 ∷ [])
     -- the cursor is there, nacked cleared, the balance as it was
@@ -129,6 +153,8 @@ seek-rows =
     ∷ gives (then (three-entries ++ shared-1 7 ∷ Flow 7 1 ∷ Push 1 ∷ []) (Seek 7 (to-id (message-id 1 2)))) (0 ∷ 2 ∷ [])
     ∷ gives (seen (own 7) (three-entries ++ shared-1 7 ∷ Flow 7 1 ∷ Push 1 ∷ Seek 7 (to-id (message-id 1 2)) ∷ [])) (1 ∷ 1 ∷ 1 ∷ 0 ∷ 2 ∷ [])
     ∷ gives (seen (head pair-1) (three-entries ++ shared-1 7 ∷ Flow 7 1 ∷ Push 1 ∷ Seek 7 (to-id (message-id 1 2)) ∷ [])) (0 ∷ 1 ∷ 0 ∷ 0 ∷ [])
+    ∷ gives (then (three-entries ++ shared-1 7 ∷ Flow 7 1 ∷ Push 1 ∷ []) (Seek 7 (to-id (message-id 1 3)))) (0 ∷ 3 ∷ [])
+    ∷ gives (seen (head pair-1) (three-entries ++ shared-1 7 ∷ Flow 7 1 ∷ Push 1 ∷ Seek 7 (to-id (message-id 1 3)) ∷ [])) (0 ∷ 1 ∷ 0 ∷ 0 ∷ [])
     ∷ gives (seen (flight pair-1) (three-entries ++ shared-1 7 ∷ Flow 7 1 ∷ Push 1 ∷ Seek 7 start ∷ [])) (7 ∷ 0 ∷ [])
     ∷ gives (handed (three-entries ++ shared-1 7 ∷ Flow 7 1 ∷ Push 1 ∷ Seek 7 (to-id (message-id 1 2)) ∷ Flow 7 1 ∷ [])) (7 ∷ 1 ∷ [])
     ∷ []

@@ -1,5 +1,5 @@
--- `topic::find::first_at_or_after` meets its contract: the messages are looked at one by one. The loop's invariant: what is
--- found among those from k on is what is found among all.
+-- `topic::find::first_at_or_after` meets its contract: the messages are looked at one by one. The loop's invariant: the first
+-- position at or after the id among those from k on is the first among all.
 use mathlib.Core.Path.{_≡_, sym, ap, _∙_}
 use Prim.Native.Nat.{_+_, _*_, _-_, _≤_, _<_}
 use native.Mathlib.Omega.{arith}
@@ -10,12 +10,13 @@ use Rattle.layout.specs.Layout.{decode}
 use Rattle.layout.specs.Fields.{topic-nth}
 use Rattle.topic.specs.Ids.{id-of}
 use Rattle.rules.specs.Ledger.{at-or-after, no-message}
-use Rattle.topic.proofs.Positions.{Seeking, seek-start, seek-here, seek-on, seek-end, id-here, count-here}
+use Rattle.store.proofs.Finding.{Sought, sought-start, sought-here, sought-on, sought-end}
+use Rattle.topic.proofs.Positions.{by-later-id, seek-slot, id-here, count-here}
 use Rattle.topic.proofs.find.first_at_or_after.Statement.{statement}
 use Rattle.topic.proofs.find.first_at_or_after.Tie as tie
 
 abbrev Inv-loop : tie.InvT-loop
-Inv-loop store e t ledger entry at n k₀ k = (k ≤ n) × Seeking (id-of ledger entry) (topic-nth (decode store) t .messages) k
+Inv-loop store e t ledger entry at n k₀ k = (k ≤ n) × Sought by-later-id (id-of ledger entry) (topic-nth (decode store) t .messages) k
 
 abbrev μ-loop : tie.MeasureT-loop
 μ-loop store e t ledger entry at n k₀ k = n - k
@@ -93,7 +94,7 @@ loop-holds : tie.Need-loop-holds Inv-loop μ-loop
 loop-holds c =
     let i = id-of (entry-before-word c .args .ledger) (entry-before-word c .args .entry) in
     let l = topic-nth (decode (entry-before-word c .args .store .now)) (entry-before-word c .args .t) .messages in
-    (search needs, seek-start i l)
+    (search needs, sought-start by-later-id i l)
 
 add-at-or-after : tie.Need-add-at-or-after Inv-loop μ-loop
 add-at-or-after c = let k = inside c in omega arith
@@ -111,7 +112,8 @@ returns : tie.Need-returns Inv-loop μ-loop
 returns c =
     let i = id-of (entry-before-then1 c .args .ledger) (entry-before-then1 c .args .entry) in
     let l = topic-nth (decode (entry-before-then1 c .args .store .now)) (entry-before-then1 c .args .t) .messages in
-    seek-here i l (at-loop-before-then1 c .loop .k) (here (c .before .before)) (at-loop-before-then1 c .loop .inv .1) (sym (tested (c .before)) ∙ c .if1 .taken)
+    sought-here by-later-id i l (at-loop-before-then1 c .loop .k) no-message (here (c .before .before)) (at-loop-before-then1 c .loop .inv .1) (sym (tested (c .before)) ∙ c .if1 .taken)
+    ∙ sym (seek-slot i l)
 
 add-k : tie.Need-add-k Inv-loop μ-loop
 add-k c = search needs
@@ -123,14 +125,15 @@ loop-again : tie.Need-loop-again Inv-loop μ-loop
 loop-again c =
     let i = id-of (entry-before-else1 c .args .ledger) (entry-before-else1 c .args .entry) in
     let l = topic-nth (decode (entry-before-else1 c .args .store .now)) (entry-before-else1 c .args .t) .messages in
-    (search needs, seek-on i l (at-loop-before-else1 c .loop .k) (here (c .before .before)) (at-loop-before-else1 c .loop .inv .1) (sym (tested (c .before)) ∙ c .if1 .left))
+    (search needs, sought-on by-later-id i l (at-loop-before-else1 c .loop .k) no-message (here (c .before .before)) (at-loop-before-else1 c .loop .inv .1) (sym (tested (c .before)) ∙ c .if1 .left))
 
 returns-2 : tie.Need-returns-2 Inv-loop μ-loop
 returns-2 c =
     let i = id-of (entry-before-after-loop c .args .ledger) (entry-before-after-loop c .args .entry) in
     let l = topic-nth (decode (entry-before-after-loop c .args .store .now)) (entry-before-after-loop c .args .t) .messages in
     let n = counted (c .before .before) in
-    seek-end i l (c .before .loop .k) (omega arith) (c .before .loop .inv .1)
+    let all : c .before .before .word .result ≡ c .before .loop .k = omega arith in
+    all ∙ sought-end by-later-id i l (c .before .loop .k) (omega arith) (c .before .loop .inv .1) ∙ sym (seek-slot i l)
 
 pub first-at-or-after-spec : {M : Type 1} → statement M
 first-at-or-after-spec =
