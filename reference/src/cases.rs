@@ -21,8 +21,9 @@ const FIXED_LIST: &str = "# the fixed list, on which broker.rs gave the same";
 /// What the runner prints where a push into records gives what the flat push gives.
 const AS_RECORDS: &str = "  as records: the same\n";
 
-/// The scripts with the refusals that broker.rs does not have, 5 to 14.
-const OUTSIDE: [(&str, &str); 12] = [
+/// The scripts of what broker.rs does otherwise: refusals 5 to 14, which it does not have, and seeks
+/// past the end.
+const OUTSIDE: [(&str, &str); 14] = [
     ("refusal 5", include_str!("../scripts/outside/refusal-5.txt")),
     ("refusal 6", include_str!("../scripts/outside/refusal-6.txt")),
     ("refusal 7", include_str!("../scripts/outside/refusal-7.txt")),
@@ -35,6 +36,8 @@ const OUTSIDE: [(&str, &str); 12] = [
     ("refusal 12", include_str!("../scripts/outside/refusal-12.txt")),
     ("refusal 13", include_str!("../scripts/outside/refusal-13.txt")),
     ("refusal 14", include_str!("../scripts/outside/refusal-14.txt")),
+    ("K9", include_str!("../scripts/outside/k9-second-seek.txt")),
+    ("seek past the end", include_str!("../scripts/outside/seek-past-end.txt")),
 ];
 
 /// What document 01 marks "Run", opening apart, which needs a shorter store as well.
@@ -87,7 +90,7 @@ pub fn script() -> Result<String, String> {
     for (name, script) in OUTSIDE {
         text += &format!("# {name}\n{}balance\n", listed(&calls(script)?));
     }
-    for (name, calls) in limits::refused() {
+    for (name, calls) in limits::outside() {
         text += &format!("# {name}\n{}", listed(&calls));
     }
     text += &format!("{FIXED_LIST}\n");

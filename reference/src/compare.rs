@@ -134,9 +134,13 @@ impl Comparison<'_> {
                 what = other.words().and_then(|words| words_differ(&model, &mut room, words));
             }
             if what.is_none() && self.with_state {
+                let told: &dyn Side = match self.against {
+                    Against::Rust => &reference,
+                    Against::Rules => &model,
+                };
                 let shown: &dyn Side =
                     if other.words().is_some() { &model } else { other.as_ref() };
-                what = states_differ(&reference, shown);
+                what = states_differ(told, shown);
             }
             if let Some(what) = what {
                 return Verdict::Differs(Difference { at, what });

@@ -30,16 +30,22 @@ pub struct Coverage {
     situations: [usize; SITUATIONS.len()],
     /// How often each refusal was given.
     refusals: [usize; 16],
+    /// Seeks past the end.
+    past_the_end: usize,
     skip: usize,
 }
 
 impl Coverage {
     /// Notes what the model tells of a call before it is made.
     pub fn before(&mut self, call: &Call, model: &Model) {
-        if let Call::Subscribe { consumer, .. } = call
-            && model.live(*consumer).is_some()
-        {
-            self.situations[if model.noop { 15 } else { 14 }] += 1;
+        match call {
+            Call::Subscribe { consumer, .. } if model.live(*consumer).is_some() => {
+                self.situations[if model.noop { 15 } else { 14 }] += 1;
+            }
+            Call::Seek { consumer, target } => {
+                self.past_the_end += usize::from(model.seeks_past_the_end(*consumer, *target));
+            }
+            _ => {}
         }
     }
 
@@ -96,10 +102,13 @@ impl Coverage {
         counts.map(|(name, n)| format!("{name} {n}")).collect::<Vec<_>>().join(", ")
     }
 
-    /// How often each refusal above 4 was given; empty inside the comparison domain.
-    pub fn refusals_text(&self) -> String {
-        let counts = (5..16).filter(|n| self.refusals[*n] > 0);
-        counts.map(|n| format!("{n} ({})", self.refusals[n])).collect::<Vec<_>>().join(", ")
+    /// What broker.rs does not have, and how often: refusals above 4, seeks past the end. Empty
+    /// inside the comparison domain.
+    pub fn outside_text(&self) -> String {
+        let refusals = (5..16).map(|n| (format!("refusal {n}"), self.refusals[n]));
+        let all = refusals.chain([("seeks past the end".to_owned(), self.past_the_end)]);
+        let reached = all.filter(|(_, n)| *n > 0).map(|(name, n)| format!("{name} ({n})"));
+        reached.collect::<Vec<_>>().join(", ")
     }
 
     /// The situations that were never reached.

@@ -1,23 +1,27 @@
 //! `reference check-errors`: seeds each deliberate error into the model and demands that
 //! the comparison catches it three times: with the whole state in view; by answers and
 //! records alone, which is all that the C side shows; and by the fixed list of vectors.
+//! One that shows only outside the comparison domain is held to the rules, not to broker.rs,
+//! and in place of the vectors to the fixed sequences outside the domain.
 
 use crate::call::Side;
 use crate::compare::{Against, Comparison, Verdict};
 use crate::coverage::Coverage;
 use crate::generator::ALL;
+use crate::limits;
 use crate::model::Model;
-use crate::model::mutation::Mutation;
+use crate::model::mutation::{Mutation, OUTSIDE};
 use crate::vectors;
 
 const SEED: u64 = 8;
 /// Calls after which an error counts as missed.
 const PATIENCE: usize = 200_000;
 
-/// Gives `check` the comparison of broker.rs with the model that has the error.
+/// Gives `check` the comparison of broker.rs, or of the rules, with the model that has the error.
 fn with_error<T>(mutation: Mutation, with_state: bool, check: impl Fn(Comparison) -> T) -> T {
     let make = || Box::new(Model::with_error(mutation)) as Box<dyn Side>;
-    check(Comparison { make: &make, against: Against::Rust, with_state, in_order: false })
+    let against = if OUTSIDE.contains(&mutation) { Against::Rules } else { Against::Rust };
+    check(Comparison { make: &make, against, with_state, in_order: false })
 }
 
 /// The calls it took and the length of the shortest script, if the error was caught.
@@ -30,12 +34,14 @@ fn caught(mutation: Mutation, with_state: bool) -> Option<(usize, usize)> {
     })
 }
 
-/// The vector, from 1, at which the error shows.
-fn in_vectors(mutation: Mutation) -> Option<usize> {
+/// The call of the fixed list, from 1, at which the error shows.
+fn in_list(mutation: Mutation) -> Option<usize> {
+    let outside = || limits::outside().into_iter().map(|(_, calls)| calls).collect();
+    let list = if OUTSIDE.contains(&mutation) { outside() } else { vectors::sequences() };
     with_error(mutation, false, |comparison| {
         let mut before = 0;
-        for calls in vectors::sequences() {
-            let verdict = comparison.run(&calls, &mut Coverage::default());
+        for calls in &list {
+            let verdict = comparison.run(calls, &mut Coverage::default());
             if let Verdict::Differs(difference) = verdict {
                 return Some(before + difference.at + 1);
             }
@@ -59,16 +65,16 @@ pub fn check(brief: bool) -> bool {
     for (mutation, name) in Mutation::ALL {
         let by_state = caught(*mutation, true);
         let by_answers = caught(*mutation, false);
-        let by_vectors = in_vectors(*mutation);
+        let by_list = in_list(*mutation);
         if !brief {
             println!("{name}:\n  by state: {}", text(by_state));
             println!("  by answers and records: {}", text(by_answers));
-            match by_vectors {
-                Some(at) => println!("  by the vectors: line {at}"),
-                None => println!("  by the vectors: NOT CAUGHT"),
+            match by_list {
+                Some(at) => println!("  by the fixed list: call {at}"),
+                None => println!("  by the fixed list: NOT CAUGHT"),
             }
         }
-        match (by_state, by_answers, by_vectors) {
+        match (by_state, by_answers, by_list) {
             (Some(a), Some(b), Some(_)) => most = most.max(a.0).max(b.0),
             _ => missed.push(*name),
         }
@@ -77,7 +83,9 @@ pub fn check(brief: bool) -> bool {
     if missed.is_empty() {
         println!(
             "deliberate errors: {tried} tried, each caught by state, by answers and records alone \
-             (the slowest after {most} calls), and by the vectors"
+             (the slowest after {most} calls), and by the fixed list; {} of them outside broker.rs's \
+             domain, by the rules",
+            OUTSIDE.len()
         );
     } else {
         println!("deliberate errors: {tried} tried, not caught: {}", missed.join("; "));

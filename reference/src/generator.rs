@@ -122,7 +122,8 @@ pub fn sequence(rng: &mut Rng, wanted: &Wanted) -> Vec<Call> {
 }
 
 impl Generator<'_> {
-    /// A call inside the domain; none if a full state leaves nothing to draw.
+    /// A call inside the domain, if it has to be; none if a full state leaves nothing to draw. So
+    /// a seek by id is played against broker.rs only where some entry is at or after the id.
     fn next_call(&mut self) -> Option<Call> {
         (0..200).find_map(|_| {
             let call = self.candidate();

@@ -285,12 +285,27 @@ fn lists_past() -> Vec<Call> {
     calls
 }
 
-/// Sequences with the refusals that random calls seldom meet.
-pub fn refused() -> Vec<(&'static str, Vec<Call>)> {
+/// Seeks past the end, where broker.rs goes to the start: of a plain consumer with entries handed
+/// back, of one whose topic no append has made, of a shared one.
+fn seeks_past() -> Vec<Call> {
+    let seek = |consumer, entry| Call::Seek { consumer, target: Target::Id(1, entry) };
+    let mut calls = vec![open(32), append(1, 0, 0), append(1, 3, 2), plain(7, 1), plain(8, 2)];
+    calls.extend([shared(9, 1, 1), flow(7, 9), flow(8, 9), flow(9, 9), Call::Push]);
+    calls.push(Call::Redeliver { consumer: 7, groups: vec![group(0, vec![])] });
+    calls.extend([seek(7, 3), seek(7, 4), seek(8, 0), seek(9, 4), Call::Push]);
+    calls.extend([append(1, 4, 0), append(2, 0, 0), Call::Push, Call::Push]);
+    calls.extend([seek(7, u64::MAX), seek(8, 1), seek(9, 4), Call::Push]);
+    calls
+}
+
+/// Sequences that the comparison domain leaves out: the refusals that random calls seldom meet,
+/// and seeks past the end.
+pub fn outside() -> Vec<(&'static str, Vec<Call>)> {
     vec![
         ("permits past the limit", permits_past()),
         ("ring past the limit", ring_past()),
         ("tables past the limit", tables_past()),
         ("lists past the limit", lists_past()),
+        ("seeks past the end", seeks_past()),
     ]
 }

@@ -161,8 +161,8 @@ fn random(comparison: &Comparison, options: &Options, allowed: &Allowed, who: &s
     println!("seed {}, {} calls: {who} agree", options.seed, searched.calls);
     println!("  calls: {}", coverage.operations_text());
     println!("  reached: {}", coverage.situations_text());
-    if !coverage.refusals_text().is_empty() {
-        println!("  refusals: {}", coverage.refusals_text());
+    if !coverage.outside_text().is_empty() {
+        println!("  outside the domain: {}", coverage.outside_text());
     }
     if !coverage.missing().is_empty() {
         println!("  never reached: {}", coverage.missing().join(", "));
@@ -170,7 +170,7 @@ fn random(comparison: &Comparison, options: &Options, allowed: &Allowed, who: &s
 }
 
 /// Who is compared outside broker.rs's domain.
-const RULES: &str = "with refusals, the model and the C exports";
+const RULES: &str = "outside the domain too, the model and the C exports";
 
 fn compare(args: &[String]) {
     let options = options(args);
@@ -199,9 +199,12 @@ fn compare(args: &[String]) {
     random(&rust, &options, &allowed, &who);
     if c {
         let rules = Comparison { against: Against::Rules, with_state: false, ..rust };
-        let past = limits::refused();
-        let made: usize = past.iter().map(|(name, c)| given(&rules, name, c, &allowed)).sum();
-        println!("{} fixed sequences past the limits, {made} calls: {RULES} agree", past.len());
+        let outside = limits::outside();
+        let made: usize = outside.iter().map(|(name, c)| given(&rules, name, c, &allowed)).sum();
+        println!(
+            "{} fixed sequences outside the domain, {made} calls: {side} and the model agree",
+            outside.len()
+        );
         random(&rules, &options, &allowed, RULES);
     }
 }

@@ -27,6 +27,7 @@
 #define DISPATCHERS(e) ((size_t)2354 + 32 * (size_t)(e))
 #define DISPATCHER(e, d) ((size_t)2355 + 32 * (size_t)(e) + (176 + 9 * (size_t)(e)) * (size_t)(d))
 #define PERMITS 4
+#define CURSOR 5
 #define TOTAL 5
 
 /* Words that can be lent, the first n of them; `was` is what they were before a call. */
@@ -93,6 +94,8 @@ void subscribe_limits(void);
 void flow_limits(void);
 void close_limits(void);
 void ack_limits(void);
+/* Past the end: the ledger's length, and what is sent from there. */
+void seek_limits(void);
 /* Records word by word: fresh, handed back with an ack set, and to a plain consumer. */
 void records(void);
 

@@ -179,7 +179,7 @@ static int value_fits(enum operation operation, int64_t value, uint64_t entries)
     case ACK:
         return value >= 0 && value <= 2 * (int64_t)entries + 1;
     case SEEK:
-        return value >= 0 && value < (int64_t)entries;
+        return value >= 0 && value <= (int64_t)entries;
     case CLOSE:
         return value == 0 || value == 1;
     case PUSH:

@@ -304,6 +304,50 @@ void ack_limits(void)
     refused(seek(9, 1, 1, 5), 4);
 }
 
+/* A push with room for 3 makes so many dispatches; the first is of this entry to this consumer. */
+static void sends(int64_t count, uint64_t consumer, uint64_t entry)
+{
+    fill(&list, (size_t)3 * BROKER_RECORD_WORDS);
+    expect(of(PUSH, 0), 0, count);
+    check(count == 0 || (list.words[BROKER_RECORD_CONSUMER] == consumer && list.words[BROKER_RECORD_ENTRY] == entry),
+          "a push sent another entry");
+}
+
+void seek_limits(void)
+{
+    uint64_t *cursor;
+    /* On a topic that no append has made, then past one entry, and past the last that it can hold. */
+    opened(2, 0, 0);
+    done(subscribe(7, 0, 1, 1));
+    done(subscribe(8, 1, 1, 1));
+    expect(flow(7, 9), 0, 9);
+    expect(seek(7, 1, 1, 0), 0, 0);
+    expect(seek(7, 1, TOP, TOP), 0, 0);
+    sends(0, 0, 0);
+    done(append(1, 1, 0, 0));
+    sends(1, 7, 0);
+    expect(seek(7, 1, 1, 0), 0, 0);
+    expect(seek(7, 1, 1, 1), 0, 1);
+    expect(seek(8, 1, 1, 1), 0, 1);
+    sends(0, 0, 0);
+    done(append(1, 1, 5, 0));
+    sends(1, 7, 5);
+    expect(seek(7, 1, 1, 5), 0, 1);
+    expect(seek(7, 1, 1, 6), 0, 2);
+    expect(seek(7, 1, 2, 0), 0, 2);
+    expect(seek(7, 1, TOP, TOP), 0, 2);
+    sends(0, 0, 0);
+    expect(seek(7, 0, TOP, TOP), 0, 0);
+    sends(2, 7, 0);
+    /* A cursor at the ledger's length is a state, one past it is none. */
+    cursor = store->words + CONSUMER(0) + CURSOR;
+    check(*cursor == 2, "a cursor is not at the ledger's length");
+    *cursor = 3;
+    refused(seek(7, 0, 0, 0), 1);
+    *cursor = 2;
+    expect(seek(7, 0, 0, 0), 0, 0);
+}
+
 static void record_is(size_t at, const uint64_t *expected)
 {
     check(memcmp(list.words + at * BROKER_RECORD_WORDS, expected, BROKER_RECORD_WORDS * sizeof *expected) == 0,

@@ -55,6 +55,7 @@ int main(int argc, char **argv)
     flow_limits();
     close_limits();
     ack_limits();
+    seek_limits();
     records();
     count_limits();
     ended("each number at its limit and one past it");

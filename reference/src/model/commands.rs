@@ -177,18 +177,10 @@ impl Model {
 
     pub(super) fn seek(&mut self, id: u64, target: Target) -> Outcome {
         let slot = self.live(id).expect("refused before");
-        let topic = self.consumers[slot].topic;
-        let strictly = self.wrong(Mutation::SeekStrictlyGreater);
-        let at_or_after = |m: &Message, id: (u64, u64)| {
-            let here = (m.ledger, m.entry);
-            here > id || (here == id && !strictly)
-        };
         let cursor = match target {
             Target::Start => 0,
             Target::Id(ledger, entry) => {
-                let messages = self.messages(topic);
-                let past = if self.wrong(Mutation::SeekPastEnd) { messages.len() } else { 0 };
-                messages.iter().position(|m| at_or_after(m, (ledger, entry))).unwrap_or(past)
+                self.seek_position(self.consumers[slot].topic, (ledger, entry))
             }
         };
         self.consumers[slot].cursor = cursor;
@@ -201,6 +193,23 @@ impl Model {
             self.dispatchers[d].cursor = cursor;
         }
         Outcome::done(cursor as i64)
+    }
+
+    /// The first position at or after an id; the ledger's length where there is none.
+    fn seek_position(&self, topic: u8, id: (u64, u64)) -> usize {
+        let strictly = self.wrong(Mutation::SeekStrictlyGreater);
+        let messages = self.messages(topic);
+        let found = messages.iter().position(|m| {
+            let here = (m.ledger, m.entry);
+            here > id || (here == id && !strictly)
+        });
+        found.unwrap_or(if self.wrong(Mutation::PastEndToStart) {
+            0
+        } else if self.wrong(Mutation::PastEndToLast) {
+            messages.len().saturating_sub(1)
+        } else {
+            messages.len()
+        })
     }
 
     pub(super) fn redeliver(&mut self, id: u64, groups: &[Group]) -> Outcome {

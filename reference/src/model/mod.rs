@@ -10,7 +10,7 @@ mod refusal;
 
 use std::collections::{BTreeMap, VecDeque};
 
-use crate::call::{Call, Kind, Outcome, Side};
+use crate::call::{Call, Kind, Outcome, Side, Target};
 use crate::state;
 use mutation::Mutation;
 
@@ -137,21 +137,39 @@ impl Model {
     }
 
     /// Whether the call leaves the comparison domain: a refusal that the Rust does not
-    /// have, an id in two rings, or an id in a ring while plain.
+    /// have, an id in two rings, an id in a ring while plain, or a seek past the end.
     pub fn leaves_domain(&self, call: &Call) -> bool {
         if !matches!(self.refusal(call), 0 | 4) {
             return true;
         }
-        let Call::Subscribe { consumer, kind, topic, subscription } = call else {
-            return false;
-        };
-        if self.noop && self.live(*consumer).is_some() {
+        match call {
+            Call::Subscribe { consumer, kind, topic, subscription } => {
+                self.leaves_its_ring(*consumer, *kind, (*topic, *subscription))
+            }
+            Call::Seek { consumer, target } => self.seeks_past_the_end(*consumer, *target),
+            _ => false,
+        }
+    }
+
+    /// Whether a subscribe leaves its id in the ring of another pair, or in a ring while plain.
+    fn leaves_its_ring(&self, consumer: u64, kind: Kind, pair: (u8, u8)) -> bool {
+        if self.noop && self.live(consumer).is_some() {
             return false;
         }
         self.dispatchers.iter().any(|d| {
-            let same = (d.topic, d.subscription) == (*topic, *subscription);
-            d.attached.contains(consumer) && !(same && *kind == Kind::Shared)
+            let same = (d.topic, d.subscription) == pair;
+            d.attached.contains(&consumer) && !(same && kind == Kind::Shared)
         })
+    }
+
+    /// Whether a live consumer seeks an id that no entry of its topic is at or after. The
+    /// rules answer the ledger's length (request A1), broker.rs 0.
+    pub fn seeks_past_the_end(&self, consumer: u64, target: Target) -> bool {
+        let (Some(slot), Target::Id(ledger, entry)) = (self.live(consumer), target) else {
+            return false;
+        };
+        let messages = self.messages(self.consumers[slot].topic);
+        messages.iter().all(|m| (m.ledger, m.entry) < (ledger, entry))
     }
 
     fn read_dispatcher(&self, d: &Dispatcher) -> state::Dispatcher {

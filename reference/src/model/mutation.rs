@@ -1,6 +1,9 @@
 //! Deliberate errors for the model. The comparison has to catch each one; if it does
 //! not, it looks away from some part of the rules.
 
+/// Those that show only outside the comparison domain, so in the rules and not in broker.rs.
+pub const OUTSIDE: [Mutation; 2] = [Mutation::PastEndToStart, Mutation::PastEndToLast];
+
 macro_rules! mutations {
     ($($name:ident: $text:literal),* $(,)?) => {
         #[derive(Debug, Clone, Copy, PartialEq, Eq)]
@@ -35,7 +38,6 @@ mutations! {
     // Seek.
     SeekStrictlyGreater: "seek to the first id strictly greater",
     SeekKeepsNacked: "nacked not cleared by seek",
-    SeekPastEnd: "seek past the end gives the ledger's length",
     SeekMovesDispatcher: "seek of a shared consumer moves its dispatcher",
     // Redeliver.
     RedeliverNotHeld: "redeliver of ids that the sender does not hold",
@@ -54,4 +56,7 @@ mutations! {
     ResubscribeKeepsPermits: "permits kept by a second subscribe",
     JoinAtFront: "a new consumer joins the ring at its front",
     OutsideForgotten: "an outside complete id forgotten when appended",
+    // Seek past the end, which broker.rs takes to the start.
+    PastEndToStart: "seek past the end gives 0",
+    PastEndToLast: "seek past the end gives the last entry",
 }
