@@ -219,6 +219,12 @@ int main(void)
     say("the clerk seeks the start", broker_seek(store, WORDS, CLERK, BROKER_START, 0, 0));
     push();
 
+    printf("The clerk has read everything, seeks past it and waits for the next\n");
+    say("the clerk seeks (1,1)", broker_seek(store, WORDS, CLERK, BROKER_ID, 1, 1));
+    push();
+    say("price (1,1), handle 901", broker_append(store, WORDS, PRICES, 1, 1, 901, 0));
+    push();
+
     printf("The words\n");
     printf("  E %" PRIu64 ", %" PRIu64 " consumers, %" PRIu64 " topics\n", store[1], store[16], store[2321]);
     for (i = 0; i < (int)store[16]; i++)

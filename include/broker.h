@@ -109,8 +109,9 @@ uint64_t broker_flow(uint64_t *store, size_t n, uint64_t consumer, uint32_t gran
  * Value: the mark-delete position * 2, + 1 if it moved; of a plain consumer 0. */
 uint64_t broker_ack(uint64_t *store, size_t n, uint64_t consumer, const uint64_t *list, size_t m);
 
-/* Moves the consumer's own cursor: to the start, or to the first entry at or after the id, else to 0; a
- * shared subscription does not move. Refused by 1, 4. Value: the cursor. */
+/* Moves the consumer's own cursor and forgets what it handed back: to the start, or to the first entry at or
+ * after the id; where there is none, to the end, so that a plain consumer waits for the next append, also on a
+ * topic that has none yet. A shared subscription does not move. Refused by 1, 4. Value: the cursor. */
 uint64_t broker_seek(uint64_t *store, size_t n, uint64_t consumer, uint64_t target, uint64_t ledger,
                      uint64_t entry);
 
