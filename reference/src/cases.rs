@@ -1,7 +1,8 @@
 //! The case runner's input and the output that it has to give (crates/cases/stdin and stdout).
 //! The input is a script with headings; `push N` is a push with a list of N records, and
-//! `balance` asks for the balance check of each dispatcher. The answers are the model's, in document 01's order of records. Over the sequences of the
-//! fixed list broker.rs has to agree; bits come from broker.rs itself.
+//! `balance` asks for the balance check of each dispatcher. The answers are the model's, in document
+//! 01's order of records. Over the sequences of the fixed list broker.rs has to agree; bits come
+//! from broker.rs itself.
 
 use crate::broker::driver::{Reference, and_fresh, fresh};
 use crate::call::{Call, Group, Outcome, Side, Target};
