@@ -313,6 +313,22 @@ static void sends(int64_t count, uint64_t consumer, uint64_t entry)
           "a push sent another entry");
 }
 
+/* An entry is appended to the topic of plain consumer 7, who waits at its end, and of shared consumer 8: it goes
+ * to 7 alone, and past it both go to the new end, where 7 is sent nothing. */
+static void next_entry(uint64_t entry, int64_t length)
+{
+    uint64_t consumer;
+    done(append(1, 1, entry, 0));
+    sends(1, 7, entry);
+    for (consumer = 7; consumer <= 8; consumer++) {
+        expect(seek(consumer, 1, 1, entry), 0, length - 1);
+        expect(seek(consumer, 1, 1, entry + 1), 0, length);
+        expect(seek(consumer, 1, 2, 0), 0, length);
+        expect(seek(consumer, 1, TOP, TOP), 0, length);
+    }
+    sends(0, 0, 0);
+}
+
 void seek_limits(void)
 {
     uint64_t *cursor;
@@ -324,19 +340,8 @@ void seek_limits(void)
     expect(seek(7, 1, 1, 0), 0, 0);
     expect(seek(7, 1, TOP, TOP), 0, 0);
     sends(0, 0, 0);
-    done(append(1, 1, 0, 0));
-    sends(1, 7, 0);
-    expect(seek(7, 1, 1, 0), 0, 0);
-    expect(seek(7, 1, 1, 1), 0, 1);
-    expect(seek(8, 1, 1, 1), 0, 1);
-    sends(0, 0, 0);
-    done(append(1, 1, 5, 0));
-    sends(1, 7, 5);
-    expect(seek(7, 1, 1, 5), 0, 1);
-    expect(seek(7, 1, 1, 6), 0, 2);
-    expect(seek(7, 1, 2, 0), 0, 2);
-    expect(seek(7, 1, TOP, TOP), 0, 2);
-    sends(0, 0, 0);
+    next_entry(0, 1);
+    next_entry(5, 2);
     expect(seek(7, 0, TOP, TOP), 0, 0);
     sends(2, 7, 0);
     /* A cursor at the ledger's length is a state, one past it is none. */
