@@ -1,7 +1,7 @@
 -- A message of the wire is the list of its fields. A field is a tag, which has its number and its wire type, and what the
 -- wire type says: 0 a varint, 1 eight bytes, 2 a length and that many bytes, 5 four bytes. Groups (3, 4) and other types
 -- are no field, and neither is what runs past the message's end.
-use Prim.Native.Nat.{ℕ, zero, suc, _+_, _/_, _%_, _^_}
+use Prim.Native.Nat.{ℕ, zero, suc, _+_, _-_, _/_, _%_, _^_}
 use mathlib.Core.Bool.{cond, _&&_}
 use mathlib.Core.List.{List, [], _∷_}
 use mathlib.Core.Option.{Option, none, some, Option·map, bind}
@@ -68,3 +68,7 @@ fields-from (suc k) m at =
 -- the fields of a message, in order; a field takes a byte at least, so that there are no more than bytes
 unfoldable pub fields : List ℕ → Option (List Field)
 fields m = fields-from (length m) m 0
+
+-- the fields from a place on, up to the message's end
+unfoldable pub left : List ℕ → ℕ → Option (List Field)
+left m at = fields-from (length m - at) m at

@@ -1,0 +1,43 @@
+-- What the code of this crate answers, by the definitions of the wire.
+use Prim.Native.Nat.{ℕ, _+_, _-_, _*_, _^_, _<_, _≤_}
+use mathlib.Core.Path.{_≡_}
+use mathlib.Core.List.{List}
+use mathlib.Core.Option.{Option, none, some, Option·map}
+use lib.ListN.{length, drop}
+use Rattle.wire.specs.Varint.{varint, varint-within}
+use Rattle.wire.specs.Varint as wire
+use Rattle.wire.specs.Fields as wire-fields
+use Rattle.wire_fields.specs.declared.field.Field.{Field}
+use Rattle.wire_fields.specs.declared.field.FieldAt.{FieldAt}
+use Rattle.wire_fields.specs.declared.field.FieldAt.the-variants as FieldAt
+use Rattle.wire_fields.specs.declared.varint.Varint.{Varint}
+use Rattle.wire_fields.specs.declared.varint.Varint.the-variants.{Read, Bad}
+
+-- a varint read at a place, as the code has it
+unfoldable pub found-varint : ℕ → Option wire.Varint → Varint
+found-varint at none = Bad
+found-varint at (some v) = Read (v .value) (at + v .size)
+
+-- the varint at a place
+unfoldable pub varint-at : List ℕ → ℕ → Varint
+varint-at m at = found-varint at (varint (drop at m))
+
+-- a varint with a number of some bytes before it
+unfoldable pub after : ℕ → ℕ → wire.Varint → wire.Varint
+after value size v = record { value = value + 2 ^ (7 * size) * v .value; size = size + v .size }
+
+-- some bytes of the varint at a place are read, and each says that another follows: what is left decides
+pub record Partway (m : List ℕ) (at value size : ℕ) : Type 0 where
+  pub inside : at + size ≤ length m
+  pub few : size ≤ 9
+  pub small : value < 2 ^ (7 * size)
+  pub rest : varint-within 10 (drop at m) ≡ Option·map (after value size) (varint-within (10 - size) (drop (at + size) m))
+
+-- a field as the code has it
+unfoldable pub as-field : wire-fields.Field → Field
+as-field f = record { number = f .number; wire = f .wire; value = f .value; start = f .start; next = f .next }
+
+-- a field that is there or not
+unfoldable pub found-field : Option wire-fields.Field → FieldAt
+found-field none = FieldAt.Bad
+found-field (some f) = FieldAt.Is (as-field f)

@@ -1,0 +1,4 @@
+-- What the code of this crate means, by the definitions of the wire.
+pub mod Found
+pub mod Picked
+pub mod Selected

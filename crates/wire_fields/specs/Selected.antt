@@ -1,0 +1,30 @@
+-- What a reader takes out of what was seen under a number. The laws in `proofs/Selections.antt` tie each to its selection of the
+-- wire over the fields of that number.
+use Prim.Native.Nat.{ℕ}
+use mathlib.Core.Bool.{Bool, cond, _&&_}
+use lib.Dec.{eqb, leb}
+use Rattle.wire_fields.specs.declared.pick.Seen.{Seen}
+use Rattle.wire_fields.specs.declared.select.Number.{Number}
+use Rattle.wire_fields.specs.declared.select.Number.the-variants as Number
+use Rattle.wire_fields.specs.declared.select.Place.{Place}
+use Rattle.wire_fields.specs.declared.select.Place.the-variants as Place
+
+-- one field was seen, of the right wire type
+unfoldable pub is-one : Seen → Bool
+is-one s = eqb (s .count) 1 && s .right
+
+-- a number of some width that has to be there
+unfoldable pub number : (ℕ → Bool) → Seen → Number
+number fits s = cond (is-one s && fits (s .value)) (Number.Is (s .value)) Number.Bad
+
+-- a number that may be absent, and is 0 then
+unfoldable pub optional-number : (ℕ → Bool) → Seen → Number
+optional-number fits s = cond (eqb (s .count) 0) (Number.Is 0) (number fits s)
+
+-- a part that has to be there
+unfoldable pub place : Seen → Place
+place s = cond (is-one s) (Place.Is (s .start) (s .next)) Place.Bad
+
+-- at most k fields, all of the right wire type: how many
+unfoldable pub at-most : ℕ → Seen → Number
+at-most k s = cond (leb (s .count) k && s .right) (Number.Is (s .count)) Number.Bad

@@ -1,0 +1,129 @@
+// The field whose tag stands at a place of a message. Its content is looked at as far as its wire type says, and not inside.
+use super::varint::Varint;
+use super::varint::varint_at;
+ghost use mathlib.Core.Path.{_≡_};
+ghost use Prim.Native.Nat.{_≤_};
+ghost use lib.ListN.{length};
+ghost use Rattle.wire.specs.Fields.{field, field-of, varint-field, delimited-field, fixed-field};
+ghost use Rattle.wire_fields.specs.Found.{found-field};
+
+// A field as the wire has it: its number and wire type, the number of a varint, and the places where its content begins and where
+// the next field does.
+pub struct Field {
+    pub number: u64,
+    pub wire: u64,
+    pub value: u64,
+    pub start: usize,
+    pub next: usize,
+}
+
+// A field; or none is there.
+pub enum FieldAt {
+    Is(Field),
+    Bad,
+}
+
+// Wire types.
+pub const VARINT: u64 = 0;
+
+const FIXED_64: u64 = 1;
+
+pub const DELIMITED: u64 = 2;
+
+const FIXED_32: u64 = 5;
+
+// A tag is number × 8 + wire type, the number from 1 to 2^29 - 1.
+const WIRE_TYPES: u64 = 8;
+
+const TAGS_END: u64 = 0x1_0000_0000;
+
+// A varint field whose number stands at a place.
+fn varint_field(m: &[u8], number: u64, at: usize) -> FieldAt
+    requires { ⌜ at ≤ length (now m) ⌝ }
+    ensures { λ r. ⌜ r ≡ found-field (varint-field (now (m .entry)) number at) ⌝ }
+{
+    let Varint::Read(value, next) = varint_at(m, at) else {
+        return FieldAt::Bad;
+    };
+    FieldAt::Is(Field {
+        number: number,
+        wire: VARINT,
+        value: value,
+        start: at,
+        next: next,
+    })
+}
+
+// A length-delimited field whose length stands at a place.
+fn delimited_field(m: &[u8], number: u64, at: usize) -> FieldAt
+    requires { ⌜ at ≤ length (now m) ⌝ }
+    ensures { λ r. ⌜ r ≡ found-field (delimited-field (now (m .entry)) number at) ⌝ }
+{
+    let Varint::Read(size, start) = varint_at(m, at) else {
+        return FieldAt::Bad;
+    };
+    if ((m.len() - start) as u64) < size {
+        return FieldAt::Bad;
+    }
+    FieldAt::Is(Field {
+        number: number,
+        wire: DELIMITED,
+        value: 0,
+        start: start,
+        next: start + size as usize,
+    })
+}
+
+// A field of a fixed width.
+fn fixed_field(m: &[u8], number: u64, wire: u64, width: usize, at: usize) -> FieldAt
+    requires { ⌜ at ≤ length (now m) ⌝ }
+    ensures { λ r. ⌜ r ≡ found-field (fixed-field (now (m .entry)) number wire width at) ⌝ }
+{
+    if m.len() - at < width {
+        return FieldAt::Bad;
+    }
+    FieldAt::Is(Field {
+        number: number,
+        wire: wire,
+        value: 0,
+        start: at,
+        next: at + width,
+    })
+}
+
+// What a wire type says, from a place on; groups and unknown types are no field.
+fn content_at(m: &[u8], number: u64, wire: u64, at: usize) -> FieldAt
+    requires { ⌜ at ≤ length (now m) ⌝ }
+    ensures { λ r. ⌜ r ≡ found-field (field-of (now (m .entry)) number wire at) ⌝ }
+{
+    if wire == VARINT {
+        return varint_field(m, number, at);
+    }
+    if wire == FIXED_64 {
+        return fixed_field(m, number, FIXED_64, 8, at);
+    }
+    if wire == DELIMITED {
+        return delimited_field(m, number, at);
+    }
+    if wire == FIXED_32 {
+        return fixed_field(m, number, FIXED_32, 4, at);
+    }
+    FieldAt::Bad
+}
+
+// The field whose tag stands at a place.
+pub fn field_at(m: &[u8], at: usize) -> FieldAt
+    requires { ⌜ at ≤ length (now m) ⌝ }
+    ensures { λ r. ⌜ r ≡ found-field (field (now (m .entry)) at) ⌝ }
+{
+    let Varint::Read(tag, after) = varint_at(m, at) else {
+        return FieldAt::Bad;
+    };
+    if tag < WIRE_TYPES {
+        return FieldAt::Bad;
+    }
+    if TAGS_END <= tag {
+        return FieldAt::Bad;
+    }
+    content_at(m, tag / WIRE_TYPES, tag % WIRE_TYPES, after)
+}
