@@ -1,18 +1,23 @@
 -- A field that was read lies inside the message and the next one begins behind its tag; and the fields from a place on are
 -- read field by field, whatever the fuel, as long as it is as many as the bytes left.
 use Prim.Native.Nat.{ℕ, zero, suc, _+_, _-_, _/_, _%_, _^_, _≤_, _<_}
-use mathlib.Core.Path.{_≡_, refl, sym, ap, _∙_}
+use mathlib.Core.Path.{_≡_, refl, sym, ap, _∙_, subst}
 use mathlib.Core.Bool.{_&&_}
-use mathlib.Core.List.{List, [], _∷_}
-use mathlib.Core.Option.{Option, some, Option·map, bind, map-eq-some-iff, bind-eq-some-iff}
+use mathlib.Core.List.{List, [], _∷_, List·Memᴰ, List·Memᴰ·head, List·Memᴰ·not-nil}
+use mathlib.Core.Option.{none, some, Option·map, bind, map-eq-some-iff, bind-eq-some-iff, Option·none-ne-some}
 use native.Mathlib.Omega.{arith}
 use lib.Dec.{eqb, leb, ltb}
 use lib.ListN.{length, drop, length-drop}
-use borrow.Author.Tests.{leb-true, leb-false, le-leb, lt-leb}
+use lib.Seq.{length-take-le}
+use borrow.Author.Tests.{leb-true, le-leb, lt-leb}
+use Rattle.rules.specs.Table.{keep, Every}
 use Rattle.rules.proofs.Table.{by-test}
-use Rattle.wire.specs.Varint.{Varint, varint}
+use Rattle.rules.proofs.Says.{every-cons}
+use Rattle.rules.proofs.Kept.Every.{kept-was}
+use Rattle.wire.specs.Varint.{varint}
 use Rattle.wire.specs.Fields.{Field, inside, varint-field, delimited-field, fixed-field, field-of, field, fields-from, fields, left}
-use Rattle.wire.proofs.Options.{bind-same, asked, answered}
+use Rattle.wire.specs.Select.{numbered, part, bytes-of}
+use Rattle.wire.proofs.Options.{bind-same, asked, answered, Gives, gives-some, gives-bind, gives-cond, gives-none}
 use Rattle.wire.proofs.Varint.{varint-bounds}
 
 -- ---- a field lies inside
@@ -116,3 +121,44 @@ left-step m at h =
     (bind-same (field m at) _ _
     (λ f e. let l = field-lies m at f e in
     ap (Option·map (λ (r : List Field). f ∷ r)) (fuel (length m - suc at) (length m - f .next) m (f .next) (omega arith) (omega arith))))
+
+-- ---- every field lies inside
+
+-- a field inside a message
+abbrev pub In : List ℕ → Field → Type 0
+In m f = (f .start ≤ f .next) × (f .next ≤ length m)
+
+-- every field from a place on lies inside
+from-lie : (k : ℕ) (m : List ℕ) (at : ℕ) → Gives (Every (In m)) (fields-from k m at)
+unfolding fields-from
+from-lie zero m at = gives-cond (Every (In m)) (leb (length m) at) (some []) none (gives-some _ [] (λ a h. absurd (List·Memᴰ·not-nil h))) (gives-none _)
+from-lie (suc k) m at =
+    gives-cond (Every (In m)) (leb (length m) at) (some []) _
+    (gives-some _ [] (λ a h. absurd (List·Memᴰ·not-nil h)))
+    (gives-bind (Every (In m)) (field m at) _
+    (λ f e l g.
+    let p = map-eq-some-iff (λ (r : List Field). f ∷ r) (fields-from k m (f .next)) .0 g in
+    let h = field-lies m at f e in
+    subst (Every (In m)) (p .2) (every-cons (h .1, h .2) (from-lie k m (f .next) (p .0) (p .1)))))
+
+-- every field of a message lies inside
+pub fields-lie : (m : List ℕ) (fs : List Field) → fields m ≡ some fs → Every (In m) fs
+unfolding fields
+fields-lie m = from-lie (length m) m 0
+
+-- a part is one of the fields
+part-member : (l : List Field) (f : Field) → part l ≡ some f → List·Memᴰ f l
+unfolding part
+part-member [] f e = absurd (Option·none-ne-some f e)
+part-member (g ∷ []) f e = List·Memᴰ·head (sym (answered (eqb (g .wire) 2) g e .1))
+part-member (g ∷ h ∷ l) f e = absurd (Option·none-ne-some f e)
+
+-- so does a part
+pub part-lies : (m : List ℕ) (fs : List Field) (n : ℕ) (f : Field) → fields m ≡ some fs → part (numbered n fs) ≡ some f → In m f
+unfolding numbered
+part-lies m fs n f e p =
+    fields-lie m fs e f (kept-was (λ (g : Field). eqb (g .number) n) fs f (part-member (keep (λ (g : Field). eqb (g .number) n) fs) f p))
+
+-- the bytes of a part are as many as from its start to the next field
+pub part-length : (m : List ℕ) (f : Field) → In m f → length (bytes-of m f) ≡ f .next - f .start
+part-length m f h = length-take-le (f .next - f .start) (drop (f .start) m) (rw length-drop (omega arith))

@@ -1,3 +1,12 @@
 pub mod Options
 pub mod Varint
 pub mod Fields
+pub mod Ids
+pub mod Commands
+pub mod Names
+pub mod Lists
+pub mod Written
+pub mod Laid
+pub mod Sizes
+pub mod RoundTrip
+pub mod Records

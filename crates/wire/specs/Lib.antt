@@ -5,3 +5,4 @@ pub mod Ids
 pub mod Commands
 pub mod Message
 pub mod Answers
+pub mod Promises

@@ -17,7 +17,7 @@ use Rattle.wire.specs.Fields.{Field, fields}
 use Rattle.wire.specs.Select.{numbered, required, optional, part, up-to}
 use Rattle.wire_fields.specs.Found.{as-field}
 use Rattle.wire_fields.specs.Picked.{nothing-seen, counted, seen-with, seen-after, picked-after, picked}
-use Rattle.wire_fields.specs.Selected.{is-one, number, optional-number, place, at-most}
+use Rattle.wire_fields.specs.Selected.{is-one, number, optional-number, place, at-most, found-number, found-place}
 use Rattle.wire_fields.specs.declared.pick.Wanted.{Wanted}
 use Rattle.wire_fields.specs.declared.pick.Seen.{Seen}
 use Rattle.wire_fields.specs.declared.pick.Picked.the-variants.{Fields, Bad}
@@ -151,18 +151,13 @@ walked-not m a b c e = go (fields m) e
 
 -- ---- selections
 
--- a number that is there or not, as the code has it
-unfoldable found-number : Option ℕ → Number
-found-number none = Number.Bad
-found-number (some v) = Number.Is v
-
 -- how the code's answer tells that of the wire
-told-is : (o : Option ℕ) (v : ℕ) → Number.Is v ≡ found-number o → o ≡ some v
+pub told-is : (o : Option ℕ) (v : ℕ) → Number.Is v ≡ found-number o → o ≡ some v
 unfolding found-number
 told-is none v e = let n : _≡_ {A = ℕ} 0 1 = cc in absurd (omega arith)
 told-is (some u) v e = let q : u ≡ v = cc in ap some q
 
-told-bad : (o : Option ℕ) → Number.Bad ≡ found-number o → o ≡ none
+pub told-bad : (o : Option ℕ) → Number.Bad ≡ found-number o → o ≡ none
 unfolding found-number
 told-bad none e = refl
 told-bad (some u) e = let n : _≡_ {A = ℕ} 0 1 = cc in absurd (omega arith)
@@ -171,7 +166,7 @@ told-bad (some u) e = let n : _≡_ {A = ℕ} 0 1 = cc in absurd (omega arith)
 not-one : (n : ℕ) → eqb (suc (suc n)) 1 ≡ false
 not-one n = ne-eqb (suc (suc n)) 1 (λ e. omega arith)
 
-number-law : (fits : ℕ → Bool) (l : List Field) (s : Seen) → Saw 0 l s → number fits s ≡ found-number (required fits l)
+pub number-law : (fits : ℕ → Bool) (l : List Field) (s : Seen) → Saw 0 l s → number fits s ≡ found-number (required fits l)
 unfolding number is-one required found-number all
 number-law fits [] s w = rw (w .count)
 number-law fits (f ∷ []) s w =
@@ -207,29 +202,29 @@ pub record PartAt (l : List Field) (start next : ℕ) : Type 0 where
   pub starts : f .start ≡ start
   pub ends : f .next ≡ next
 
+pub place-law : (l : List Field) (s : Seen) → Saw 2 l s → place s ≡ found-place (part l)
+unfolding place is-one part found-place all
+place-law [] s w = rw (w .count)
+place-law (f ∷ []) s w =
+    rw (w .count, w .right, w .single f refl .1, w .single f refl .2, and-true (eqb (f .wire) 2))
+    (by-test (eqb (f .wire) 2) (λ t. rw t) (λ t. rw t))
+place-law (f ∷ g ∷ l) s w = rw (w .count, not-one (length l))
+
 pub part-is : {l : List Field} {s : Seen} {start next : ℕ} → Saw 2 l s → Place.Is start next ≡ place s → PartAt l start next
-unfolding place is-one part all
-part-is {l = []} {s = s} w e =
-    let z : Place.Is _ _ ≡ Place.Bad = rw (w .count) at e in let n : _≡_ {A = ℕ} 0 1 = cc in absurd (omega arith)
-part-is {l = f ∷ []} {s = s} {start = start} {next = next} w e =
-    by-test (eqb (f .wire) 2)
-    (λ t.
-    let z : Place.Is start next ≡ Place.Is (s .start) (s .next) = rw (w .count, w .right, t) at e in
-    let i : f .start ≡ start = sym (w .single f refl .1) ∙ cc in
-    let j : f .next ≡ next = sym (w .single f refl .2) ∙ cc in
-    record { f = f; is = rw t; starts = i; ends = j })
-    (λ t. let z : Place.Is start next ≡ Place.Bad = rw (w .count, w .right, t) at e in let n : _≡_ {A = ℕ} 0 1 = cc in absurd (omega arith))
-part-is {l = f ∷ g ∷ l} {s = s} {start = start} {next = next} w e =
-    let z : Place.Is start next ≡ Place.Bad = rw (w .count, not-one (length l)) at e in let n : _≡_ {A = ℕ} 0 1 = cc in absurd (omega arith)
+unfolding found-place
+part-is {l = l} {s = s} {start = start} {next = next} w e = go (part l) refl (e ∙ place-law l s w)
+  where
+    go : (o : Option Field) → part l ≡ o → Place.Is start next ≡ found-place o → PartAt l start next
+    go none p q = let n : _≡_ {A = ℕ} 0 1 = cc in absurd (omega arith)
+    go (some f) p q = record { f = f; is = p; starts = cc; ends = cc }
 
 pub part-bad : {l : List Field} {s : Seen} → Saw 2 l s → Place.Bad ≡ place s → part l ≡ none
-unfolding place is-one part all
-part-bad {l = []} {s = s} w e = refl
-part-bad {l = f ∷ []} {s = s} w e =
-    by-test (eqb (f .wire) 2)
-    (λ t. let z : Place.Bad ≡ Place.Is (s .start) (s .next) = rw (w .count, w .right, t) at e in let n : _≡_ {A = ℕ} 0 1 = cc in absurd (omega arith))
-    (λ t. rw t)
-part-bad {l = f ∷ g ∷ l} {s = s} w e = refl
+unfolding found-place
+part-bad {l = l} {s = s} w e = go (part l) (e ∙ place-law l s w)
+  where
+    go : (o : Option Field) → Place.Bad ≡ found-place o → o ≡ none
+    go none q = refl
+    go (some f) q = let n : _≡_ {A = ℕ} 0 1 = cc in absurd (omega arith)
 
 -- at most k fields, all of a wire type
 several-law : (k wire : ℕ) (l : List Field) (s : Seen) → Saw wire l s

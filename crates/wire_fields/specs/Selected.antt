@@ -2,7 +2,9 @@
 -- wire over the fields of that number.
 use Prim.Native.Nat.{ℕ}
 use mathlib.Core.Bool.{Bool, cond, _&&_}
+use mathlib.Core.Option.{Option, none, some}
 use lib.Dec.{eqb, leb}
+use Rattle.wire.specs.Fields.{Field}
 use Rattle.wire_fields.specs.declared.pick.Seen.{Seen}
 use Rattle.wire_fields.specs.declared.select.Number.{Number}
 use Rattle.wire_fields.specs.declared.select.Number.the-variants as Number
@@ -28,3 +30,13 @@ place s = cond (is-one s) (Place.Is (s .start) (s .next)) Place.Bad
 -- at most k fields, all of the right wire type: how many
 unfoldable pub at-most : ℕ → Seen → Number
 at-most k s = cond (leb (s .count) k && s .right) (Number.Is (s .count)) Number.Bad
+
+-- a number that is there or not, as the code has it
+unfoldable pub found-number : Option ℕ → Number
+found-number none = Number.Bad
+found-number (some v) = Number.Is v
+
+-- the place of a part that is there or not
+unfoldable pub found-place : Option Field → Place
+found-place none = Place.Bad
+found-place (some f) = Place.Is (f .start) (f .next)
