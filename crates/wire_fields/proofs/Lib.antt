@@ -4,3 +4,4 @@ pub mod FieldsRead
 pub mod Walks
 pub mod Answers
 pub mod Selections
+pub mod Laying

@@ -2,3 +2,4 @@
 pub mod Found
 pub mod Picked
 pub mod Selected
+pub mod Values
