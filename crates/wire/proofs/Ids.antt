@@ -36,7 +36,7 @@ abbrev pub Short : Group → Type 0
 Short g = length (g .words) ≤ 16
 
 -- an id that was read has at most 16 words
-group-short : (m : List ℕ) → Gives Short (group-of m)
+pub group-short : (m : List ℕ) → Gives Short (group-of m)
 unfolding group-of
 group-short m =
     gives-bind Short _ _ (λ fs _. gives-bind Short _ _ (λ id _. gives-bind Short _ _ (λ words e.

@@ -1,4 +1,5 @@
--- Numbers laid into a list field by field: what the loop of `lay.rt` turns on. Laying what is left from here on is laying all.
+-- Words laid into a list field by field: what the loop of `lay.rt` turns on, and others like it. Laying what is left from here on
+-- is laying all.
 use Prim.Native.Nat.{ℕ, _+_, _<_, _≤_}
 use mathlib.Core.Path.{_≡_, refl, sym, ap, _∙_}
 use mathlib.Core.List.{List, [], _∷_, _++_, map}
@@ -56,13 +57,74 @@ pub formed-end : (m : List ℕ) (at : ℕ) → length m ≤ at → left-of m at 
 unfolding left-of or-else
 formed-end m at h = rw (left-end m at h)
 
+-- ---- words laid for each field
+
+-- the words of some fields, one after the other, for what is laid for one
+unfoldable pub laid : (wire.Field → List ℕ) → List wire.Field → List ℕ
+laid p [] = []
+laid p (f ∷ fs) = p f ++ laid p fs
+
+-- a list and a place so far, in laying for each field of a message into a list from a place on
+pub record Laying (p : wire.Field → List ℕ) (m list : List ℕ) (to at : ℕ) (here : List ℕ) (next : ℕ) : Type 0 where
+  pub inside : at ≤ length m
+  pub formed : Formed m at
+  pub size : length here ≡ length list
+  pub room : next + length (laid p (left-of m at)) ≤ length here
+  pub rest : lay (laid p (all-of m)) .run to list ≡ lay (laid p (left-of m at)) .run next here
+
+module _ (p : wire.Field → List ℕ) (m list : List ℕ) (to : ℕ) where
+  pub laying-start : fields m ≡ some (all-of m) → to + length (laid p (all-of m)) ≤ length list → Laying p m list to 0 list to
+  laying-start e r =
+      let q = formed-start m e in
+      record { inside = omega arith; formed = q .0; size = refl; room = rw (q .1) r; rest = rw (q .1) }
+
+  module _ {at next : ℕ} {here : List ℕ} (l : Laying p m list to at here next) where
+    pub laying-end : length m ≤ at → here ≡ lay (laid p (all-of m)) .run to list
+    unfolding laid lay
+    laying-end h = sym (l .rest ∙ rw (formed-end m at h))
+
+    module _ (f : Field) (h : at < length m) (w : Stands m at f) where
+      -- what is left begins with the field's words
+      now-left : laid p (left-of m at) ≡ p (w .g) ++ laid p (left-of m (f .next))
+      unfolding laid
+      now-left = ap (laid p) (formed-on m at f h w (l .formed) .1)
+
+      -- how many they are
+      now-length : length (laid p (left-of m at)) ≡ length (p (w .g)) + length (laid p (left-of m (f .next)))
+      now-length = ap length now-left ∙ length-append (p (w .g)) (laid p (left-of m (f .next)))
+
+      -- there is room for them
+      pub laying-room : next + length (p (w .g)) ≤ length here
+      laying-room = omega (arith, now-length, l .room)
+
+      pub laying-on : (after : List ℕ) (further : ℕ) → Laid here next (p (w .g)) after further → Laying p m list to (f .next) after further
+      laying-on after further d =
+          let s : length after ≡ length here = rw (d .is) (lay (p (w .g)) .even next here) in
+          record {
+            inside = w .ends;
+            formed = formed-on m at f h w (l .formed) .0;
+            size = s ∙ l .size;
+            room = omega (arith, now-length, l .room, d .ends);
+            rest =
+                l .rest ∙ ap (λ (vs : List ℕ). lay vs .run next here) now-left
+                ∙ lay-append (p (w .g)) (laid p (left-of m (f .next))) next here
+                ∙ rw (d .is, d .ends);
+          }
+
 -- ---- numbers laid
 
--- the number of a field, then those of the others
-pub values-on : (number : ℕ) (g : wire.Field) (fs : List wire.Field)
-    → values number (g ∷ fs) ≡ one-value number (as-field g) ++ values number fs
-unfolding values one-value numbered keep as-field
-values-on number g fs = by-test (eqb (g .number) number) (λ t. rw t) (λ t. rw t)
+-- what is laid for a field: its number if it is of the number
+abbrev pub number-of : ℕ → wire.Field → List ℕ
+number-of number g = one-value number (as-field g)
+
+-- so the numbers of the fields of a number are laid
+pub numbers-laid : (number : ℕ) (fs : List wire.Field) → laid (number-of number) fs ≡ values number fs
+unfolding laid values one-value numbered keep as-field
+numbers-laid number [] = refl
+numbers-laid number (f ∷ fs) =
+    by-test (eqb (f .number) number)
+    (λ t. rw t (ap (λ (l : List ℕ). f .value ∷ l) (numbers-laid number fs)))
+    (λ t. rw t (numbers-laid number fs))
 
 -- the number of one field laid, or none
 pub lays-none : (number : ℕ) (f : Field) (list : List ℕ) (to : ℕ) → (f .number ≡ number → ⊥) → Laid list to (one-value number f) list to
@@ -77,52 +139,3 @@ pub lays-one : (number : ℕ) (f : Field) (list : List ℕ) (to : ℕ) → f .nu
     → Laid list to (one-value number f) (set list to (f .value)) (to + 1)
 unfolding lay
 lays-one number f list to e = rw (one-there number f e) (record { is = refl; ends = refl })
-
--- a list and a place so far, in laying the numbers of a message from a place on into a list
-pub record Laying (m : List ℕ) (number : ℕ) (list : List ℕ) (to at : ℕ) (now-list : List ℕ) (next : ℕ) : Type 0 where
-  pub inside : at ≤ length m
-  pub formed : Formed m at
-  pub size : length now-list ≡ length list
-  pub room : next + length (values number (left-of m at)) ≤ length now-list
-  pub rest : lay (values-of m number) .run to list ≡ lay (values number (left-of m at)) .run next now-list
-
-module _ (m : List ℕ) (number : ℕ) (list : List ℕ) (to : ℕ) where
-  pub laying-start : Ready m number (length list) to → Laying m number list to 0 list to
-  unfolding values-of
-  laying-start r =
-      let p = formed-start m (r .formed) in
-      record { inside = omega arith; formed = p .0; size = refl; room = rw (p .1) (r .room); rest = rw (p .1) }
-
-  module _ {at next : ℕ} {here : List ℕ} (l : Laying m number list to at here next) where
-    pub laying-end : length m ≤ at → here ≡ lay (values-of m number) .run to list
-    unfolding values numbered keep lay
-    laying-end h = sym (l .rest ∙ rw (formed-end m at h))
-
-    module _ (f : Field) (h : at < length m) (w : Stands m at f) where
-      -- what is left begins with the field's number
-      now-values : values number (left-of m at) ≡ one-value number f ++ values number (left-of m (f .next))
-      now-values =
-          ap (values number) (formed-on m at f h w (l .formed) .1)
-          ∙ values-on number (w .g) (left-of m (f .next))
-          ∙ ap (λ (k : Field). one-value number k ++ values number (left-of m (f .next))) (sym (w .same))
-
-      -- there is room for it
-      pub laying-room : next + length (one-value number f) ≤ length here
-      laying-room =
-          let e = ap length now-values ∙ length-append (one-value number f) (values number (left-of m (f .next))) in omega (arith, l .room)
-
-      pub laying-on : (after : List ℕ) (further : ℕ) → Laid here next (one-value number f) after further
-          → Laying m number list to (f .next) after further
-      laying-on after further d =
-          let e = ap length now-values ∙ length-append (one-value number f) (values number (left-of m (f .next))) in
-          let s : length after ≡ length here = rw (d .is) (lay (one-value number f) .even next here) in
-          record {
-            inside = w .ends;
-            formed = formed-on m at f h w (l .formed) .0;
-            size = s ∙ l .size;
-            room = omega (arith, l .room, d .ends);
-            rest =
-                l .rest ∙ ap (λ (vs : List ℕ). lay vs .run next here) now-values
-                ∙ lay-append (one-value number f) (values number (left-of m (f .next))) next here
-                ∙ rw (d .is, d .ends);
-          }

@@ -39,11 +39,11 @@ pub record Saw (wire : ℕ) (l : List Field) (s : Seen) : Type 0 where
   pub single : (f : Field) → l ≡ f ∷ [] → (s .value ≡ f .value) × (s .start ≡ f .start) × (s .next ≡ f .next)
 
 -- the fields of a number, one field after another
-numbered-in : (n : ℕ) (f : Field) (fs : List Field) → eqb (f .number) n ≡ true → numbered n (f ∷ fs) ≡ f ∷ numbered n fs
+pub numbered-in : (n : ℕ) (f : Field) (fs : List Field) → eqb (f .number) n ≡ true → numbered n (f ∷ fs) ≡ f ∷ numbered n fs
 unfolding numbered keep
 numbered-in n f fs t = rw t
 
-numbered-out : (n : ℕ) (f : Field) (fs : List Field) → eqb (f .number) n ≡ false → numbered n (f ∷ fs) ≡ numbered n fs
+pub numbered-out : (n : ℕ) (f : Field) (fs : List Field) → eqb (f .number) n ≡ false → numbered n (f ∷ fs) ≡ numbered n fs
 unfolding numbered keep
 numbered-out n f fs t = rw t
 

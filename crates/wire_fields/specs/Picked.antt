@@ -15,6 +15,13 @@ use Rattle.wire_fields.specs.declared.pick.Seen.{Seen}
 use Rattle.wire_fields.specs.declared.pick.Picked.{Picked}
 use Rattle.wire_fields.specs.declared.pick.Picked.the-variants.{Fields, Bad}
 
+-- a number of the wire that is read as a varint, or as a part
+abbrev pub varint-of : ℕ → Wanted
+varint-of n = record { number = n; wire = 0 }
+
+abbrev pub part-of : ℕ → Wanted
+part-of n = record { number = n; wire = 2 }
+
 -- nothing was seen yet
 abbrev pub nothing-seen : Seen
 nothing-seen = record { count = 0; right = true; value = 0; start = 0; next = 0 }

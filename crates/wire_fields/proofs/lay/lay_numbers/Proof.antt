@@ -5,13 +5,14 @@ use mathlib.Core.Path.{sym, _∙_}
 use native.Mathlib.Omega.{arith}
 use lib.ListN.{length}
 use borrow.Author.Needs.{needs}
+use Rattle.wire_fields.specs.Values.{all-of, values-of}
 use Rattle.wire_fields.proofs.Walks.{Stands, stands, stands-not}
-use Rattle.wire_fields.proofs.Laying.{Laying, laying-start, laying-end, laying-room, laying-on, formed-not-bad}
+use Rattle.wire_fields.proofs.Laying.{Laying, laying-start, laying-end, laying-room, laying-on, formed-not-bad, number-of, numbers-laid}
 use Rattle.wire_fields.proofs.lay.lay_numbers.Statement.{statement}
 use Rattle.wire_fields.proofs.lay.lay_numbers.Tie as tie
 
 abbrev Inv-loop : tie.InvT-loop
-Inv-loop m number list₀ to at₀ next₀ list at next = Laying m number list₀ to at list next
+Inv-loop m number list₀ to at₀ next₀ list at next = Laying (number-of number) m list₀ to at list next
 
 abbrev μ-loop : tie.MeasureT-loop
 μ-loop m number list₀ to at₀ next₀ list at next = length m - at
@@ -35,7 +36,12 @@ field : (c : tie.After-f Inv-loop μ-loop)
 field c = stands _ _ _ (sym (c .f .given .1) ∙ c .before .before .field-at .ensures)
 
 loop-holds : tie.Need-loop-holds Inv-loop μ-loop
-loop-holds c = laying-start _ _ _ _ (c .before .before .pre)
+unfolding values-of
+loop-holds c =
+    let e = c .before .before in
+    let a = e .args in
+    let l = numbers-laid (a .number) (all-of (a .m .now)) in
+    laying-start (number-of (a .number)) _ _ _ (e .pre .formed) (rw l (e .pre .room))
 
 field-at-requires : tie.Need-field-at-requires Inv-loop μ-loop
 field-at-requires c κs = c .before .loop .inv .inside
@@ -56,7 +62,8 @@ returns c =
 
 lay-number-requires : tie.Need-lay-number-requires Inv-loop μ-loop
 lay-number-requires c κs =
-    let f = c .before .before in laying-room _ _ _ _ (at-loop-before-f f .loop .inv) _ (omega arith) (field f)
+    let f = c .before .before in
+    rw (field f .same) (laying-room _ _ _ _ (at-loop-before-f f .loop .inv) _ (omega arith) (field f))
 
 loop-less : tie.Need-loop-less Inv-loop μ-loop
 loop-less c = let f = field (f-before-known2 c) in omega (arith, f .more, f .ends)
@@ -64,13 +71,17 @@ loop-less c = let f = field (f-before-known2 c) in omega (arith, f .more, f .end
 loop-again : tie.Need-loop-again Inv-loop μ-loop
 loop-again c =
     let f = f-before-known2 c in
-    laying-on _ _ _ _ (at-loop-before-f f .loop .inv) _ (omega arith) (field f) _ _ (c .before .before .lay-number .ensures)
+    laying-on _ _ _ _ (at-loop-before-f f .loop .inv) _ (omega arith) (field f) _ _
+    (rw (field f .same) at (c .before .before .lay-number .ensures))
 
 same-length-2 : tie.Need-same-length-2 Inv-loop μ-loop
 same-length-2 c = search needs
 
 returns-2 : tie.Need-returns-2 Inv-loop μ-loop
-returns-2 c = laying-end _ _ _ _ (c .before .loop .inv) (omega arith)
+unfolding values-of
+returns-2 c =
+    let a = entry-before-loop (c .before) .args in
+    laying-end _ _ _ _ (c .before .loop .inv) (omega arith) ∙ rw (numbers-laid (a .number) (all-of (a .m .now)))
 
 pub lay-numbers-spec : {M : Type 1} → statement M
 lay-numbers-spec =

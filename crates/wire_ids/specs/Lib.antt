@@ -1,0 +1,3 @@
+-- What the code of this crate means, by the definitions of the wire.
+pub mod Sizes
+pub mod Groups
