@@ -10,3 +10,4 @@ pub mod Laid
 pub mod Sizes
 pub mod RoundTrip
 pub mod Records
+pub mod Readings

@@ -6,3 +6,4 @@ pub mod Commands
 pub mod Message
 pub mod Answers
 pub mod Promises
+pub mod Readings
