@@ -174,3 +174,11 @@ sum-fits value size d s few l =
     let t : d * 2 ^ (7 * size) ≤ 127 * 2 ^ (7 * size) = mul-le-mul-right (2 ^ (7 * size)) (omega arith) in
     let u : 7 * (size + 1) ≤ 63 = omega arith in
     rw (moved size d few l) (omega (arith, next-place size, pow-mono u))
+
+-- ---- a varint of one byte
+
+pub one-byte : (m : List ℕ) (at b : ℕ) → at < length m → b ≡ getD m at 0 → b < 128 → Read b (at + 1) ≡ varint-at m at
+unfolding varint-within
+one-byte m at b h e l =
+    let w : varint-within 10 (drop at m) ≡ some (record { value = b; size = 1 }) = within-step 9 m at h ∙ rw (← e, lt-ltb b 128 l) in
+    sym (at-place m at w ∙ taken at b 1 (omega arith))

@@ -24,8 +24,23 @@ fn wide(x: u8) -> u64
     x as u64
 }
 
-// The varint at a place.
+// The varint at a place. Most have one byte, which is read without the loop.
 pub fn varint_at(m: &[u8], at: usize) -> Varint
+    requires { ⌜ at ≤ length (now m) ⌝ }
+    ensures { λ r. ⌜ r ≡ varint-at (now (m .entry)) at ⌝ }
+{
+    if m.len() <= at {
+        return Varint::Bad;
+    }
+    let b = wide(m[at]);
+    if b < MORE {
+        return Varint::Read(b, at + 1);
+    }
+    varint_of_any_size(m, at)
+}
+
+// The varint at a place, byte by byte.
+fn varint_of_any_size(m: &[u8], at: usize) -> Varint
     requires { ⌜ at ≤ length (now m) ⌝ }
     ensures { λ r. ⌜ r ≡ varint-at (now (m .entry)) at ⌝ }
 {

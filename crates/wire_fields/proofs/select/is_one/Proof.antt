@@ -6,11 +6,11 @@ use Rattle.wire_fields.proofs.select.is_one.Tie as tie
 
 returns : tie.Need-returns
 unfolding is-one
-returns c = rw (ne-eqb _ _ (c .if1 .taken))
+returns c = rw (ne-eqb (c .before .before .args .s .count) 1 (c .if1 .taken))
 
 returns-2 : tie.Need-returns-2
 unfolding is-one
-returns-2 c = rw (eq-eqb _ _ (c .if1 .left))
+returns-2 c = rw (eq-eqb (c .before .before .args .s .count) 1 (c .if1 .left))
 
 pub is-one-spec : {M : Type 1} → statement M
 is-one-spec = tie.close (tie.spec returns returns-2)
