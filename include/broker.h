@@ -6,15 +6,16 @@
  * value * 256 + number, where the number is 0 when the call is done and else says why it was refused.
  * A refused call has changed no word of the store and of the list. A refusal's value is 0, save that
  * of BROKER_LIST_SHORT. The first refusal that applies, in the order given at each call, is returned.
+ * Three calls at the end take no store: they read and write commands as bytes, with answers of the same form.
  *
- * Every call but broker_open first checks that the words spell a state, and returns 1 if they do not;
- * it takes any words whatever. Words past BROKER_NEEDED(E) are never read or written.
+ * Every call on a store but broker_open first checks that the words spell a state, and returns 1 if they do
+ * not; it takes any words whatever. Words past BROKER_NEEDED(E) are never read or written.
  *
  * The caller's part:
- *  - A pointer is to as many words as the length says, aligned for uint64_t. With length 0 it is never
- *    read or written through and may be NULL: an empty list, or a store of no words.
- *  - The slices of one call (the store and the list) do not overlap.
- *  - Nobody else writes the store or the list during a call, nor reads a slice that the call writes.
+ *  - A pointer is to as many words as the length says, aligned for uint64_t, or to as many bytes. With length 0
+ *    it is never read or written through and may be NULL: an empty list, a store of no words, an empty input.
+ *  - The slices of one call (the store, the list, bytes and words lent) do not overlap.
+ *  - Nobody else writes a slice of a call during it, nor reads one that the call writes.
  * The library keeps nothing between calls: several stores may be used at once, each by one call at a time.
  */
 #ifndef BROKER_H
@@ -53,6 +54,8 @@ extern "C" {
 #define BROKER_DISPATCHERS_FULL 13 /* a new shared subscription, and there are 8 */
 #define BROKER_RING_FULL 14       /* the shared subscription's ring has 32 ids */
 #define BROKER_LIST_SHORT 15      /* more dispatches are due than the list holds; the value is how many */
+#define BROKER_NOT_WELL_FORMED 16 /* the bytes are no command, or what is lent or to be written is not fit */
+#define BROKER_OTHER_TYPE 17      /* a command of a type that this reader does not take */
 
 /* The limits. */
 #define BROKER_MAX_ENTRIES 4096
@@ -127,6 +130,68 @@ uint64_t broker_close(uint64_t *store, size_t n, uint64_t consumer);
  * behind the records written stay as they were. Refused by 1, 15. Value: the dispatches made; with 15 the
  * number due, for which the list needs that many records. */
 uint64_t broker_push(uint64_t *store, size_t n, uint64_t *list, size_t m);
+
+/* ---- Commands as bytes ----
+ *
+ * The bytes are a BaseCommand of Pulsar without the sizes before it; metadata, payload and checksum stay with
+ * the caller. Unknown fields and other types' messages are skipped. 16: the bytes are not well formed, a
+ * required field is absent, a field read stands twice or has another wire type or a number too wide for it, a
+ * group occurs, a list has more than 64 ids or 16 words of an id, the lent list is under
+ * BROKER_COMMAND_LIST words. 17: else, if the type is none that the reader takes. Such a call has changed
+ * nothing.
+ *
+ * What each command puts into the 8 words of `command`; words not named are 0:
+ *
+ *   type       answer       0         1        2            3            4           5             6
+ *   Subscribe   4 * 256     consumer  request  kind         topic start  topic size  subscription  its size
+ *   Ack        10 * 256     consumer           list words
+ *   Flow       11 * 256     consumer           permits
+ *   Close      16 * 256     consumer  request
+ *   Redeliver  20 * 256     consumer           list words
+ *   Seek       28 * 256     consumer  request  target       ledger       entry
+ *
+ * Kind is BROKER_SHARED for the sub type Shared and BROKER_PLAIN for every other; target is BROKER_ID with an id,
+ * else BROKER_START. Start and size are in bytes of the input; the names are not tested as UTF-8. List words
+ * is how many words of the list the ids have taken, from its first on: groups as broker_ack and
+ * broker_redeliver take them. What follows in the list stays as it was.
+ */
+#define BROKER_TYPE_SUBSCRIBE 4
+#define BROKER_TYPE_ACK 10
+#define BROKER_TYPE_FLOW 11
+#define BROKER_TYPE_CLOSE 16
+#define BROKER_TYPE_REDELIVER 20
+#define BROKER_TYPE_SEEK 28
+
+#define BROKER_COMMAND_WORDS 8
+#define BROKER_COMMAND_LIST 1216 /* the words that a list has at least: 64 ids with 16 words each */
+#define BROKER_COMMAND_CONSUMER 0
+#define BROKER_COMMAND_REQUEST 1
+#define BROKER_COMMAND_KIND 2              /* Subscribe */
+#define BROKER_COMMAND_TOPIC 3
+#define BROKER_COMMAND_TOPIC_SIZE 4
+#define BROKER_COMMAND_SUBSCRIPTION 5
+#define BROKER_COMMAND_SUBSCRIPTION_SIZE 6
+#define BROKER_COMMAND_PERMITS 2           /* Flow */
+#define BROKER_COMMAND_LIST_WORDS 2        /* Ack, Redeliver */
+#define BROKER_COMMAND_TARGET 2            /* Seek */
+#define BROKER_COMMAND_LEDGER 3
+#define BROKER_COMMAND_ENTRY 4
+#define BROKER_MESSAGE_BYTES 256 /* the bytes that a buffer has at least; the largest Message takes 114 */
+
+/* Reads a Subscribe, Flow, Ack, Seek, RedeliverUnacknowledgedMessages or CloseConsumer of n bytes. Refused by
+ * 16, 17. Value: the type. */
+uint64_t broker_read_command(const uint8_t *bytes, size_t n, uint64_t *list, size_t m,
+                             uint64_t command[BROKER_COMMAND_WORDS]);
+
+/* Reads a Message of n bytes into a record as push writes it; handle, cost and permits, which are not on the
+ * wire, are 0. More than 4 ack-set words or a batch size below 0 are 16. Refused by 16, 17. Value 0. */
+uint64_t broker_read_message(const uint8_t *bytes, size_t n, uint64_t record[BROKER_RECORD_WORDS]);
+
+/* Writes a record of push as the bytes of a Message, fields in ascending order, numbers as short as they go;
+ * handle, cost, permits and words past the count are ignored. Refused by 16: a buffer under
+ * BROKER_MESSAGE_BYTES, a count over 4, a batch size over 256, a redelivery count over 32 bits. Value: the
+ * bytes written; what follows in the buffer stays as it was. */
+uint64_t broker_write_message(const uint64_t record[BROKER_RECORD_WORDS], uint8_t *buffer, size_t n);
 
 #ifdef __cplusplus
 }

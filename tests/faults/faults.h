@@ -128,6 +128,14 @@ void push_lists(void);
 /* NULL with length 0 for every slice of every export. */
 void null_slices(void);
 
+/* ---- wire.c ---- */
+
+extern unsigned long bytes_read, bytes_16, bytes_17;
+
+/* Commands as bytes: the limits of the three calls, and every cut and changed byte of good commands. */
+void wire_limits(void);
+void wire_damage(void);
+
 /* ---- soak.c ---- */
 
 extern uint64_t seed;

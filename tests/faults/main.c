@@ -87,6 +87,16 @@ int main(int argc, char **argv)
     outside_order();
     ended("ids out of order, or one of them twice");
 
+    begin("commands as bytes");
+    wire_limits();
+    ended("each number at its limit and one past it");
+
+    begin("damaged bytes");
+    wire_damage();
+    snprintf(text, sizeof text, "each cut and each byte changed to every other: %lu read, %lu refused by 16, %lu by 17",
+             bytes_read, bytes_16, bytes_17);
+    ended(text);
+
     begin("soak");
     soak(wanted);
     snprintf(text, sizeof text, "at random: %lu damaged stores, %lu refused by 1, %lu other states", damaged,

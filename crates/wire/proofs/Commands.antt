@@ -35,7 +35,7 @@ taken-read true o a e = (refl, e)
 taken-read false o a e = let z : _≡_ {A = ℕ} 0 1 = cc in absurd (omega arith)
 
 -- the message of a type lies inside the input
-message-lies : (m : List ℕ) (type : ℕ) → Gives (In m) (message-of m type)
+pub message-lies : (m : List ℕ) (type : ℕ) → Gives (In m) (message-of m type)
 unfolding message-of
 message-lies m type = gives-bind (In m) _ _ (λ fs e f p. part-lies m fs type f e p)
 

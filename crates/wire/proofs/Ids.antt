@@ -25,7 +25,7 @@ up-to-length k wire fs gs e =
     rw (← (p .1)) (leb-true (length fs) k (q .0))
 
 -- so are repeated numbers
-numbers-length : (k : ℕ) (fs : List Field) (words : List ℕ) → numbers k fs ≡ some words → length words ≤ k
+pub numbers-length : (k : ℕ) (fs : List Field) (words : List ℕ) → numbers k fs ≡ some words → length words ≤ k
 unfolding numbers
 numbers-length k fs words e =
     let p = map-eq-some-iff (map (λ (f : Field). f .value)) (up-to k 0 fs) .0 e in

@@ -6,13 +6,14 @@ use mathlib.Core.List.{List}
 use mathlib.Core.Option.{Option, none, some, bind}
 use native.Mathlib.Omega.{arith}
 use lib.Dec.{eqb, leb, ltb}
-use lib.ListN.{length, drop, length-drop}
-use borrow.Author.Tests.{lt-ltb, le-ltb, le-leb, lt-leb}
+use lib.ListN.{length, getD, drop, length-drop}
+use borrow.Author.Tests.{lt-ltb, le-ltb, le-leb, lt-leb, eq-eqb, ne-eqb}
 use Rattle.wire.specs.Varint.{varint}
 use Rattle.wire.specs.Varint as wire
 use Rattle.wire.specs.Fields.{field, field-of, varint-field, delimited-field, fixed-field, inside}
 use Rattle.wire.proofs.Varint.{varint-bounds}
-use Rattle.wire_fields.specs.Found.{found-varint, varint-at, as-field, found-field}
+use Rattle.wire_fields.specs.Found.{found-varint, varint-at, as-field, found-field, TwoBytes}
+use Rattle.wire_fields.proofs.Varints.{one-byte}
 use Rattle.wire_fields.specs.declared.varint.Varint.{Varint}
 use Rattle.wire_fields.specs.declared.varint.Varint.the-variants.{Read, Bad}
 use Rattle.wire_fields.specs.declared.field.Field.{Field}
@@ -116,3 +117,47 @@ module _ (m : List ℕ) (at tag after : ℕ) (w : Was m at tag after) where
   pub number-right : 8 ≤ tag → tag < 2 ^ 32 → found-field (field-of m (tag / 8) (tag % 8) after) ≡ found-field (field m at)
   unfolding field bind
   number-right l g = rw (w .is, le-leb 8 tag l, lt-ltb tag (2 ^ 32) g, w .place)
+
+-- ---- a field of two bytes
+
+-- a varint of one byte
+one-byte-was : (m : List ℕ) (at b : ℕ) → at < length m → b ≡ getD m at 0 → b < 128 → Was m at b (at + 1)
+one-byte-was m at b h e l = was-read m at (omega arith) b (at + 1) (one-byte m at b h e l)
+
+module _ {m : List ℕ} {at tag b : ℕ} (t : TwoBytes m at tag b) where
+  -- the tag was read, and what follows it
+  tag-was : Was m at tag (at + 1)
+  tag-was = one-byte-was m at tag (omega (arith, t .inside)) (t .is-tag) (t .short-tag)
+
+  b-was : Was m (at + 1) b (at + 2)
+  b-was =
+      let e : at + 1 + 1 ≡ at + 2 = omega arith in
+      rw e at (one-byte-was m (at + 1) b (omega (arith, t .inside)) (t .is-b) (t .short-b))
+
+  -- so the field is what the wire type says of them
+  by-wire : found-field (field-of m (tag / 8) (tag % 8) (at + 1)) ≡ found-field (field m at)
+  by-wire = number-right m at tag (at + 1) tag-was (t .high) (omega (arith, t .short-tag))
+
+  pub two-bytes-varint : tag % 8 ≡ 0
+      → FieldAt.Is (record { number = tag / 8; wire = 0; value = b; start = at + 1; next = at + 2 }) ≡ found-field (field m at)
+  unfolding field-of
+  two-bytes-varint e = is-varint-field m (tag / 8) (at + 1) b (at + 2) b-was ∙ rw (eq-eqb (tag % 8) 0 e) at by-wire
+
+  -- the length is that of a part
+  delimited : tag % 8 ≡ 2 → found-field (delimited-field m (tag / 8) (at + 1)) ≡ found-field (field m at)
+  unfolding field-of
+  delimited e =
+      let x : eqb (tag % 8) 0 ≡ false = ne-eqb (tag % 8) 0 (λ z. omega arith) in
+      let y : eqb (tag % 8) 1 ≡ false = ne-eqb (tag % 8) 1 (λ z. omega arith) in
+      rw (x, y, eq-eqb (tag % 8) 2 e) at by-wire
+
+  pub two-bytes-past : tag % 8 ≡ 2 → length m - (at + 2) < b → FieldAt.Bad ≡ found-field (field m at)
+  two-bytes-past e l = past-the-end m (tag / 8) (at + 1) b (at + 2) b-was l ∙ delimited e
+
+  pub two-bytes-part : tag % 8 ≡ 2 → b ≤ length m - (at + 2)
+      → FieldAt.Is (record { number = tag / 8; wire = 2; value = 0; start = at + 2; next = at + 2 + b }) ≡ found-field (field m at)
+  two-bytes-part e l = is-delimited-field m (tag / 8) (at + 1) b (at + 2) b-was l ∙ delimited e
+
+-- a tag of one byte below 8
+pub low-tag : (m : List ℕ) (at tag : ℕ) → at < length m → tag ≡ getD m at 0 → tag < 8 → FieldAt.Bad ≡ found-field (field m at)
+low-tag m at tag h e l = number-0 m at tag (at + 1) (one-byte-was m at tag h e (omega arith)) l

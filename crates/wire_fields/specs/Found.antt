@@ -3,7 +3,7 @@ use Prim.Native.Nat.{ℕ, _+_, _-_, _*_, _^_, _<_, _≤_}
 use mathlib.Core.Path.{_≡_}
 use mathlib.Core.List.{List}
 use mathlib.Core.Option.{Option, none, some, Option·map}
-use lib.ListN.{length, drop}
+use lib.ListN.{length, getD, drop}
 use Rattle.wire.specs.Varint.{varint, varint-within}
 use Rattle.wire.specs.Varint as wire
 use Rattle.wire.specs.Fields as wire-fields
@@ -41,3 +41,12 @@ as-field f = record { number = f .number; wire = f .wire; value = f .value; star
 unfoldable pub found-field : Option wire-fields.Field → FieldAt
 found-field none = FieldAt.Bad
 found-field (some f) = FieldAt.Is (as-field f)
+
+-- two bytes of a message, neither of which says that another follows; the first is a tag
+pub record TwoBytes (m : List ℕ) (at tag b : ℕ) : Type 0 where
+  pub inside : at + 2 ≤ length m
+  pub is-tag : tag ≡ getD m at 0
+  pub is-b : b ≡ getD m (at + 1) 0
+  pub high : 8 ≤ tag
+  pub short-tag : tag < 128
+  pub short-b : b < 128

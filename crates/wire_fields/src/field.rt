@@ -1,11 +1,13 @@
 // The field whose tag stands at a place of a message. Its content is looked at as far as its wire type says, and not inside.
+use super::varint::MORE;
 use super::varint::Varint;
 use super::varint::varint_at;
+use super::varint::wide;
 ghost use mathlib.Core.Path.{_≡_};
 ghost use Prim.Native.Nat.{_≤_};
 ghost use lib.ListN.{length};
 ghost use Rattle.wire.specs.Fields.{field, field-of, varint-field, delimited-field, fixed-field};
-ghost use Rattle.wire_fields.specs.Found.{found-field};
+ghost use Rattle.wire_fields.specs.Found.{found-field, TwoBytes};
 
 // A field as the wire has it: its number and wire type, the number of a varint, and the places where its content begins and where
 // the next field does.
@@ -111,8 +113,8 @@ fn content_at(m: &[u8], number: u64, wire: u64, at: usize) -> FieldAt
     FieldAt::Bad
 }
 
-// The field whose tag stands at a place.
-pub fn field_at(m: &[u8], at: usize) -> FieldAt
+// The field whose tag stands at a place, of any form.
+fn field_of_any_size(m: &[u8], at: usize) -> FieldAt
     requires { ⌜ at ≤ length (now m) ⌝ }
     ensures { λ r. ⌜ r ≡ found-field (field (now (m .entry)) at) ⌝ }
 {
@@ -126,4 +128,55 @@ pub fn field_at(m: &[u8], at: usize) -> FieldAt
         return FieldAt::Bad;
     }
     content_at(m, tag / WIRE_TYPES, tag % WIRE_TYPES, after)
+}
+
+// The field whose tag is a byte and whose number or length is another: most fields are. Other forms are read as such.
+fn field_of_two_bytes(m: &[u8], at: usize, tag: u64, b: u64) -> FieldAt
+    requires { ⌜ TwoBytes (now m) at tag b ⌝ }
+    ensures { λ r. ⌜ r ≡ found-field (field (now (m .entry)) at) ⌝ }
+{
+    if tag % WIRE_TYPES == VARINT {
+        return FieldAt::Is(Field {
+            number: tag / WIRE_TYPES,
+            wire: VARINT,
+            value: b,
+            start: at + 1,
+            next: at + 2,
+        });
+    }
+    if tag % WIRE_TYPES != DELIMITED {
+        return field_of_any_size(m, at);
+    }
+    if ((m.len() - (at + 2)) as u64) < b {
+        return FieldAt::Bad;
+    }
+    FieldAt::Is(Field {
+        number: tag / WIRE_TYPES,
+        wire: DELIMITED,
+        value: 0,
+        start: at + 2,
+        next: at + 2 + b as usize,
+    })
+}
+
+// The field whose tag stands at a place.
+pub fn field_at(m: &[u8], at: usize) -> FieldAt
+    requires { ⌜ at ≤ length (now m) ⌝ }
+    ensures { λ r. ⌜ r ≡ found-field (field (now (m .entry)) at) ⌝ }
+{
+    if m.len() - at < 2 {
+        return field_of_any_size(m, at);
+    }
+    let tag = wide(m[at]);
+    if tag < WIRE_TYPES {
+        return FieldAt::Bad;
+    }
+    let b = wide(m[at + 1]);
+    if MORE <= tag {
+        return field_of_any_size(m, at);
+    }
+    if MORE <= b {
+        return field_of_any_size(m, at);
+    }
+    field_of_two_bytes(m, at, tag, b)
 }

@@ -16,9 +16,9 @@ const MOST_BEFORE: usize = 9;
 const BITS: usize = 7;
 
 // A byte that another follows is this much or more.
-const MORE: u64 = 128;
+pub const MORE: u64 = 128;
 
-fn wide(x: u8) -> u64
+pub fn wide(x: u8) -> u64
     ensures { λ r. ⌜ r ≡ x ⌝ }
 {
     x as u64

@@ -1,60 +1,71 @@
--- `wire_fields::field::field_at` meets its contract: the tag that was read decides.
-use mathlib.Core.Path.{sym, _∙_}
+-- `wire_fields::field::field_at` meets its contract: a tag below 8 is none, and the other forms are read as such.
 use native.Mathlib.Omega.{arith}
+use Rattle.wire_fields.proofs.FieldsRead.{low-tag}
 use borrow.Author.Needs.{needs}
-use Rattle.wire_fields.proofs.FieldsRead.{Was, was-read, not-read, no-tag, number-0, number-high, number-right}
 use Rattle.wire_fields.proofs.field.field_at.Statement.{statement}
 use Rattle.wire_fields.proofs.field.field_at.Tie as tie
 
--- the places: what stands before each, by name
-abbrev entry-before-tag : tie.After-tag → tie.Start
-entry-before-tag c = c .before .before .before .before
+sub-if1 : tie.Need-sub-if1
+sub-if1 c = search needs
 
-abbrev tag-before-then2 : tie.Then2 → tie.After-tag
-tag-before-then2 c = c .before .before .before
-
-abbrev tag-before-else2 : tie.Else2 → tie.After-tag
-tag-before-else2 c = c .before .before .before
-
--- the tag that was read
-was : (c : tie.After-tag) → Was (entry-before-tag c .args .m .now) (entry-before-tag c .args .at) (c .tag .given .0 .0) (c .tag .given .0 .1 .0)
-was c = was-read _ _ (entry-before-tag c .pre) _ _ (sym (c .tag .given .1) ∙ c .before .before .varint-at .ensures)
-
-varint-at-requires : tie.Need-varint-at-requires
-varint-at-requires c κs = search needs
-
-enum-known-tag : tie.Need-enum-known-tag
-enum-known-tag c = search needs
-
-enum-told : tie.Need-enum-told
-enum-told c = search needs
+field-of-any-size-requires : tie.Need-field-of-any-size-requires
+field-of-any-size-requires c κs = search needs
 
 returns : tie.Need-returns
-returns c = no-tag _ _ (not-read _ _ (sym (c .enum-told .given .1) ∙ c .before .before .varint-at .ensures))
+returns c = search needs
+
+shared-slice-read-wide : tie.Need-shared-slice-read-wide
+shared-slice-read-wide c = search needs
+
+wide-requires : tie.Need-wide-requires
+wide-requires c κs = search needs
 
 returns-2 : tie.Need-returns-2
-returns-2 c = number-0 _ _ _ _ (was (c .before .before)) (c .if1 .taken)
+returns-2 c = low-tag _ _ _ (omega arith) (c .before .wide .ensures) (c .if2 .taken)
+
+add-wide : tie.Need-add-wide
+add-wide c = search needs
+
+shared-slice-read-wide-2 : tie.Need-shared-slice-read-wide-2
+shared-slice-read-wide-2 c = search needs
+
+wide-requires-2 : tie.Need-wide-requires-2
+wide-requires-2 c κs = search needs
+
+field-of-any-size-requires-2 : tie.Need-field-of-any-size-requires-2
+field-of-any-size-requires-2 c κs = search needs
 
 returns-3 : tie.Need-returns-3
-returns-3 c = number-high _ _ _ _ (was (tag-before-then2 c)) (c .before .if1 .left) (c .if2 .taken)
+returns-3 c = search needs
 
-content-at-requires : tie.Need-content-at-requires
-content-at-requires c κs = was (tag-before-else2 c) .ends
+field-of-any-size-requires-3 : tie.Need-field-of-any-size-requires-3
+field-of-any-size-requires-3 c κs = search needs
 
 returns-4 : tie.Need-returns-4
-returns-4 c =
-    c .content-at .ensures
-    ∙ number-right _ _ _ _ (was (tag-before-else2 (c .before))) (c .before .before .if1 .left) (c .before .if2 .left)
+returns-4 c = search needs
+
+field-of-two-bytes-requires : tie.Need-field-of-two-bytes-requires
+field-of-two-bytes-requires c κs = search needs
+
+returns-5 : tie.Need-returns-5
+returns-5 c = search needs
 
 pub field-at-spec : {M : Type 1} → statement M
 field-at-spec =
     tie.close
     (tie.spec
-    varint-at-requires
-    enum-known-tag
-    enum-told
+    sub-if1
+    field-of-any-size-requires
     returns
+    shared-slice-read-wide
+    wide-requires
     returns-2
+    add-wide
+    shared-slice-read-wide-2
+    wide-requires-2
+    field-of-any-size-requires-2
     returns-3
-    content-at-requires
-    returns-4)
+    field-of-any-size-requires-3
+    returns-4
+    field-of-two-bytes-requires
+    returns-5)

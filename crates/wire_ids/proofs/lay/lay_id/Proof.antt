@@ -79,7 +79,7 @@ add-result-2 c = omega (arith, room (ledger-before-known2 c))
 same-length : tie.Need-same-length
 same-length c =
     let a = entry-before-ledger (ledger-before-known2 c) .args in
-    ap length (c .before .before .lay-numbers .ensures) ∙ lay (values-of (a .m .now) 5) .even (a .to + 3) _ ∙ simp length-set
+    ap length (c .before .before .lay-numbers .ensures) ∙ lay (values-of (a .m .now) 5) .even _ _ ∙ simp length-set
 
 returns-2 : tie.Need-returns-2
 returns-2 c = lays-group _ _ _ _ _ _ _ (read (ledger-before-known2 c)) (c .before .before .lay-numbers .ensures)

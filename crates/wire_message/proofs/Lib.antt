@@ -1,0 +1,3 @@
+-- What the reader of Message turns on.
+pub mod Contents
+pub mod Records
