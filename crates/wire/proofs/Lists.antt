@@ -56,7 +56,7 @@ words-few (g ∷ ids) h =
     rw length-append (omega arith)
 
 -- listed ids are of the form
-of-the-form : (ids : List Group) → Listed ids → Of-the-form ids
+pub of-the-form : (ids : List Group) → Listed ids → Of-the-form ids
 unfolding groups
 of-the-form ids l =
     let n = words-few ids (l .short) in

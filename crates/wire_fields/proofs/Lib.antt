@@ -5,3 +5,4 @@ pub mod Walks
 pub mod Answers
 pub mod Selections
 pub mod Laying
+pub mod Bases

@@ -1,10 +1,9 @@
 -- A Message's record: its numbers and then its ack words, laid one after the other, are the record of the definition. And what each
 -- way out of `message.rt` answers and leaves.
-use Prim.Native.Nat.{ℕ, _+_, _-_, _≤_}
+use Prim.Native.Nat.{ℕ, _-_, _≤_}
 use mathlib.Core.Path.{_≡_, refl, sym, ap, _∙_}
-use mathlib.Core.Bool.{false}
 use mathlib.Core.List.{List, [], _∷_, _++_, append-nil}
-use mathlib.Core.Option.{Option, none, some, Option·map, bind}
+use mathlib.Core.Option.{Option, none, some, Option·map}
 use native.Mathlib.Omega.{arith}
 use lib.Dec.{eqb}
 use lib.ListN.{length, replicate}
@@ -16,15 +15,12 @@ use Rattle.record.specs.Flat.{record-words}
 use Rattle.record.specs.declared.Dispatch.{Dispatch}
 use Rattle.wire.specs.Fields.{Field}
 use Rattle.wire.specs.Select.{bytes-of}
-use Rattle.wire.specs.Commands.{type-of, message-of, or-16, base}
+use Rattle.wire.specs.Commands.{type-of, message-of, or-16}
 use Rattle.wire.specs.Commands.Reading.{refused, read}
 use Rattle.wire.specs.Message.{Message, MESSAGE, content-of, message}
 use Rattle.wire.specs.Answers.{record-of, message-answer, record-after}
-use Rattle.wire.proofs.Fields.{In}
-use Rattle.wire.proofs.Commands.{message-lies}
-use Rattle.wire_fields.specs.Selected.{found-place}
 use Rattle.wire_fields.specs.Values.{values-of, Ready}
-use Rattle.wire_fields.specs.declared.select.Place.the-variants as Place
+use Rattle.wire_fields.proofs.Bases.{base-untyped, base-other, base-no-message, base-message}
 use Rattle.wire_message.specs.Found.{head-of, dispatch-of, content-answer, content-after}
 use Rattle.wire_message.specs.declared.content.Head.{Head}
 use Rattle.wire_message.proofs.Contents.{Contained, content-words}
@@ -104,54 +100,28 @@ module _ (m words : List ℕ) where
 
   -- there is no type
   pub not-typed : type-of m ≡ none → Message-done m words 16 words
-  unfolding message base or-16 bind
-  not-typed e = message-refused 16 (rw e)
+  unfolding message
+  not-typed e = message-refused 16 (base-untyped (eqb MESSAGE) _ m e)
 
   -- it is another
   pub other-type : (type : ℕ) → type-of m ≡ some type → (type ≡ MESSAGE → ⊥) → Message-done m words 17 words
-  unfolding message base or-16 bind
-  other-type type e d =
-      let t : eqb MESSAGE type ≡ false = ne-eqb MESSAGE type (λ p. d (sym p)) in
-      message-refused 17 (rw (e, t))
+  unfolding message
+  other-type type e d = message-refused 17 (base-other (eqb MESSAGE) _ m type e (ne-eqb MESSAGE type (λ p. d (sym p))))
 
   module _ (e : type-of m ≡ some MESSAGE) where
     -- its message is not there
     pub no-message : message-of m MESSAGE ≡ none → Message-done m words 16 words
-    unfolding message base or-16 bind
-    no-message f = message-refused 16 (rw (e, f))
+    unfolding message
+    no-message f = message-refused 16 (base-no-message (eqb MESSAGE) _ m MESSAGE e refl f)
 
     -- its message is there, and its content decides
     pub message-read : {f : Field} {answer : ℕ} {after : List ℕ} → message-of m MESSAGE ≡ some f
         → Content-done (content-of (bytes-of m f)) words answer after → Message-done m words answer after
-    unfolding message base or-16 bind message-answer record-after content-answer content-after
-    message-read {f} {answer} {after} p d = rw (e, p) (go (content-of (bytes-of m f)) d)
+    unfolding message or-16 message-answer record-after content-answer content-after
+    message-read {f} {answer} {after} p d =
+        rw (base-message (eqb MESSAGE) (λ (type : ℕ) (g : Field). content-of (bytes-of m g)) m MESSAGE e f refl p) (go (content-of (bytes-of m f)) d)
       where
         go : (o : Option Message) → Content-done o words answer after
             → (answer ≡ message-answer (or-16 (Option·map read o))) × (after ≡ record-after words (or-16 (Option·map read o)))
         go none q = q
         go (some x) q = q
-
--- ---- where the message stands
-
--- a message of a type stands at a place, inside
-pub record Placed (m : List ℕ) (type start next : ℕ) : Type 0 where
-  pub f : Field
-  pub is : message-of m type ≡ some f
-  pub starts : f .start ≡ start
-  pub ends : f .next ≡ next
-  pub inside : In m f
-
--- what the code read is where it stands
-pub told-place : (m : List ℕ) (type start next : ℕ) → Place.Is start next ≡ found-place (message-of m type) → Placed m type start next
-unfolding found-place
-told-place m type start next e = go (message-of m type) refl e
-  where
-    go : (o : Option Field) → message-of m type ≡ o → Place.Is start next ≡ found-place o → Placed m type start next
-    go none p q = let n : _≡_ {A = ℕ} 0 1 = cc in absurd (omega arith)
-    go (some f) p q = record { f = f; is = p; starts = cc; ends = cc; inside = message-lies m type f p }
-
--- it is not there
-pub told-no-place : (o : Option Field) → Place.Bad ≡ found-place o → o ≡ none
-unfolding found-place
-told-no-place none e = refl
-told-no-place (some f) e = let n : _≡_ {A = ℕ} 0 1 = cc in absurd (omega arith)

@@ -7,7 +7,8 @@ use borrow.Author.Needs.{needs}
 use Rattle.wire.specs.Commands.{type-of}
 use Rattle.wire.specs.Message.{MESSAGE}
 use Rattle.wire_fields.proofs.Selections.{told-is, told-bad}
-use Rattle.wire_message.proofs.Records.{Placed, not-typed, other-type, no-message, message-read, told-place, told-no-place}
+use Rattle.wire_fields.proofs.Bases.{Placed, told-place, told-no-place}
+use Rattle.wire_message.proofs.Records.{not-typed, other-type, no-message, message-read}
 use Rattle.wire_message.proofs.message.read_message.Statement.{statement}
 use Rattle.wire_message.proofs.message.read_message.Tie as tie
 

@@ -1,0 +1,2 @@
+-- What the code of this crate means, by the definitions of the wire.
+pub mod Found
