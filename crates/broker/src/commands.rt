@@ -11,11 +11,7 @@ ghost use Rattle.wire.specs.Answers.{message-answer, record-after, write-messag
 // Reads a Subscribe, Flow, Ack, Seek, Redeliver or Close into the command's words, with the ids of an Ack or a Redeliver in the
 // list. The value is the type.
 #[no_mangle]
-pub extern "C" fn broker_read_command(
-    bytes: &[u8],
-    list: &mut [u64],
-    command: &mut [u64; 8],
-) -> u64
+pub extern "C" fn broker_read_command(bytes: &[u8], list: &mut [u64], command: &mut [u64; 8]) -> u64
     ensures answer { λ r. ⌜ r ≡ command-answer (read-command (now (list .entry)) (now (bytes .entry))) ⌝ }
     ensures words { λ _. ⌜ now (command .exit) ≡ command-after (now (command .entry)) (read-command (now (list .entry)) (now (bytes .entry))) ⌝ }
     ensures ids { λ _. ⌜ now (list .exit) ≡ ids-after (now (list .entry)) (read-command (now (list .entry)) (now (bytes .entry))) ⌝ }
