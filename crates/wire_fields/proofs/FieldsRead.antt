@@ -121,7 +121,7 @@ module _ (m : List ℕ) (at tag after : ℕ) (w : Was m at tag after) where
 -- ---- a field of two bytes
 
 -- a varint of one byte
-one-byte-was : (m : List ℕ) (at b : ℕ) → at < length m → b ≡ getD m at 0 → b < 128 → Was m at b (at + 1)
+pub one-byte-was : (m : List ℕ) (at b : ℕ) → at < length m → b ≡ getD m at 0 → b < 128 → Was m at b (at + 1)
 one-byte-was m at b h e l = was-read m at (omega arith) b (at + 1) (one-byte m at b h e l)
 
 module _ {m : List ℕ} {at tag b : ℕ} (t : TwoBytes m at tag b) where

@@ -2,6 +2,7 @@
 pub mod Varints
 pub mod FieldsRead
 pub mod Walks
+pub mod Tags
 pub mod Answers
 pub mod Selections
 pub mod Laying

@@ -1,8 +1,10 @@
 -- What the code of this crate answers, by the definitions of the wire.
-use Prim.Native.Nat.{ℕ, _+_, _-_, _*_, _^_, _<_, _≤_}
+use Prim.Native.Nat.{ℕ, _+_, _-_, _*_, _%_, _^_, _<_, _≤_}
 use mathlib.Core.Path.{_≡_}
+use mathlib.Core.Bool.{cond, _&&_}
 use mathlib.Core.List.{List}
 use mathlib.Core.Option.{Option, none, some, Option·map}
+use lib.Dec.{eqb, leb, ltb}
 use lib.ListN.{length, getD, drop}
 use Rattle.wire.specs.Varint.{varint, varint-within}
 use Rattle.wire.specs.Varint as wire
@@ -50,3 +52,11 @@ pub record TwoBytes (m : List ℕ) (at tag b : ℕ) : Type 0 where
   pub high : 8 ≤ tag
   pub short-tag : tag < 128
   pub short-b : b < 128
+
+-- the tag at a place if it is that of a varint field and has one byte; else 0, which is no tag
+unfoldable pub varint-tag : List ℕ → ℕ → ℕ
+varint-tag m at = cond (ltb at (length m) && (ltb (getD m at 0) 128 && eqb (getD m at 0 % 8) 0)) (getD m at 0) 0
+
+-- that of a varint field of two bytes; else 0
+unfoldable pub short-tag : List ℕ → ℕ → ℕ
+short-tag m at = cond (leb (at + 2) (length m) && ltb (getD m (at + 1) 0) 128) (varint-tag m at) 0

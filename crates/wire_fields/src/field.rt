@@ -7,7 +7,7 @@ ghost use mathlib.Core.Path.{_≡_};
 ghost use Prim.Native.Nat.{_≤_};
 ghost use lib.ListN.{length};
 ghost use Rattle.wire.specs.Fields.{field, field-of, varint-field, delimited-field, fixed-field};
-ghost use Rattle.wire_fields.specs.Found.{found-field, TwoBytes};
+ghost use Rattle.wire_fields.specs.Found.{found-field, TwoBytes, varint-tag, short-tag};
 
 // A field as the wire has it: its number and wire type, the number of a varint, and the places where its content begins and where
 // the next field does.
@@ -179,4 +179,36 @@ pub fn field_at(m: &[u8], at: usize) -> FieldAt
         return field_of_any_size(m, at);
     }
     field_of_two_bytes(m, at, tag, b)
+}
+
+// The tag at a place if it is that of a varint field and has one byte; else 0. Walks go by it and by `short_tag` where they can,
+// since they then make no field.
+pub fn varint_tag(m: &[u8], at: usize) -> u64
+    ensures { λ r. ⌜ r ≡ varint-tag (now (m .entry)) at ⌝ }
+{
+    if m.len() <= at {
+        return 0;
+    }
+    let tag = wide(m[at]);
+    if MORE <= tag {
+        return 0;
+    }
+    if tag % WIRE_TYPES != VARINT {
+        return 0;
+    }
+    tag
+}
+
+// The tag of a varint field of two bytes at a place; else 0.
+pub fn short_tag(m: &[u8], at: usize) -> u64
+    requires { ⌜ at ≤ length (now m) ⌝ }
+    ensures { λ r. ⌜ r ≡ short-tag (now (m .entry)) at ⌝ }
+{
+    if m.len() - at < 2 {
+        return 0;
+    }
+    if MORE <= wide(m[at + 1]) {
+        return 0;
+    }
+    varint_tag(m, at)
 }

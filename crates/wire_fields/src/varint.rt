@@ -40,7 +40,7 @@ pub fn varint_at(m: &[u8], at: usize) -> Varint
 }
 
 // The varint at a place, byte by byte.
-fn varint_of_any_size(m: &[u8], at: usize) -> Varint
+pub fn varint_of_any_size(m: &[u8], at: usize) -> Varint
     requires { ⌜ at ≤ length (now m) ⌝ }
     ensures { λ r. ⌜ r ≡ varint-at (now (m .entry)) at ⌝ }
 {
