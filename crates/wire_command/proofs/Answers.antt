@@ -1,15 +1,18 @@
 -- The answer, the eight words and the list at each way out of `read.rt`.
-use Prim.Native.Nat.{ℕ, _-_, _*_, _≤_, _<_}
+use Prim.Native.Nat.{ℕ, _-_, _*_, _^_, _≤_, _<_}
 use mathlib.Core.Path.{_≡_, refl, sym, ap, _∙_}
 use mathlib.Core.Bool.{true, false}
 use mathlib.Core.List.{List}
 use mathlib.Core.Option.{Option, none, some, Option·map}
 use native.Mathlib.Omega.{arith}
 use lib.ListN.{length, take, drop}
-use borrow.Author.Tests.{lt-ltb, le-ltb}
+use lib.Dec.{eqb}
+use borrow.Author.Tests.{lt-ltb, le-ltb, eqb-true}
+use Rattle.rules.proofs.Table.{by-test}
 use Rattle.rules.specs.Commands.Target.{start, to-id}
 use Rattle.words.specs.Act.{lay}
 use Rattle.wire.specs.Commands.{Command, Reading, or-16, type-of, message-of, takes-command, command-of, command}
+use Rattle.wire.specs.Commands.{SUBSCRIBE, ACK, FLOW, CLOSE_CONSUMER, REDELIVER, SEEK}
 use Rattle.wire.specs.Commands.Command.{Subscribe, Flow, Ack, Seek, Redeliver, Close}
 use Rattle.wire.specs.Commands.Reading.{refused, read}
 use Rattle.wire.specs.Answers.{LIST_WORDS, read-command, target-words, command-words}
@@ -121,3 +124,17 @@ module _ (list bytes : List ℕ) (h : LIST_WORDS ≤ length list) where
         → read-command list bytes ≡ content-reading (command-of kind start (take (next - start) (drop start bytes)))
     unfolding command content-reading
     message-decides t p = long-enough ∙ base-message takes-command _ bytes kind e (p .f) t (p .is) ∙ rw (p .starts, p .ends)
+
+-- the types that are taken are small numbers
+pub taken-low : (type : ℕ) → takes-command type ≡ true → type < 2 ^ 32
+unfolding takes-command
+taken-low type t =
+    by-test (eqb type SUBSCRIBE) (λ e. low SUBSCRIBE (omega arith) e)
+    (λ a. by-test (eqb type ACK) (λ e. low ACK (omega arith) e)
+    (λ b. by-test (eqb type FLOW) (λ e. low FLOW (omega arith) e)
+    (λ c. by-test (eqb type CLOSE_CONSUMER) (λ e. low CLOSE_CONSUMER (omega arith) e)
+    (λ d. by-test (eqb type REDELIVER) (λ e. low REDELIVER (omega arith) e)
+    (λ f. low SEEK (omega arith) (rw (a, b, c, d, f) at t))))))
+  where
+    low : (k : ℕ) → k < 2 ^ 32 → eqb type k ≡ true → type < 2 ^ 32
+    low k h e = let q = eqb-true type k e in omega arith

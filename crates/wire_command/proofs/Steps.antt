@@ -9,8 +9,7 @@ use Rattle.wire.specs.Fields.{Field, fields}
 use Rattle.wire.specs.Select.{numbered, uint64, required}
 use Rattle.wire.specs.Commands.{name}
 use Rattle.wire.proofs.Fields.{part-lies}
-use Rattle.wire_fields.specs.Picked.{picked}
-use Rattle.wire_fields.specs.declared.pick.Wanted.{Wanted}
+use Rattle.wire_fields.specs.Picked.{Wanted, picked}
 use Rattle.wire_fields.specs.declared.pick.Seen.{Seen}
 use Rattle.wire_fields.specs.declared.pick.Picked.{Picked}
 use Rattle.wire_fields.specs.declared.pick.Picked.the-variants.{Fields}

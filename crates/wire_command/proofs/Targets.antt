@@ -10,7 +10,7 @@ use Rattle.wire.specs.Fields.{Field, fields}
 use Rattle.wire.specs.Select.{numbered, part}
 use Rattle.wire.specs.Commands.{target-of}
 use Rattle.wire_fields.specs.declared.pick.Seen.{Seen}
-use Rattle.wire_fields.proofs.Selections.{Saw, PartAt}
+use Rattle.wire_fields.proofs.Selections.{Saw, PartAt, count-after, none-counted}
 use Rattle.wire_command.specs.Found.{target-in, target-of-bytes, as-target, found-target}
 use Rattle.wire_command.specs.declared.command.Target.{Target}
 use Rattle.wire_command.specs.declared.seek.TargetRead.{TargetRead}
@@ -19,11 +19,11 @@ use Rattle.wire_command.specs.declared.seek.TargetRead.the-variants.{Is,
 -- none was seen: there is none
 pub none-there : {wire : ℕ} {l : List Field} {s : Seen} → Saw wire l s → s .count ≡ 0 → l ≡ []
 none-there {l = []} w e = refl
-none-there {l = f ∷ l} {s = s} w e = absurd (omega (arith, w .count))
+none-there {wire = wire} {l = f ∷ l} {s = s} w e = absurd (omega (arith, none-counted wire f l s w))
 
 -- one was seen, and no part is right: the target is not
 pub target-none : {wire : ℕ} (m : List ℕ) {l : List Field} {s : Seen} → Saw wire l s → (s .count ≡ 0 → ⊥) → part l ≡ none → target-of m l ≡ none
-unfolding target-of bind
+unfolding target-of bind count-after
 target-none m {l = []} w h e = absurd (h (w .count))
 target-none m {l = f ∷ l} w h e = rw e
 

@@ -5,8 +5,8 @@ use super::command::Content;
 use super::numbers::CONSUMER;
 use wire_fields::base::NOTHING;
 use wire_fields::field::VARINT;
+use wire_fields::field::WIRE_TYPES;
 use wire_fields::pick::Picked;
-use wire_fields::pick::Wanted;
 use wire_fields::pick::pick;
 use wire_fields::select::Number;
 use wire_fields::select::required_int32;
@@ -17,10 +17,7 @@ ghost use Rattle.wire.specs.Commands.{ack-of, redeliver-of};
 ghost use Rattle.wire_command.specs.Found.{found-command};
 
 // The type of an ack, whose value is ignored.
-const ACK_TYPE: Wanted = Wanted {
-    number: 2,
-    wire: VARINT,
-};
+const ACK_TYPE: u64 = 2 * WIRE_TYPES + VARINT;
 
 // The number of the ids in each.
 pub const ACK_IDS: u64 = 3;

@@ -3,13 +3,14 @@ use super::command::Command;
 use super::command::Content;
 use wire_fields::base::NOTHING;
 use wire_fields::field::VARINT;
+use wire_fields::field::WIRE_TYPES;
 use wire_fields::pick::Picked;
-use wire_fields::pick::Wanted;
 use wire_fields::pick::pick;
 use wire_fields::select::Number;
 use wire_fields::select::required_uint32;
 use wire_fields::select::required_uint64;
 ghost use mathlib.Core.Path.{_≡_};
+ghost use Prim.Native.Nat.{_<_, _^_};
 ghost use Rattle.wire.specs.Commands.{flow-of, close-of};
 ghost use Rattle.wire_command.specs.Found.{two-of, found-two, found-command};
 
@@ -22,33 +23,20 @@ pub enum Two {
 // The consumer, in every message but CommandSubscribe.
 pub const CONSUMER_ID: u64 = 1;
 
-pub const CONSUMER: Wanted = Wanted {
-    number: CONSUMER_ID,
-    wire: VARINT,
-};
+pub const CONSUMER: u64 = CONSUMER_ID * WIRE_TYPES + VARINT;
 
 // The request, in CommandSeek and CommandCloseConsumer.
 pub const REQUEST_ID: u64 = 2;
 
 // The permits of CommandFlow.
-const MESSAGE_PERMITS: Wanted = Wanted {
-    number: 2,
-    wire: VARINT,
-};
+const MESSAGE_PERMITS: u64 = 2 * WIRE_TYPES + VARINT;
 
 // Two uint64s that have to be there.
 pub fn two_uint64(m: &[u8], first: u64, second: u64) -> Two
+    requires { ⌜ (first < 2 ^ 32) × (second < 2 ^ 32) ⌝ }
     ensures { λ r. ⌜ r ≡ found-two (two-of (now (m .entry)) first second) ⌝ }
 {
-    let a = Wanted {
-        number: first,
-        wire: VARINT,
-    };
-    let b = Wanted {
-        number: second,
-        wire: VARINT,
-    };
-    let Picked::Fields(x, y, _) = pick(m, a, b, NOTHING) else {
+    let Picked::Fields(x, y, _) = pick(m, first * WIRE_TYPES, second * WIRE_TYPES, NOTHING) else {
         return Two::Bad;
     };
     let Number::Is(u) = required_uint64(x) else {

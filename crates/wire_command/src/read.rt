@@ -7,9 +7,8 @@ use super::content::takes;
 use super::eight_words::write_words;
 use super::ids::ACK_IDS;
 use super::ids::REDELIVER_IDS;
-use wire_fields::base::command_type;
-use wire_fields::base::message_part;
-use wire_fields::select::Number;
+use wire_fields::base::Base;
+use wire_fields::base::read_base;
 use wire_fields::select::Place;
 use wire_ids::lay::lay_ids;
 ghost use mathlib.Core.Path.{_≡_};
@@ -66,13 +65,13 @@ pub fn read_command(bytes: &[u8], list: &mut [u64], command: &mut [u64; 8]) -> u
     if list.len() < LIST_WORDS {
         return NOT_READ;
     }
-    let Number::Is(kind) = command_type(bytes) else {
+    let Base::Of(kind, place) = read_base(bytes) else {
         return NOT_READ;
     };
     if !takes(kind) {
         return OTHER_TYPE;
     }
-    let Place::Is(start, next) = message_part(bytes, kind) else {
+    let Place::Is(start, next) = place else {
         return NOT_READ;
     };
     read_content(&bytes[start..next], kind, start, list, command)

@@ -9,8 +9,8 @@ use super::numbers::Two;
 use super::numbers::two_uint64;
 use wire_fields::base::NOTHING;
 use wire_fields::field::DELIMITED;
+use wire_fields::field::WIRE_TYPES;
 use wire_fields::pick::Picked;
-use wire_fields::pick::Wanted;
 use wire_fields::pick::pick;
 use wire_fields::select::Place;
 use wire_fields::select::required_part;
@@ -26,10 +26,7 @@ const LEDGER_ID: u64 = 1;
 const ENTRY_ID: u64 = 2;
 
 // The id of CommandSeek.
-const MESSAGE_ID: Wanted = Wanted {
-    number: 3,
-    wire: DELIMITED,
-};
+const MESSAGE_ID: u64 = 3 * WIRE_TYPES + DELIMITED;
 
 // Where a seek goes; or its id is not right.
 pub enum TargetRead {

@@ -7,8 +7,8 @@ use super::numbers::Two;
 use super::numbers::two_uint64;
 use wire_fields::field::DELIMITED;
 use wire_fields::field::VARINT;
+use wire_fields::field::WIRE_TYPES;
 use wire_fields::pick::Picked;
-use wire_fields::pick::Wanted;
 use wire_fields::pick::pick;
 use wire_fields::select::Number;
 use wire_fields::select::Place;
@@ -22,20 +22,11 @@ ghost use Rattle.wire.specs.Answers.{kind-word};
 ghost use Rattle.wire_command.specs.Found.{name-at, found-command};
 
 // Fields of CommandSubscribe.
-const TOPIC: Wanted = Wanted {
-    number: 1,
-    wire: DELIMITED,
-};
+const TOPIC: u64 = 1 * WIRE_TYPES + DELIMITED;
 
-const SUBSCRIPTION: Wanted = Wanted {
-    number: 2,
-    wire: DELIMITED,
-};
+const SUBSCRIPTION: u64 = 2 * WIRE_TYPES + DELIMITED;
 
-const SUB_TYPE: Wanted = Wanted {
-    number: 3,
-    wire: VARINT,
-};
+const SUB_TYPE: u64 = 3 * WIRE_TYPES + VARINT;
 
 const CONSUMER_ID: u64 = 4;
 

@@ -13,11 +13,11 @@ module _ (fits : ℕ → Bool) (s : Seen) where
   not-one-bad e = rw e
 
   -- one, of its width
-  pub one-fits : is-one s ≡ true → fits (s .value) ≡ true → Is (s .value) ≡ number fits s
+  pub one-fits : is-one s ≡ true → fits (s .first) ≡ true → Is (s .first) ≡ number fits s
   unfolding number
   one-fits e t = rw (e, t)
 
   -- one that is too wide
-  pub one-unfit : is-one s ≡ true → fits (s .value) ≡ false → Bad ≡ number fits s
+  pub one-unfit : is-one s ≡ true → fits (s .first) ≡ false → Bad ≡ number fits s
   unfolding number
   one-unfit e t = rw (e, t)

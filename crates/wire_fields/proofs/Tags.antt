@@ -85,3 +85,7 @@ short-stands m at tag b e n i =
     let k : at + 1 + 1 ≡ at + 2 = omega arith in
     let h : at + 1 < length m = omega arith in
     (l, tag-stands m at tag (p .1) n b (at + 2) (rw (← k) (one-byte m (at + 1) b h i s)))
+
+-- it lies inside the message
+pub short-inside : (m : List ℕ) (at tag : ℕ) → tag ≡ short-tag m at → (tag ≡ 0 → ⊥) → at + 2 ≤ length m
+short-inside m at tag e n = short-stands m at tag (getD m (at + 1) 0) e n refl .0

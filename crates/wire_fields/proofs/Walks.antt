@@ -6,18 +6,15 @@ use mathlib.Core.Bool.{Bool, true, false}
 use mathlib.Core.List.{List, [], _∷_}
 use mathlib.Core.Option.{Option, none, some, Option·map, bind}
 use native.Mathlib.Omega.{arith}
-use lib.Dec.{eqb}
 use lib.ListN.{length}
-use Rattle.rules.proofs.Table.{by-test}
 use Rattle.wire.specs.Fields.{field, fields, left}
 use Rattle.wire.specs.Fields as wire
 use Rattle.wire.proofs.Fields.{field-lies, left-start, left-end, left-step}
 use Rattle.wire_fields.specs.Found.{as-field, found-field}
-use Rattle.wire_fields.specs.Picked.{nothing-seen, counted, seen-with, seen-after, picked-after, picked}
+use Rattle.wire_fields.specs.Picked.{Wanted, nothing-seen, seen-field, seen-after, picked-after, picked}
 use Rattle.wire_fields.specs.declared.field.Field.{Field}
 use Rattle.wire_fields.specs.declared.field.FieldAt.{FieldAt}
 use Rattle.wire_fields.specs.declared.field.FieldAt.the-variants as FieldAt
-use Rattle.wire_fields.specs.declared.pick.Wanted.{Wanted}
 use Rattle.wire_fields.specs.declared.pick.Seen.{Seen}
 use Rattle.wire_fields.specs.declared.pick.Picked.the-variants.{Fields, Bad}
 
@@ -65,29 +62,20 @@ left-bad m at h e = left-step m at h ∙ rw e
 
 -- ---- what is seen
 
--- a field is counted once at most
-pub counts : (w : Wanted) (s : Seen) (f : Field) (at : ℕ) → s .count ≤ at → seen-with w s f .count ≤ at + 1
-unfolding seen-with counted
-counts w s f at h = by-test (eqb (f .number) (w .number)) (λ t. rw t (omega arith)) (λ t. rw t (omega arith))
-
 -- what was seen under each number up to a place, and what is left, are what is picked
 pub record Partly (m : List ℕ) (a b c : Wanted) (at : ℕ) (x y z : Seen) : Type 0 where
   pub inside : at ≤ length m
-  pub few-x : x .count ≤ at
-  pub few-y : y .count ≤ at
-  pub few-z : z .count ≤ at
   pub rest : picked m a b c ≡ picked-after a b c x y z (left m at)
 
 module _ (m : List ℕ) (a b c : Wanted) where
   pub partly-start : Partly m a b c 0 nothing-seen nothing-seen nothing-seen
   unfolding picked
-  partly-start =
-      record { inside = omega arith; few-x = omega arith; few-y = omega arith; few-z = omega arith; rest = rw (← (left-start m)) }
+  partly-start = record { inside = omega arith; rest = rw (← (left-start m)) }
 
   -- the fields of the option, one more in front, seen one after the other
   seen-on : (x y z : Seen) (g : wire.Field) (o : Option (List wire.Field))
       → picked-after a b c x y z (Option·map (λ (l : List wire.Field). g ∷ l) o)
-      ≡ picked-after a b c (seen-with a x (as-field g)) (seen-with b y (as-field g)) (seen-with c z (as-field g)) o
+      ≡ picked-after a b c (seen-field a x (as-field g)) (seen-field b y (as-field g)) (seen-field c z (as-field g)) o
   unfolding picked-after seen-after
   seen-on x y z g none = refl
   seen-on x y z g (some l) = refl
@@ -102,16 +90,9 @@ module _ (m : List ℕ) (a b c : Wanted) where
     partly-bad h e = sym (p .rest ∙ rw (left-bad m at h e))
 
     pub partly-on : at < length m → (f : Field) → Stands m at f
-        → Partly m a b c (f .next) (seen-with a x f) (seen-with b y f) (seen-with c z f)
+        → Partly m a b c (f .next) (seen-field a x f) (seen-field b y f) (seen-field c z f)
     partly-on h f w =
-        let l = w .more in
-        let i = counts a x f at (p .few-x) in
-        let j = counts b y f at (p .few-y) in
-        let k = counts c z f at (p .few-z) in
         record {
           inside = w .ends;
-          few-x = omega arith;
-          few-y = omega arith;
-          few-z = omega arith;
           rest = p .rest ∙ ap (picked-after a b c x y z) (left-on m at f h w) ∙ seen-on x y z (w .g) (left m (f .next)) ∙ rw (← (w .same));
         }

@@ -1,49 +1,72 @@
-// A BaseCommand: its type, and where the message of a type stands in it.
+// A BaseCommand: its type, and where the message of that type stands in it.
 use super::field::DELIMITED;
 use super::field::VARINT;
+use super::field::WIRE_TYPES;
 use super::pick::Picked;
-use super::pick::Wanted;
 use super::pick::pick;
 use super::select::Number;
 use super::select::Place;
 use super::select::required_int32;
 use super::select::required_part;
+use super::varint::wide;
 ghost use mathlib.Core.Path.{_≡_};
+ghost use Prim.Native.Nat.{_<_, _^_};
 ghost use Rattle.wire.specs.Commands.{type-of, message-of};
-ghost use Rattle.wire_fields.specs.Selected.{found-number, found-place};
+ghost use Rattle.wire_fields.specs.Selected.{found-place, found-base, placed};
 
-// The type's number.
-const TYPE: Wanted = Wanted {
-    number: 1,
-    wire: VARINT,
-};
+// The tag of the type.
+const TYPE: u64 = 1 * WIRE_TYPES + VARINT;
 
 // No field has the number 0.
-pub const NOTHING: Wanted = Wanted {
-    number: 0,
-    wire: VARINT,
-};
+pub const NOTHING: u64 = 0;
 
-// The type of a BaseCommand.
-pub fn command_type(m: &[u8]) -> Number
-    ensures { λ r. ⌜ r ≡ found-number (type-of (now (m .entry))) ⌝ }
+// Numbers of types are below this.
+const TYPES_END: u64 = 0x1_0000_0000;
+
+// The type and where its message stands; or the bytes are no BaseCommand.
+pub enum Base {
+    Of(u64, Place),
+    Bad,
+}
+
+// The second byte, which in most commands is the type.
+fn likely_type(m: &[u8]) -> u64
+    ensures { λ r. ⌜ r < 2 ^ 32 ⌝ }
 {
-    let Picked::Fields(x, _, _) = pick(m, TYPE, NOTHING, NOTHING) else {
-        return Number::Bad;
-    };
-    required_int32(x)
+    if m.len() < 2 {
+        return 0;
+    }
+    wide(m[1])
 }
 
 // Where the message of a type stands in a BaseCommand.
-pub fn message_part(m: &[u8], kind: u64) -> Place
-    ensures { λ r. ⌜ r ≡ found-place (message-of (now (m .entry)) kind) ⌝ }
+fn message_part(m: &[u8], kind: u64) -> Place
+    ensures { λ r. ⌜ r ≡ placed (now (m .entry)) kind ⌝ }
 {
-    let wanted = Wanted {
-        number: kind,
-        wire: DELIMITED,
-    };
-    let Picked::Fields(x, _, _) = pick(m, wanted, NOTHING, NOTHING) else {
+    if TYPES_END <= kind {
+        return Place::Bad;
+    }
+    let Picked::Fields(x, _, _) = pick(m, kind * WIRE_TYPES + DELIMITED, NOTHING, NOTHING) else {
         return Place::Bad;
     };
     required_part(x)
+}
+
+// The type of a BaseCommand and where its message stands: in one walk where the type is as likely.
+pub fn read_base(m: &[u8]) -> Base
+    ensures { λ r. ⌜ r ≡ found-base (now (m .entry)) (type-of (now (m .entry))) ⌝ }
+{
+    let likely = likely_type(m);
+    let Picked::Fields(x, y, _) = pick(m, TYPE, likely * WIRE_TYPES + DELIMITED, NOTHING) else {
+        return Base::Bad;
+    };
+    let Number::Is(kind) = required_int32(x) else {
+        return Base::Bad;
+    };
+    if kind == likely {
+        let place = required_part(y);
+        return Base::Of(kind, place);
+    }
+    let place = message_part(m, kind);
+    Base::Of(kind, place)
 }

@@ -35,7 +35,7 @@ pub const DELIMITED: u64 = 2;
 const FIXED_32: u64 = 5;
 
 // A tag is number × 8 + wire type, the number from 1 to 2^29 - 1.
-const WIRE_TYPES: u64 = 8;
+pub const WIRE_TYPES: u64 = 8;
 
 const TAGS_END: u64 = 0x1_0000_0000;
 

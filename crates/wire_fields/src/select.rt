@@ -28,10 +28,7 @@ const INT32_NEGATIVE: u64 = 0xffff_ffff_8000_0000;
 fn is_one(s: Seen) -> bool
     ensures { λ r. ⌜ r ≡ is-one s ⌝ }
 {
-    if s.count != 1 {
-        return false;
-    }
-    s.right
+    s.count == 1
 }
 
 // A uint64 that has to be there.
@@ -41,7 +38,7 @@ pub fn required_uint64(s: Seen) -> Number
     if !is_one(s) {
         return Number::Bad;
     }
-    Number::Is(s.value)
+    Number::Is(s.first)
 }
 
 // A uint32 that has to be there.
@@ -51,10 +48,10 @@ pub fn required_uint32(s: Seen) -> Number
     if !is_one(s) {
         return Number::Bad;
     }
-    if UINT32_END <= s.value {
+    if UINT32_END <= s.first {
         return Number::Bad;
     }
-    Number::Is(s.value)
+    Number::Is(s.first)
 }
 
 // An int32 or an enum that has to be there.
@@ -64,13 +61,13 @@ pub fn required_int32(s: Seen) -> Number
     if !is_one(s) {
         return Number::Bad;
     }
-    if s.value < INT32_END {
-        return Number::Is(s.value);
+    if s.first < INT32_END {
+        return Number::Is(s.first);
     }
-    if s.value < INT32_NEGATIVE {
+    if s.first < INT32_NEGATIVE {
         return Number::Bad;
     }
-    Number::Is(s.value)
+    Number::Is(s.first)
 }
 
 // An int32 from 0 on that has to be there.
@@ -80,10 +77,10 @@ fn required_count(s: Seen) -> Number
     if !is_one(s) {
         return Number::Bad;
     }
-    if INT32_END <= s.value {
+    if INT32_END <= s.first {
         return Number::Bad;
     }
-    Number::Is(s.value)
+    Number::Is(s.first)
 }
 
 // A uint32 that may be absent, and is 0 then.
@@ -113,18 +110,15 @@ pub fn required_part(s: Seen) -> Place
     if !is_one(s) {
         return Place::Bad;
     }
-    Place::Is(s.start, s.next)
+    Place::Is(s.first as usize, s.next)
 }
 
 // How many fields there are, at most some number and all of the right wire type.
-pub fn several(s: Seen, most: usize) -> Number
+pub fn several(s: Seen, most: u64) -> Number
     ensures { λ r. ⌜ r ≡ at-most most s ⌝ }
 {
     if most < s.count {
         return Number::Bad;
     }
-    if !s.right {
-        return Number::Bad;
-    }
-    Number::Is(s.count as u64)
+    Number::Is(s.count)
 }

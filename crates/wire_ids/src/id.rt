@@ -1,7 +1,7 @@
 // One id: ledger, entry, and how many words its ack set has.
 use wire_fields::field::VARINT;
+use wire_fields::field::WIRE_TYPES;
 use wire_fields::pick::Picked;
-use wire_fields::pick::Wanted;
 use wire_fields::pick::pick;
 use wire_fields::select::Number;
 use wire_fields::select::required_uint64;
@@ -18,26 +18,17 @@ pub enum Id {
     Bad,
 }
 
-const LEDGER: Wanted = Wanted {
-    number: 1,
-    wire: VARINT,
-};
+const LEDGER: u64 = 1 * WIRE_TYPES + VARINT;
 
-const ENTRY: Wanted = Wanted {
-    number: 2,
-    wire: VARINT,
-};
+const ENTRY: u64 = 2 * WIRE_TYPES + VARINT;
 
 // The number of ack_set.
 pub const ACK_SET_NUMBER: u64 = 5;
 
-const ACK_SET: Wanted = Wanted {
-    number: ACK_SET_NUMBER,
-    wire: VARINT,
-};
+const ACK_SET: u64 = ACK_SET_NUMBER * WIRE_TYPES + VARINT;
 
 // The most words of an id.
-const MOST_WORDS: usize = 16;
+const MOST_WORDS: u64 = 16;
 
 // The id whose message is `m`.
 pub fn read_id(m: &[u8]) -> Id

@@ -119,14 +119,14 @@ told-no-content (some x) e = let n : _≡_ {A = ℕ} 0 1 = cc in absurd (omega a
 -- ---- ack words
 
 -- a message's fields of a number, at most some, counted
-pub several-count : (k : ℕ) {wire : ℕ} {l : List Field} {s : Seen} → Saw wire l s
+pub several-count : (k : ℕ) → k ≤ 64 → {wire : ℕ} {l : List Field} {s : Seen} → Saw wire l s
     → at-most k s ≡ found-number (Option·map length (up-to k wire l))
 unfolding found-number
-several-count k {wire = wire} {l = l} {s = s} w = go (at-most k s) refl
+several-count k few {wire = wire} {l = l} {s = s} w = go (at-most k s) refl
   where
     go : (n : Number) → n ≡ at-most k s → n ≡ found-number (Option·map length (up-to k wire l))
-    go (Number.Is n) e = let p = several-is k w e in rw (p .0, p .1)
-    go Number.Bad e = rw (several-bad k w e)
+    go (Number.Is n) e = let p = several-is k few w e in rw (p .0, p .1)
+    go Number.Bad e = rw (several-bad k few w e)
 
 -- those that are answered are those that stand there
 up-to-same : (k wire : ℕ) (l gs : List Field) → up-to k wire l ≡ some gs → gs ≡ l

@@ -3,8 +3,8 @@
 use wire_fields::base::NOTHING;
 use wire_fields::field::DELIMITED;
 use wire_fields::field::VARINT;
+use wire_fields::field::WIRE_TYPES;
 use wire_fields::pick::Picked;
-use wire_fields::pick::Wanted;
 use wire_fields::pick::pick;
 use wire_fields::select::Number;
 use wire_fields::select::Place;
@@ -48,44 +48,23 @@ pub enum Content {
 }
 
 // Fields of MessageIdData.
-const LEDGER_ID: Wanted = Wanted {
-    number: 1,
-    wire: VARINT,
-};
+const LEDGER_ID: u64 = 1 * WIRE_TYPES + VARINT;
 
-const ENTRY_ID: Wanted = Wanted {
-    number: 2,
-    wire: VARINT,
-};
+const ENTRY_ID: u64 = 2 * WIRE_TYPES + VARINT;
 
-const BATCH_SIZE: Wanted = Wanted {
-    number: 6,
-    wire: VARINT,
-};
+const BATCH_SIZE: u64 = 6 * WIRE_TYPES + VARINT;
 
 // Fields of CommandMessage.
-const CONSUMER_ID: Wanted = Wanted {
-    number: 1,
-    wire: VARINT,
-};
+const CONSUMER_ID: u64 = 1 * WIRE_TYPES + VARINT;
 
-const MESSAGE_ID: Wanted = Wanted {
-    number: 2,
-    wire: DELIMITED,
-};
+const MESSAGE_ID: u64 = 2 * WIRE_TYPES + DELIMITED;
 
-const REDELIVERY_COUNT: Wanted = Wanted {
-    number: 3,
-    wire: VARINT,
-};
+const REDELIVERY_COUNT: u64 = 3 * WIRE_TYPES + VARINT;
 
-const ACK_SET: Wanted = Wanted {
-    number: 4,
-    wire: VARINT,
-};
+const ACK_SET: u64 = 4 * WIRE_TYPES + VARINT;
 
 // The most ack words of a Message.
-const MOST_ACK_SET_WORDS: usize = 4;
+const MOST_ACK_SET_WORDS: u64 = 4;
 
 // The id of its own bytes.
 fn id_of(m: &[u8]) -> IdRead

@@ -5,10 +5,9 @@ use super::content::read_content;
 use bits::UnackedBits;
 use record::Dispatch;
 use record::write_record;
-use wire_fields::base::command_type;
-use wire_fields::base::message_part;
+use wire_fields::base::Base;
+use wire_fields::base::read_base;
 use wire_fields::lay::lay_numbers;
-use wire_fields::select::Number;
 use wire_fields::select::Place;
 ghost use mathlib.Core.Path.{_≡_};
 ghost use Prim.Native.Nat.{_-_, _≤_};
@@ -83,13 +82,13 @@ pub fn read_message(bytes: &[u8], record: &mut [u64; 13]) -> u64
     ensures answer { λ r. ⌜ r ≡ message-answer (message (now (bytes .entry))) ⌝ }
     ensures words { λ _. ⌜ now («record» .exit) ≡ record-after (now («record» .entry)) (message (now (bytes .entry))) ⌝ }
 {
-    let Number::Is(kind) = command_type(bytes) else {
+    let Base::Of(kind, place) = read_base(bytes) else {
         return NOT_READ;
     };
     if kind != MESSAGE {
         return OTHER_TYPE;
     }
-    let Place::Is(start, next) = message_part(bytes, MESSAGE) else {
+    let Place::Is(start, next) = place else {
         return NOT_READ;
     };
     fill_from(bytes, start, next, record)

@@ -3,7 +3,7 @@ use mathlib.Core.Path.{sym, _∙_}
 use mathlib.Core.Option.{bind}
 use borrow.Author.Needs.{needs}
 use Rattle.wire.specs.Select.{uint64}
-use Rattle.wire_fields.proofs.Selections.{walked-not, required-is, required-bad}
+use Rattle.wire_fields.proofs.Selections.{walked-not, required-is, required-bad, saw-varint}
 use Rattle.wire_command.specs.Found.{two-of, found-two}
 use Rattle.wire_command.proofs.Steps.{walked-as}
 use Rattle.wire_command.proofs.numbers.two_uint64.Statement.{statement}
@@ -21,6 +21,15 @@ u-before-v c = c .before .before .before .before
 
 abbrev x-before-u : tie.After-u → tie.After-x
 x-before-u c = c .before .before .before .before
+
+abbrev entry-before-x : tie.After-x → tie.Start
+entry-before-x c = c .before .before .before .before
+
+mul-pick : tie.Need-mul-pick
+mul-pick c = search needs
+
+mul-pick-2 : tie.Need-mul-pick-2
+mul-pick-2 c = search needs
 
 pick-requires : tie.Need-pick-requires
 pick-requires c κs = search needs
@@ -49,7 +58,7 @@ unfolding two-of found-two bind
 returns-2 c =
     let x = x-before-bad c in
     let w = walked-as (x .x .given .1) (x .before .before .pick .ensures) in
-    rw (w .all-fields, required-bad uint64 (w .at-a) (sym (c .enum-told2 .given .1) ∙ c .before .before .required-uint64 .ensures))
+    rw (w .all-fields, required-bad uint64 (saw-varint (entry-before-x x .args .first) (w .fs) (w .at-a)) (sym (c .enum-told2 .given .1) ∙ c .before .before .required-uint64 .ensures))
 
 required-uint64-requires-2 : tie.Need-required-uint64-requires-2
 required-uint64-requires-2 c κs = search needs
@@ -68,8 +77,8 @@ returns-3 c =
     let w = walked-as (x .x .given .1) (x .before .before .pick .ensures) in
     rw (
       w .all-fields,
-      required-is uint64 (w .at-a) (sym (u .u .given .1) ∙ u .before .before .required-uint64 .ensures),
-      required-bad uint64 (w .at-b) (sym (c .enum-told3 .given .1) ∙ c .before .before .required-uint642 .ensures),
+      required-is uint64 (saw-varint (entry-before-x x .args .first) (w .fs) (w .at-a)) (sym (u .u .given .1) ∙ u .before .before .required-uint64 .ensures),
+      required-bad uint64 (saw-varint (entry-before-x x .args .second) (w .fs) (w .at-b)) (sym (c .enum-told3 .given .1) ∙ c .before .before .required-uint642 .ensures),
     )
 
 returns-4 : tie.Need-returns-4
@@ -81,14 +90,16 @@ returns-4 c =
     let w = walked-as (x .x .given .1) (x .before .before .pick .ensures) in
     rw (
       w .all-fields,
-      required-is uint64 (w .at-a) (sym (u .u .given .1) ∙ u .before .before .required-uint64 .ensures),
-      required-is uint64 (w .at-b) (sym (v .v .given .1) ∙ v .before .before .required-uint642 .ensures),
+      required-is uint64 (saw-varint (entry-before-x x .args .first) (w .fs) (w .at-a)) (sym (u .u .given .1) ∙ u .before .before .required-uint64 .ensures),
+      required-is uint64 (saw-varint (entry-before-x x .args .second) (w .fs) (w .at-b)) (sym (v .v .given .1) ∙ v .before .before .required-uint642 .ensures),
     )
 
 pub two-uint64-spec : {M : Type 1} → statement M
 two-uint64-spec =
     tie.close
     (tie.spec
+    mul-pick
+    mul-pick-2
     pick-requires
     enum-known-x
     enum-told

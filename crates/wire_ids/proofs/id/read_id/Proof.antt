@@ -3,6 +3,7 @@ use Prim.Native.Nat.{ℕ}
 use mathlib.Core.Path.{_≡_, sym, ap, _∙_}
 use mathlib.Core.List.{map}
 use mathlib.Core.Option.{some, bind}
+use native.Mathlib.Omega.{arith}
 use lib.ListN.{length, length-map}
 use borrow.Author.Needs.{needs}
 use Rattle.wire.specs.Fields.{Field}
@@ -102,7 +103,7 @@ unfolding group-of id-of numbers bind found-id
 returns-4 c =
     let e = c .before .before .before .before in
     let w = message (picked-before-l (l-before-e e)) in
-    let s = several-bad 16 (w .at-c) (sym (c .enum-told4 .given .1) ∙ c .before .before .several .ensures) in
+    let s = several-bad 16 (omega arith) (w .at-c) (sym (c .enum-told4 .given .1) ∙ c .before .before .several .ensures) in
     rw (w .all-fields, ledger (l-before-e e), entry e, s)
 
 returns-5 : tie.Need-returns-5
@@ -111,7 +112,7 @@ returns-5 c =
     let n = c .before in
     let e = e-before-n n in
     let w = message (picked-before-l (l-before-e e)) in
-    let s = several-is 16 (w .at-c) (sym (n .n .given .1) ∙ n .before .before .several .ensures) in
+    let s = several-is 16 (omega arith) (w .at-c) (sym (n .n .given .1) ∙ n .before .before .several .ensures) in
     let k : length (map (λ (f : Field). f .value) (numbered 5 (w .fs))) ≡ n .n .given .0 .0 = length-map (numbered 5 (w .fs)) _ ∙ sym (s .1) in
     rw (w .all-fields, ledger (l-before-e e), entry e, s .0, k)
 

@@ -1,6 +1,7 @@
 -- `wire_message::content::ack_words` meets its contract: the fields that were seen under 4 are counted.
 use mathlib.Core.Path.{sym, _∙_}
 use mathlib.Core.Option.{bind}
+use native.Mathlib.Omega.{arith}
 use borrow.Author.Needs.{needs}
 use Rattle.wire_fields.specs.Selected.{found-number}
 use Rattle.wire_fields.proofs.Selections.{walked, walked-not}
@@ -33,7 +34,7 @@ returns-2 : tie.Need-returns-2
 unfolding ack-count bind
 returns-2 c =
     let w = walked _ _ _ _ _ _ _ (sym (c .before .before .x .given .1) ∙ pick-before-several c .pick .ensures) in
-    c .several .ensures ∙ several-count 4 (w .at-a) ∙ rw (w .all-fields)
+    c .several .ensures ∙ several-count 4 (omega arith) (w .at-a) ∙ rw (w .all-fields)
 
 pub ack-words-spec : {M : Type 1} → statement M
 ack-words-spec =
