@@ -1,18 +1,18 @@
 -- A field read by its wire type: what each way out of `field.rt` answers, from what was read of its varints.
 use Prim.Native.Nat.{ℕ, _+_, _-_, _/_, _%_, _^_, _<_, _≤_}
 use mathlib.Core.Path.{_≡_, refl, sym, ap, _∙_}
-use mathlib.Core.Bool.{true, false}
+use mathlib.Core.Bool.{Bool, true, false, cond, and-eq-true-iff}
 use mathlib.Core.List.{List}
 use mathlib.Core.Option.{Option, none, some, bind}
 use native.Mathlib.Omega.{arith}
 use lib.Dec.{eqb, leb, ltb}
 use lib.ListN.{length, getD, drop, length-drop}
-use borrow.Author.Tests.{lt-ltb, le-ltb, le-leb, lt-leb, eq-eqb, ne-eqb}
+use borrow.Author.Tests.{lt-ltb, le-ltb, ltb-true, le-leb, lt-leb, leb-true, eq-eqb, ne-eqb, eqb-true}
 use Rattle.wire.specs.Varint.{varint}
 use Rattle.wire.specs.Varint as wire
 use Rattle.wire.specs.Fields.{field, field-of, varint-field, delimited-field, fixed-field, inside}
 use Rattle.wire.proofs.Varint.{varint-bounds}
-use Rattle.wire_fields.specs.Found.{found-varint, varint-at, as-field, found-field, TwoBytes}
+use Rattle.wire_fields.specs.Found.{found-varint, varint-at, as-field, found-field, part-tag, TwoBytes}
 use Rattle.wire_fields.proofs.Varints.{one-byte}
 use Rattle.wire_fields.specs.declared.varint.Varint.{Varint}
 use Rattle.wire_fields.specs.declared.varint.Varint.the-variants.{Read, Bad}
@@ -138,11 +138,6 @@ module _ {m : List ℕ} {at tag b : ℕ} (t : TwoBytes m at tag b) where
   by-wire : found-field (field-of m (tag / 8) (tag % 8) (at + 1)) ≡ found-field (field m at)
   by-wire = number-right m at tag (at + 1) tag-was (t .high) (omega (arith, t .short-tag))
 
-  pub two-bytes-varint : tag % 8 ≡ 0
-      → FieldAt.Is (record { number = tag / 8; wire = 0; value = b; start = at + 1; next = at + 2 }) ≡ found-field (field m at)
-  unfolding field-of
-  two-bytes-varint e = is-varint-field m (tag / 8) (at + 1) b (at + 2) b-was ∙ rw (eq-eqb (tag % 8) 0 e) at by-wire
-
   -- the length is that of a part
   delimited : tag % 8 ≡ 2 → found-field (delimited-field m (tag / 8) (at + 1)) ≡ found-field (field m at)
   unfolding field-of
@@ -158,6 +153,25 @@ module _ {m : List ℕ} {at tag b : ℕ} (t : TwoBytes m at tag b) where
       → FieldAt.Is (record { number = tag / 8; wire = 2; value = 0; start = at + 2; next = at + 2 + b }) ≡ found-field (field m at)
   two-bytes-part e l = is-delimited-field m (tag / 8) (at + 1) b (at + 2) b-was l ∙ delimited e
 
--- a tag of one byte below 8
-pub low-tag : (m : List ℕ) (at tag : ℕ) → at < length m → tag ≡ getD m at 0 → tag < 8 → FieldAt.Bad ≡ found-field (field m at)
-low-tag m at tag h e l = number-0 m at tag (at + 1) (one-byte-was m at tag h e (omega arith)) l
+-- what is answered under a test, and else 0, was tested if it is not 0
+pub tested : (t : Bool) (v r : ℕ) → r ≡ cond t v 0 → (r ≡ 0 → ⊥) → (t ≡ true) × (r ≡ v)
+tested true v r e n = (refl, e)
+tested false v r e n = absurd (n e)
+
+-- the tag of a part of one byte, with a length of one byte
+pub part-bytes : (m : List ℕ) (at tag b : ℕ) → at + 2 ≤ length m → tag ≡ part-tag m at → (tag ≡ 0 → ⊥) → b ≡ getD m (at + 1) 0
+    → TwoBytes m at tag b × (tag % 8 ≡ 2)
+unfolding part-tag
+part-bytes m at tag b h e n i =
+    let p = tested _ (getD m at 0) tag e n in
+    let r = and-eq-true-iff (leb 8 (getD m at 0)) _ .0 (p .0) in
+    let u = and-eq-true-iff (ltb (getD m at 0) 128) _ .0 (r .1) in
+    let v = and-eq-true-iff (eqb (getD m at 0 % 8) 2) _ .0 (u .1) in
+    (record {
+      inside = h;
+      is-tag = p .1;
+      is-b = i;
+      high = rw (p .1) (leb-true 8 (getD m at 0) (r .0));
+      short-tag = rw (p .1) (ltb-true (getD m at 0) 128 (u .0));
+      short-b = rw i (ltb-true (getD m (at + 1) 0) 128 (v .1));
+    }, rw (p .1) (eqb-true (getD m at 0 % 8) 2 (v .0)))

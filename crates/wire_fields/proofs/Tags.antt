@@ -14,7 +14,7 @@ use Rattle.wire.specs.Fields.{field, field-of, varint-field}
 use Rattle.wire_fields.specs.Found.{varint-at, found-field, varint-tag, short-tag}
 use Rattle.wire_fields.specs.declared.varint.Varint.the-variants.{Read, Bad}
 use Rattle.wire_fields.specs.declared.field.FieldAt.the-variants as FieldAt
-use Rattle.wire_fields.proofs.FieldsRead.{Was, was-read, not-read, one-byte-was, number-0, number-right, no-varint-field, is-varint-field}
+use Rattle.wire_fields.proofs.FieldsRead.{tested, Was, was-read, not-read, one-byte-was, number-0, number-right, no-varint-field, is-varint-field}
 use Rattle.wire_fields.proofs.Varints.{one-byte}
 use Rattle.wire_fields.proofs.Walks.{Stands, stands, stands-not}
 
@@ -24,11 +24,6 @@ record Tagged (m : List ℕ) (at tag : ℕ) : Type 0 where
   inside : at < length m
   short : tag < 128
   varint : tag % 8 ≡ 0
-
--- what is answered under a test, and else 0, was tested if it is not 0
-tested : (t : Bool) (v r : ℕ) → r ≡ cond t v 0 → (r ≡ 0 → ⊥) → (t ≡ true) × (r ≡ v)
-tested true v r e n = (refl, e)
-tested false v r e n = absurd (n e)
 
 tagged : (m : List ℕ) (at tag : ℕ) → tag ≡ varint-tag m at → (tag ≡ 0 → ⊥) → Tagged m at tag
 unfolding varint-tag

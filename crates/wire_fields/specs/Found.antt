@@ -60,3 +60,8 @@ varint-tag m at = cond (ltb at (length m) && (ltb (getD m at 0) 128 && eqb (getD
 -- that of a varint field of two bytes; else 0
 unfoldable pub short-tag : List ℕ → ℕ → ℕ
 short-tag m at = cond (leb (at + 2) (length m) && ltb (getD m (at + 1) 0) 128) (varint-tag m at) 0
+
+-- that of a length-delimited field if it has one byte, as the length has; else 0
+unfoldable pub part-tag : List ℕ → ℕ → ℕ
+part-tag m at =
+    cond (leb 8 (getD m at 0) && (ltb (getD m at 0) 128 && (eqb (getD m at 0 % 8) 2 && ltb (getD m (at + 1) 0) 128))) (getD m at 0) 0

@@ -4,10 +4,10 @@ use super::varint::Varint;
 use super::varint::varint_at;
 use super::varint::wide;
 ghost use mathlib.Core.Path.{_≡_};
-ghost use Prim.Native.Nat.{_≤_};
+ghost use Prim.Native.Nat.{_+_, _≤_};
 ghost use lib.ListN.{length};
 ghost use Rattle.wire.specs.Fields.{field, field-of, varint-field, delimited-field, fixed-field};
-ghost use Rattle.wire_fields.specs.Found.{found-field, TwoBytes, varint-tag, short-tag};
+ghost use Rattle.wire_fields.specs.Found.{found-field, part-tag, varint-tag, short-tag};
 
 // A field as the wire has it: its number and wire type, the number of a varint, and the places where its content begins and where
 // the next field does.
@@ -130,36 +130,28 @@ fn field_of_any_size(m: &[u8], at: usize) -> FieldAt
     content_at(m, tag / WIRE_TYPES, tag % WIRE_TYPES, after)
 }
 
-// The field whose tag is a byte and whose number or length is another: most fields are. Other forms are read as such.
-fn field_of_two_bytes(m: &[u8], at: usize, tag: u64, b: u64) -> FieldAt
-    requires { ⌜ TwoBytes (now m) at tag b ⌝ }
-    ensures { λ r. ⌜ r ≡ found-field (field (now (m .entry)) at) ⌝ }
+// The tag at a place if it is that of a length-delimited field and has one byte, as the length has; else 0.
+fn part_tag(m: &[u8], at: usize) -> u64
+    requires { ⌜ at + 2 ≤ length (now m) ⌝ }
+    ensures { λ r. ⌜ r ≡ part-tag (now (m .entry)) at ⌝ }
 {
-    if tag % WIRE_TYPES == VARINT {
-        return FieldAt::Is(Field {
-            number: tag / WIRE_TYPES,
-            wire: VARINT,
-            value: b,
-            start: at + 1,
-            next: at + 2,
-        });
+    let tag = wide(m[at]);
+    if tag < WIRE_TYPES {
+        return 0;
+    }
+    if MORE <= tag {
+        return 0;
     }
     if tag % WIRE_TYPES != DELIMITED {
-        return field_of_any_size(m, at);
+        return 0;
     }
-    if ((m.len() - (at + 2)) as u64) < b {
-        return FieldAt::Bad;
+    if MORE <= wide(m[at + 1]) {
+        return 0;
     }
-    FieldAt::Is(Field {
-        number: tag / WIRE_TYPES,
-        wire: DELIMITED,
-        value: 0,
-        start: at + 2,
-        next: at + 2 + b as usize,
-    })
+    tag
 }
 
-// The field whose tag stands at a place.
+// The field whose tag stands at a place. Most parts have a tag and a length of one byte, and are read at once.
 pub fn field_at(m: &[u8], at: usize) -> FieldAt
     requires { ⌜ at ≤ length (now m) ⌝ }
     ensures { λ r. ⌜ r ≡ found-field (field (now (m .entry)) at) ⌝ }
@@ -167,18 +159,22 @@ pub fn field_at(m: &[u8], at: usize) -> FieldAt
     if m.len() - at < 2 {
         return field_of_any_size(m, at);
     }
-    let tag = wide(m[at]);
-    if tag < WIRE_TYPES {
+    let tag = part_tag(m, at);
+    if tag == 0 {
+        return field_of_any_size(m, at);
+    }
+    let size = wide(m[at + 1]);
+    let start = at + 2;
+    if ((m.len() - start) as u64) < size {
         return FieldAt::Bad;
     }
-    let b = wide(m[at + 1]);
-    if MORE <= tag {
-        return field_of_any_size(m, at);
-    }
-    if MORE <= b {
-        return field_of_any_size(m, at);
-    }
-    field_of_two_bytes(m, at, tag, b)
+    FieldAt::Is(Field {
+        number: tag / WIRE_TYPES,
+        wire: DELIMITED,
+        value: 0,
+        start: start,
+        next: start + size as usize,
+    })
 }
 
 // The tag at a place if it is that of a varint field and has one byte; else 0. Walks go by it and by `short_tag` where they can,
