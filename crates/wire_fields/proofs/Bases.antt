@@ -1,11 +1,13 @@
 -- A BaseCommand: where the message of its type stands, and what a reader of some types answers at each of its ways out.
-use Prim.Native.Nat.{ℕ, _^_, _<_, _≤_}
+use Prim.Native.Nat.{ℕ, _-_, _^_, _<_, _≤_}
 use mathlib.Core.Path.{_≡_, refl, _∙_}
 use mathlib.Core.Bool.{Bool, true, false}
 use mathlib.Core.List.{List}
 use mathlib.Core.Option.{Option, none, some, Option·map, bind}
 use native.Mathlib.Omega.{arith}
 use lib.Dec.{ltb}
+use lib.ListN.{length, take, drop}
+use lib.Seq.{take-all}
 use borrow.Author.Tests.{lt-ltb, le-ltb}
 use Rattle.rules.proofs.Table.{by-test}
 use Rattle.wire.specs.Fields.{Field, fields}
@@ -21,6 +23,10 @@ use Rattle.wire_fields.specs.declared.select.Number.the-variants as Numb
 use Rattle.wire_fields.specs.declared.select.Place.{Place}
 use Rattle.wire_fields.specs.declared.select.Place.the-variants as Place
 use Rattle.wire_fields.proofs.Selections.{Saw, required-is, required-bad, place-law}
+
+-- all of a message is a part of it
+pub whole : (m : List ℕ) → take (length m - 0) (drop 0 m) ≡ m
+whole m = take-all (length m - 0) m (omega arith)
 
 -- ---- where the message stands
 

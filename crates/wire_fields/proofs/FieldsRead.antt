@@ -166,12 +166,14 @@ part-bytes m at tag b h e n i =
     let p = tested _ (getD m at 0) tag e n in
     let r = and-eq-true-iff (leb 8 (getD m at 0)) _ .0 (p .0) in
     let u = and-eq-true-iff (ltb (getD m at 0) 128) _ .0 (r .1) in
-    let v = and-eq-true-iff (eqb (getD m at 0 % 8) 2) _ .0 (u .1) in
-    (record {
-      inside = h;
-      is-tag = p .1;
-      is-b = i;
-      high = rw (p .1) (leb-true 8 (getD m at 0) (r .0));
-      short-tag = rw (p .1) (ltb-true (getD m at 0) 128 (u .0));
-      short-b = rw i (ltb-true (getD m (at + 1) 0) 128 (v .1));
-    }, rw (p .1) (eqb-true (getD m at 0 % 8) 2 (v .0)))
+    let v = and-eq-true-iff (eqb (getD m at 0 % 8) 2) _ .0 (u .1) in (
+      record {
+        inside = h;
+        is-tag = p .1;
+        is-b = i;
+        high = rw (p .1) (leb-true 8 (getD m at 0) (r .0));
+        short-tag = rw (p .1) (ltb-true (getD m at 0) 128 (u .0));
+        short-b = rw i (ltb-true (getD m (at + 1) 0) 128 (v .1));
+      },
+      rw (p .1) (eqb-true (getD m at 0 % 8) 2 (v .0)),
+    )

@@ -2,18 +2,18 @@
 -- walk over the fields.
 use Prim.Native.Nat.{ℕ, zero, suc, _+_, _/_, _%_, _^_, _<_, _≤_}
 use mathlib.Core.Path.{_≡_, refl, sym, ap, _∙_}
-use mathlib.Core.Bool.{Bool, true, false, cond, _&&_, and-eq-true-iff}
+use mathlib.Core.Bool.{Bool, true, false, cond, _&&_, true≢false, and-eq-true-iff}
 use mathlib.Core.List.{List}
 use mathlib.Core.Option.{none}
 use native.Mathlib.Omega.{arith}
 use lib.Dec.{eqb, leb, ltb}
 use lib.ListN.{length, getD}
-use borrow.Author.Tests.{ltb-true, leb-true, eqb-true, eq-eqb}
+use borrow.Author.Tests.{ltb-true, leb-true, eqb-true, eqb-false, eq-eqb, not-true}
 use Rattle.rules.proofs.Table.{by-test}
 use Rattle.wire.specs.Fields.{field, field-of, varint-field}
-use Rattle.wire_fields.specs.Found.{varint-at, found-field, varint-tag, short-tag}
+use Rattle.wire_fields.specs.Found.{varint-at, found-field, varint-tag, short-tag, passed-by}
 use Rattle.wire_fields.specs.declared.varint.Varint.the-variants.{Read, Bad}
-use Rattle.wire_fields.specs.declared.field.FieldAt.the-variants as FieldAt
+use Rattle.wire_fields.specs.declared.field.Field.{Field}
 use Rattle.wire_fields.proofs.FieldsRead.{tested, Was, was-read, not-read, one-byte-was, number-0, number-right, no-varint-field, is-varint-field}
 use Rattle.wire_fields.proofs.Varints.{one-byte}
 use Rattle.wire_fields.proofs.Walks.{Stands, stands, stands-not}
@@ -84,3 +84,17 @@ short-stands m at tag b e n i =
 -- it lies inside the message
 pub short-inside : (m : List ℕ) (at tag : ℕ) → tag ≡ short-tag m at → (tag ≡ 0 → ⊥) → at + 2 ≤ length m
 short-inside m at tag e n = short-stands m at tag (getD m (at + 1) 0) e n refl .0
+
+-- a field of two bytes of another number
+abbrev pub other-field : List ℕ → ℕ → Field
+other-field m at = record { number = short-tag m at / 8; wire = 0; value = getD m (at + 1) 0; start = at + 1; next = at + 2 }
+
+pub passed-stands : (m : List ℕ) (at number : ℕ) → passed-by m at number ≡ true
+    → (at + 2 ≤ length m) × Stands m at (other-field m at) × (other-field m at .number ≡ number → ⊥)
+unfolding passed-by
+passed-stands m at number e =
+    by-test (eqb (short-tag m at) 0)
+    (λ t. absurd (true≢false (sym (rw t at e))))
+    (λ t.
+    let p = short-stands m at (short-tag m at) (getD m (at + 1) 0) refl (eqb-false (short-tag m at) 0 t) refl in
+    (p .0, p .1, eqb-false (short-tag m at / 8) number (not-true _ (rw t at e))))

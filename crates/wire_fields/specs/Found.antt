@@ -1,7 +1,7 @@
 -- What the code of this crate answers, by the definitions of the wire.
-use Prim.Native.Nat.{ℕ, _+_, _-_, _*_, _%_, _^_, _<_, _≤_}
+use Prim.Native.Nat.{ℕ, _+_, _-_, _*_, _/_, _%_, _^_, _<_, _≤_}
 use mathlib.Core.Path.{_≡_}
-use mathlib.Core.Bool.{cond, _&&_}
+use mathlib.Core.Bool.{Bool, false, not, cond, _&&_}
 use mathlib.Core.List.{List}
 use mathlib.Core.Option.{Option, none, some, Option·map}
 use lib.Dec.{eqb, leb, ltb}
@@ -60,6 +60,10 @@ varint-tag m at = cond (ltb at (length m) && (ltb (getD m at 0) 128 && eqb (getD
 -- that of a varint field of two bytes; else 0
 unfoldable pub short-tag : List ℕ → ℕ → ℕ
 short-tag m at = cond (leb (at + 2) (length m) && ltb (getD m (at + 1) 0) 128) (varint-tag m at) 0
+
+-- whether a varint field of two bytes of another number stands at a place
+unfoldable pub passed-by : List ℕ → ℕ → ℕ → Bool
+passed-by m at number = cond (eqb (short-tag m at) 0) false (not (eqb (short-tag m at / 8) number))
 
 -- that of a length-delimited field if it has one byte, as the length has; else 0
 unfoldable pub part-tag : List ℕ → ℕ → ℕ

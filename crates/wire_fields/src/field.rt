@@ -7,7 +7,7 @@ ghost use mathlib.Core.Path.{_≡_};
 ghost use Prim.Native.Nat.{_+_, _≤_};
 ghost use lib.ListN.{length};
 ghost use Rattle.wire.specs.Fields.{field, field-of, varint-field, delimited-field, fixed-field};
-ghost use Rattle.wire_fields.specs.Found.{found-field, part-tag, varint-tag, short-tag};
+ghost use Rattle.wire_fields.specs.Found.{found-field, part-tag, varint-tag, short-tag, passed-by};
 
 // A field as the wire has it: its number and wire type, the number of a varint, and the places where its content begins and where
 // the next field does.
@@ -207,4 +207,16 @@ pub fn short_tag(m: &[u8], at: usize) -> u64
         return 0;
     }
     varint_tag(m, at)
+}
+
+// Whether a varint field of two bytes stands at a place that is of another number: a walk that looks for the number passes it by.
+pub fn passed_by(m: &[u8], at: usize, number: u64) -> bool
+    requires { ⌜ at ≤ length (now m) ⌝ }
+    ensures { λ r. ⌜ r ≡ passed-by (now (m .entry)) at number ⌝ }
+{
+    let tag = short_tag(m, at);
+    if tag == 0 {
+        return false;
+    }
+    tag / WIRE_TYPES != number
 }

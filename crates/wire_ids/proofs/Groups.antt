@@ -1,120 +1,65 @@
--- Ids laid field by field: what the loop of `lay.rt` turns on, by the laws of `Laying`.
-use Prim.Native.Nat.{ℕ, suc, _+_, _-_, _≤_}
-use mathlib.Core.Path.{_≡_, refl, sym, ap, _∙_}
-use mathlib.Core.Bool.{true, false, _&&_}
-use mathlib.Core.List.{List, [], _∷_, _++_, map}
-use mathlib.Core.Option.{Option, none, some, Option·map, bind, map-eq-some-iff, bind-eq-some-iff, Option·some-injective}
-use native.Mathlib.Numerals.{add-one}
-use native.Mathlib.Nat.{zero-add}
+-- Ids laid field by field: what the loop of `lay_ids` turns on, by the laws of `Laying`. Every field of the number is an id, since
+-- the ids were read.
+use Prim.Native.Nat.{ℕ, _+_, _-_, _<_}
+use mathlib.Core.Path.{_≡_, refl, ap}
+use mathlib.Core.Bool.{Bool, true, and-eq-true-iff}
+use mathlib.Core.List.{List, [], _∷_, _++_}
+use mathlib.Core.Option.{some, map-eq-some-iff, bind-eq-some-iff, Option·some-injective}
 use native.Mathlib.Omega.{arith}
-use lib.Dec.{eqb, leb}
-use lib.ListN.{length, set, take, drop, length-map}
+use lib.Dec.{eqb}
+use lib.ListN.{length, take, drop}
 use borrow.Author.Tests.{eq-eqb, ne-eqb}
-use Rattle.rules.specs.Table.{or-else, keep, all}
+use Rattle.rules.specs.Table.{or-else, keep, all, is-some}
 use Rattle.rules.specs.Groups.{Group}
 use Rattle.rules.proofs.Table.{by-test}
 use Rattle.words.specs.Act.{lay}
-use Rattle.words.proofs.Act.{lay-append}
 use Rattle.wire.specs.Fields.{fields}
 use Rattle.wire.specs.Fields as wire
-use Rattle.wire.specs.Select.{numbered, up-to, numbers, bytes-of}
-use Rattle.wire.specs.Ids.{id-of, group-of, groups-of, id-list, group-words, list-words}
-use Rattle.wire.proofs.Options.{answered}
+use Rattle.wire.specs.Select.{numbered, up-to, bytes-of}
+use Rattle.wire.specs.Ids.{group-of, groups-of, id-list, group-words, list-words}
 use Rattle.wire_fields.specs.Found.{as-field}
-use Rattle.wire_fields.specs.Values.{all-of, values, values-of, Laid}
+use Rattle.wire_fields.specs.Values.{all-of, Laid}
 use Rattle.wire_fields.specs.declared.field.Field.{Field}
-use Rattle.wire_fields.proofs.Laying.{laid}
-use Rattle.wire_fields.proofs.Selections.{numbered-in, numbered-out}
-use Rattle.wire_ids.specs.Sizes.{found-id, ids-of}
-use Rattle.wire_ids.specs.Groups.{words-of-group, id-words, field-words, ids-there, Listed}
-use Rattle.wire_ids.specs.declared.id.Id.{Id}
-use Rattle.wire_ids.specs.declared.id.Id.the-variants as Id
-
--- ---- one id
-
--- an id that was read: its message is well formed, and its words are the numbers of its ack set
-pub record IdRead (m : List ℕ) (ledger entry n : ℕ) : Type 0 where
-  pub formed : fields m ≡ some (all-of m)
-  pub is : id-words m ≡ ledger ∷ entry ∷ n ∷ values-of m 5
-  pub many : length (values-of m 5) ≡ n
-
--- the fields of a repeated one are those that stand there
-up-to-is : (k type : ℕ) (fs gs : List wire.Field) → up-to k type fs ≡ some gs → fs ≡ gs
-unfolding up-to
-up-to-is k type fs gs e = answered (leb (length fs) k && all (λ (f : wire.Field). eqb (f .wire) type) fs) fs e .1
-
--- the words of a group that was read are the numbers of its ack set
-group-values : (m : List ℕ) (g : Group) → group-of m ≡ some g → (fields m ≡ some (all-of m)) × (g .words ≡ values-of m 5)
-unfolding group-of numbers values-of values all-of or-else
-group-values m g e =
-    let p = bind-eq-some-iff (fields m) _ .0 e in
-    let q = bind-eq-some-iff (id-of (p .0)) _ .0 (p .2) in
-    let r = bind-eq-some-iff (numbers 16 (numbered 5 (p .0))) _ .0 (q .2) in
-    let v = map-eq-some-iff (map (λ (f : wire.Field). f .value)) (up-to 16 0 (numbered 5 (p .0))) .0 (r .1) in
-    let w : r .0 ≡ g .words = ap (λ (x : Group). x .words) (Option·some-injective _ g (r .2)) in
-    let z = up-to-is 16 0 (numbered 5 (p .0)) (v .0) (v .1) in
-    (rw (p .1), rw (p .1) (sym w ∙ sym (v .2) ∙ ap (map (λ (f : wire.Field). f .value)) (sym z)))
-
-pub id-read : (m : List ℕ) (ledger entry n : ℕ) → Id.Is ledger entry n ≡ found-id (group-of m) → IdRead m ledger entry n
-unfolding found-id id-words words-of-group group-words
-id-read m ledger entry n e = go (group-of m) refl e
-  where
-    go : (i : Option Group) → group-of m ≡ i → Id.Is ledger entry n ≡ found-id i → IdRead m ledger entry n
-    go none p q = let z : _≡_ {A = ℕ} 0 1 = cc in absurd (omega arith)
-    go (some g) p q =
-        let a : ledger ≡ g .id .ledger = cc in
-        let b : entry ≡ g .id .entry = cc in
-        let c : n ≡ length (g .words) = cc in
-        let v = group-values m g p in
-        record { formed = v .0; is = rw (p, a, b, c, v .1); many = rw (c, v .1) }
-
--- nothing is laid of what is no id
-pub id-unread : (m : List ℕ) → Id.Bad ≡ found-id (group-of m) → id-words m ≡ []
-unfolding found-id id-words words-of-group
-id-unread m e = go (group-of m) e
-  where
-    go : (i : Option Group) → Id.Bad ≡ found-id i → words-of-group i ≡ []
-    go none q = refl
-    go (some g) q = let z : _≡_ {A = ℕ} 0 1 = cc in absurd (omega arith)
+use Rattle.wire_fields.proofs.Walks.{Stands}
+use Rattle.wire_fields.proofs.Laying.{laid, left-of, formed-start, formed-on, Laying, laying-start, laying-room, laying-on}
+use Rattle.wire_ids.specs.Sizes.{ids-of}
+use Rattle.wire_ids.specs.Groups.{words-of-group, id-words, field-words, field-right, IdRoom, FieldRoom, ids-there, Listed}
+use Rattle.wire_ids.proofs.OneId.{up-to-is}
 
 -- nothing laid
 pub lays-nothing : (words list : List ℕ) (to : ℕ) → words ≡ [] → Laid list to words list to
 unfolding lay
 lays-nothing words list to e = rw e (record { is = refl; ends = omega arith })
 
--- the head of a group and then its words
-lays-head : (list vs : List ℕ) (to ledger entry n : ℕ)
-    → lay (ledger ∷ entry ∷ n ∷ vs) .run to list ≡ lay vs .run (to + 3) (set (set (set list to ledger) (to + 1) entry) (to + 2) n)
-unfolding lay
-lays-head list vs to ledger entry n =
-    let a : suc to ≡ to + 1 = omega arith in
-    let b : suc (suc to) ≡ to + 2 = omega arith in
-    let x : lay (ledger ∷ entry ∷ n ∷ []) .run to list ≡ set (set (set list to ledger) (suc to) entry) (suc (suc to)) n = refl in
-    lay-append (ledger ∷ entry ∷ n ∷ []) vs to list ∙ ap (lay vs .run (to + 3)) (x ∙ rw (b, a))
-
-pub lays-group : (m list after : List ℕ) (to ledger entry n : ℕ) → IdRead m ledger entry n
-    → after ≡ lay (values-of m 5) .run (to + 3) (set (set (set list to ledger) (to + 1) entry) (to + 2) n)
-    → Laid list to (id-words m) after (to + 3 + n)
-lays-group m list after to ledger entry n i e =
-    let k = i .many in
-    rw (i .is) (record { is = e ∙ sym (lays-head list (values-of m 5) to ledger entry n); ends = omega arith })
-
 -- ---- a field
 
+-- of another number nothing is laid
 pub field-other : (m : List ℕ) (number : ℕ) (f : Field) → (f .number ≡ number → ⊥) → field-words m number f ≡ []
 unfolding field-words
 field-other m number f e = rw (ne-eqb (f .number) number e)
 
+-- of the number the id's words are
 pub field-id : (m : List ℕ) (number : ℕ) (f : Field) → f .number ≡ number
     → field-words m number f ≡ id-words (take (f .next - f .start) (drop (f .start) m))
 unfolding field-words
 field-id m number f e = rw (eq-eqb (f .number) number e)
+
+-- the room of a field of the number is that of its id
+pub field-room : (m : List ℕ) (number : ℕ) (f : Field) (size to : ℕ) → f .number ≡ number → FieldRoom m number f size to
+    → IdRoom (take (f .next - f .start) (drop (f .start) m)) size to
+unfolding field-right
+field-room m number f size to e r =
+    record { read = rw (eq-eqb (f .number) number e) at (r .read); room = rw (field-id m number f e) at (r .room) }
 
 -- ---- all ids
 
 -- what is laid for a field of the message
 abbrev pub words-of : List ℕ → ℕ → wire.Field → List ℕ
 words-of m number g = field-words m number (as-field g)
+
+-- a field of the message is an id, or of another number
+abbrev pub right-of : List ℕ → ℕ → wire.Field → Bool
+right-of m number g = field-right m number (as-field g)
 
 -- the ids of a list of fields are laid one after the other
 ids-laid : (m : List ℕ) (number : ℕ) (fs : List wire.Field) (ids : List Group) → groups-of m (numbered number fs) ≡ some ids
@@ -137,12 +82,77 @@ ids-laid m number (f ∷ fs) ids e =
         → g ∷ more ≡ ids → words-of m number f ++ laid (words-of m number) fs ≡ list-words ids
     one-more g more ids a b c = rw (a, b) (ap list-words c)
 
+-- and each is an id
+ids-right : (m : List ℕ) (number : ℕ) (fs : List wire.Field) (ids : List Group) → groups-of m (numbered number fs) ≡ some ids
+    → all (right-of m number) fs ≡ true
+unfolding numbered keep groups-of all field-right is-some as-field
+ids-right m number [] ids e = refl
+ids-right m number (f ∷ fs) ids e =
+    by-test (eqb (f .number) number)
+    (λ t.
+    let p = bind-eq-some-iff (group-of (bytes-of m f)) _ .0 (rw t at e) in
+    let q = map-eq-some-iff (λ (l : List Group). p .0 ∷ l) (groups-of m (numbered number fs)) .0 (p .2) in
+    rw (t, p .1) (ids-right m number fs (q .0) (q .1)))
+    (λ t. rw t (ids-right m number fs ids (rw t at e)))
+
 -- so those of a message are
 pub all-laid : (m : List ℕ) (number : ℕ) → ids-of m number ≡ some (ids-there m number)
-    → (fields m ≡ some (all-of m)) × (laid (words-of m number) (all-of m) ≡ list-words (ids-there m number))
+    → (fields m ≡ some (all-of m))
+    × (laid (words-of m number) (all-of m) ≡ list-words (ids-there m number))
+    × (all (right-of m number) (all-of m) ≡ true)
 unfolding ids-of id-list all-of or-else
 all-laid m number e =
     let p = bind-eq-some-iff (fields m) _ .0 e in
     let q = bind-eq-some-iff (up-to 64 2 (numbered number (p .0))) _ .0 (p .2) in
     let z = up-to-is 64 2 (numbered number (p .0)) (q .0) (q .1) in
-    (rw (p .1), rw (p .1) (ids-laid m number (p .0) (ids-there m number) (rw z (q .2))))
+    let g = rw (← z) at (q .2) in (
+      rw (p .1),
+      rw (p .1) (ids-laid m number (p .0) (ids-there m number) g),
+      rw (p .1) (ids-right m number (p .0) (ids-there m number) g),
+    )
+
+-- ---- the loop
+
+-- the ids so far are laid, and what is left are ids
+pub record Listing (m : List ℕ) (number : ℕ) (list : List ℕ) (at : ℕ) (here : List ℕ) (next : ℕ) : Type 0 where
+  pub laying : Laying (words-of m number) m list 0 at here next
+  pub right : all (right-of m number) (left-of m at) ≡ true
+
+module _ (m : List ℕ) (number : ℕ) (list : List ℕ) where
+  -- nothing is laid yet
+  pub listing-start : Listed m number (length list) → Listing m number list 0 list 0
+  listing-start r =
+      let l = all-laid m number (r .read) in
+      record {
+        laying = laying-start (words-of m number) m list 0 (l .0) (rw (l .1) (omega (arith, r .room)));
+        right = rw (formed-start m (l .0) .1) (l .2);
+      }
+
+  module _ {at next : ℕ} {here : List ℕ} (l : Listing m number list at here next) (f : Field) (h : at < length m) (w : Stands m at f) where
+    -- the field of a turn and those after it
+    now-right : (field-right m number f ≡ true) × (all (right-of m number) (left-of m (f .next)) ≡ true)
+    unfolding all
+    now-right =
+        let o = formed-on m at f h w (l .laying .formed) in
+        let a : all (right-of m number) (w .g ∷ left-of m (f .next)) ≡ true = rw (o .1) at (l .right) in
+        let p = and-eq-true-iff (right-of m number (w .g)) (all (right-of m number) (left-of m (f .next))) .0 a in
+        (rw (w .same) (p .0), p .1)
+
+    -- it is an id that has room, or of another number
+    pub listing-room : FieldRoom m number f (length here) next
+    listing-room =
+        record {
+          starts = w .starts;
+          ends = w .ends;
+          read = now-right .0;
+          room = rw (w .same) (laying-room (words-of m number) m list 0 (l .laying) f h w);
+        }
+
+    -- it is laid
+    pub listing-on : (after : List ℕ) (further : ℕ) → Laid here next (field-words m number f) after further
+        → Listing m number list (f .next) after further
+    listing-on after further d =
+        record {
+          laying = laying-on (words-of m number) m list 0 (l .laying) f h w after further (rw (w .same) at d);
+          right = now-right .1;
+        }

@@ -2,14 +2,14 @@
 -- ids take in all.
 use Prim.Native.Nat.{ℕ, zero, suc, _+_, _-_, _*_, _<_, _≤_}
 use mathlib.Core.Path.{_≡_, refl, sym, ap, _∙_}
-use mathlib.Core.Bool.{Bool, true, false, cond, _&&_, and-false}
+use mathlib.Core.Bool.{true, false, cond, and-false}
 use mathlib.Core.List.{List, [], _∷_}
 use mathlib.Core.Option.{Option, none, some, Option·map, bind}
 use native.Mathlib.Nat.{add-zero, pos-of-ne-zero}
 use native.Mathlib.Omega.{arith}
 use lib.Dec.{eqb, leb}
 use lib.ListN.{length, take, drop, length-append}
-use borrow.Author.Tests.{le-leb, lt-leb, leb-true, leb-false, eqb-true, eqb-false, ne-eqb}
+use borrow.Author.Tests.{le-leb, lt-leb, leb-true, leb-false, eqb-false, ne-eqb}
 use Rattle.rules.specs.Table.{all, keep}
 use Rattle.rules.specs.Groups.{Group}
 use Rattle.rules.proofs.Table.{by-test}
@@ -23,11 +23,9 @@ use Rattle.wire_fields.specs.Found.{as-field}
 use Rattle.wire_fields.specs.declared.field.Field.{Field}
 use Rattle.wire_fields.specs.declared.select.Number.{Number}
 use Rattle.wire_fields.specs.declared.select.Number.the-variants as Number
-use Rattle.wire_fields.proofs.Selections.{numbered-in, numbered-out}
 use Rattle.wire_fields.proofs.Walks.{Stands, left-on, left-bad}
-use Rattle.wire_ids.specs.Sizes.{found-id, ids-of, found-size, tallied, tally-id, tally-with}
-use Rattle.wire_ids.specs.declared.id.Id.{Id}
-use Rattle.wire_ids.specs.declared.id.Id.the-variants as Id
+use Rattle.wire_ids.specs.Parts.{found-words}
+use Rattle.wire_ids.specs.Sizes.{ids-of, found-size, tallied, tally-id, tally-with}
 use Rattle.wire_ids.specs.declared.size.Tally.{Tally}
 use Rattle.wire_ids.specs.declared.size.Tallied.{Tallied}
 use Rattle.wire_ids.specs.declared.size.Tallied.the-variants as Tallied
@@ -76,8 +74,8 @@ group-first words g (some ids) =
 
 -- an id takes 19 words at most
 id-room : (t u : Tally) (bytes : List ℕ) (i : Option Group) → group-of bytes ≡ i → 0 < t .left → t .words + 19 * t .left ≤ 1216
-    → Tallied.Is u ≡ tallied t (found-id i) → u .words + 19 * u .left ≤ 1216
-unfolding tallied found-id
+    → Tallied.Is u ≡ tallied t i → u .words + 19 * u .left ≤ 1216
+unfolding tallied
 id-room t u bytes none p h r e = let n : _≡_ {A = ℕ} 0 1 = cc in absurd (omega arith)
 id-room t u bytes (some g) p h r e =
     let q : u ≡ record { left = t .left - 1; words = t .words + (3 + length (g .words)) } = cc in
@@ -98,8 +96,8 @@ module _ (m : List ℕ) (number : ℕ) where
   -- an id in front of others
   id-first : (left words : ℕ) (f : wire.Field) (o : Option (List wire.Field)) (i : Option Group) → group-of (bytes-of m f) ≡ i
       → size-after words (bind (Option·map (λ (r : List wire.Field). f ∷ r) o) (groups-of m))
-      ≡ tally-on (tallied (record { left = suc left; words = words }) (found-id i)) (λ (t : Tally). size-after (t .words) (bind o (groups-of m)))
-  unfolding size-after bind groups-of tallied found-id tally-on
+      ≡ tally-on (tallied (record { left = suc left; words = words }) i) (λ (t : Tally). size-after (t .words) (bind o (groups-of m)))
+  unfolding size-after bind groups-of tallied tally-on
   id-first left words f none none e = refl
   id-first left words f none (some g) e = refl
   id-first left words f (some r) none e = rw e
@@ -107,9 +105,9 @@ module _ (m : List ℕ) (number : ℕ) where
 
   -- one id fewer is left
   one-fewer : (k words : ℕ) (i : Option Group) (h : ℕ → ℕ → Number)
-      → tally-on (tallied (record { left = suc k; words = words }) (found-id i)) (λ (t : Tally). h k (t .words))
-      ≡ tally-on (tallied (record { left = suc k; words = words }) (found-id i)) (λ (t : Tally). h (t .left) (t .words))
-  unfolding tally-on tallied found-id
+      → tally-on (tallied (record { left = suc k; words = words }) i) (λ (t : Tally). h k (t .words))
+      ≡ tally-on (tallied (record { left = suc k; words = words }) i) (λ (t : Tally). h (t .left) (t .words))
+  unfolding tally-on tallied
   one-fewer k words none h = refl
   one-fewer k words (some g) h =
       let e : k ≡ suc k - 1 = omega arith in ap (λ (j : ℕ). h j (words + (3 + length (g .words)))) e
@@ -135,7 +133,7 @@ module _ (m : List ℕ) (number : ℕ) where
       go : (left : ℕ) → eqb (f .wire) 2 ≡ true
           → size-after words (bind (up-to left 2 (f ∷ numbered number fs)) (groups-of m))
           ≡ tally-on
-          (cond (eqb left 0) Tallied.Bad (tallied (record { left = left; words = words }) (found-id (group-of (bytes-of m f)))))
+          (cond (eqb left 0) Tallied.Bad (tallied (record { left = left; words = words }) (group-of (bytes-of m f))))
           (λ (u : Tally). size-after (u .words) (bind (up-to (u .left) 2 (numbered number fs)) (groups-of m)))
       go zero u = rw (up-to-full f (numbered number fs))
       go (suc k) u =
@@ -163,11 +161,10 @@ module _ (m : List ℕ) (number : ℕ) where
   tally-law (f ∷ fs) left words =
       let t : Tally = record { left = left; words = words } in
       by-test (eqb (f .number) number)
-      (λ n. ap (λ (l : List wire.Field). size-after words (bind (up-to left 2 l) (groups-of m))) (numbered-in number f fs n)
-      ∙ field-first left words f fs t refl n
-      ∙ same-on (tally-with m number (as-field f) t) _ (tally-fields fs) (λ u. tally-law fs (u .left) (u .words)))
-      (λ n. ap (λ (l : List wire.Field). size-after words (bind (up-to left 2 l) (groups-of m))) (numbered-out number f fs n)
-      ∙ tally-law fs left words ∙ sym (passed-by f fs t n))
+      (λ n. rw n
+      (field-first left words f fs t refl n
+      ∙ same-on (tally-with m number (as-field f) t) _ (tally-fields fs) (λ u. tally-law fs (u .left) (u .words))))
+      (λ n. rw n (tally-law fs left words ∙ sym (passed-by f fs t n)))
 
   -- the tally of fields that may be there, from a place on
   unfoldable pub tally-left : Option (List wire.Field) → Tally → Number
@@ -248,11 +245,26 @@ module _ (m : List ℕ) (number : ℕ) where
       unfolding tally-on
       counted-on u e = record { inside = w .ends; room = tally-room f t u (c .room) e; rest = now-tally ∙ rw (← e) }
 
--- an id has at most 16 words
-pub few-words : (bytes : List ℕ) (ledger entry n : ℕ) → Id.Is ledger entry n ≡ found-id (group-of bytes) → n ≤ 16
-unfolding found-id
-few-words bytes ledger entry n e = go (group-of bytes) refl e
+      -- a field of another number counts for nothing
+      pub counted-past : (f .number ≡ number → ⊥) → Counted (f .next) t
+      unfolding tally-with
+      counted-past n = counted-on t (rw (ne-eqb (f .number) number n))
+
+-- 17 words are told: there is no id
+pub tallied-none : (t : Tally) (bytes : List ℕ) (n : ℕ) → n ≡ found-words (group-of bytes) → 16 < n → tallied t (group-of bytes) ≡ Tallied.Bad
+unfolding found-words tallied
+tallied-none t bytes n e h = go (group-of bytes) refl e
   where
-    go : (i : Option Group) → group-of bytes ≡ i → Id.Is ledger entry n ≡ found-id i → n ≤ 16
-    go none p q = let z : _≡_ {A = ℕ} 0 1 = cc in absurd (omega arith)
-    go (some g) p q = let s : n ≡ length (g .words) = cc in rw s (group-short bytes g p)
+    go : (i : Option Group) → group-of bytes ≡ i → n ≡ found-words i → tallied t i ≡ Tallied.Bad
+    go none p q = refl
+    go (some g) p q = let s = group-short bytes g p in absurd (omega arith)
+
+-- at most 16 are: there is one with as many
+pub tallied-some : (t : Tally) (bytes : List ℕ) (n : ℕ) → n ≡ found-words (group-of bytes) → n ≤ 16
+    → tallied t (group-of bytes) ≡ Tallied.Is (record { left = t .left - 1; words = t .words + (3 + n) })
+unfolding found-words tallied
+tallied-some t bytes n e h = go (group-of bytes) e
+  where
+    go : (i : Option Group) → n ≡ found-words i → tallied t i ≡ Tallied.Is (record { left = t .left - 1; words = t .words + (3 + n) })
+    go none q = absurd (omega arith)
+    go (some g) q = rw q

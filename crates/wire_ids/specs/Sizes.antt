@@ -13,16 +13,9 @@ use Rattle.wire.specs.Ids.{group-of, id-list, list-words}
 use Rattle.wire_fields.specs.declared.field.Field.{Field}
 use Rattle.wire_fields.specs.declared.select.Number.{Number}
 use Rattle.wire_fields.specs.declared.select.Number.the-variants as Number
-use Rattle.wire_ids.specs.declared.id.Id.{Id}
-use Rattle.wire_ids.specs.declared.id.Id.the-variants as Id
 use Rattle.wire_ids.specs.declared.size.Tally.{Tally}
 use Rattle.wire_ids.specs.declared.size.Tallied.{Tallied}
 use Rattle.wire_ids.specs.declared.size.Tallied.the-variants as Tallied
-
--- an id that is there or not, as the code has it
-unfoldable pub found-id : Option Group → Id
-found-id none = Id.Bad
-found-id (some g) = Id.Is (g .id .ledger) (g .id .entry) (length (g .words))
 
 -- the ids under a number of a message
 unfoldable pub ids-of : List ℕ → ℕ → Option (List Group)
@@ -34,15 +27,15 @@ found-size none = Number.Bad
 found-size (some ids) = Number.Is (length (list-words ids))
 
 -- a tally with an id that is there or not
-unfoldable pub tallied : Tally → Id → Tallied
-tallied t (Id.Is ledger entry n) = Tallied.Is (record { left = t .left - 1; words = t .words + (3 + n) })
-tallied t Id.Bad = Tallied.Bad
+unfoldable pub tallied : Tally → Option Group → Tallied
+tallied t none = Tallied.Bad
+tallied t (some g) = Tallied.Is (record { left = t .left - 1; words = t .words + (3 + length (g .words)) })
 
 -- one id more, from its wire type and its place
 unfoldable pub tally-id : List ℕ → ℕ → ℕ → ℕ → Tally → Tallied
 tally-id m wire start next t =
     cond (eqb wire 2)
-    (cond (eqb (t .left) 0) Tallied.Bad (tallied t (found-id (group-of (take (next - start) (drop start m))))))
+    (cond (eqb (t .left) 0) Tallied.Bad (tallied t (group-of (take (next - start) (drop start m)))))
     Tallied.Bad
 
 -- one field more, which may be an id

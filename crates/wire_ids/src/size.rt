@@ -1,10 +1,10 @@
 // The first pass: every id is tested, and the words that they take in a list are counted.
-use super::id::Id;
-use super::id::read_id_in;
+use super::id::id_words_in;
 use wire_fields::field::DELIMITED;
 use wire_fields::field::Field;
 use wire_fields::field::FieldAt;
 use wire_fields::field::field_at;
+use wire_fields::field::passed_by;
 use wire_fields::select::Number;
 ghost use mathlib.Core.Path.{_≡_};
 ghost use Prim.Native.Nat.{_+_, _*_, _≤_};
@@ -13,6 +13,9 @@ ghost use Rattle.wire_ids.specs.Sizes.{found-size, ids-of, tally-with, t
 
 // The most ids of a list.
 const MOST_IDS: u64 = 64;
+
+// The most words of an id's ack set.
+const MOST_WORDS: u64 = 16;
 
 // The words of an id beside those of its ack set: ledger, entry, how many.
 pub const HEAD_WORDS: u64 = 3;
@@ -40,9 +43,10 @@ fn with_id(m: &[u8], wire: u64, start: usize, next: usize, t: Tally) -> Tallied
     if t.left == 0 {
         return Tallied::Bad;
     }
-    let Id::Is(_, _, n) = read_id_in(m, start, next) else {
+    let n = id_words_in(m, start, next);
+    if MOST_WORDS < n {
         return Tallied::Bad;
-    };
+    }
     Tallied::Is(Tally {
         left: t.left - 1,
         words: t.words + (HEAD_WORDS + n),
@@ -70,6 +74,10 @@ pub fn list_size(m: &[u8], number: u64) -> Number
         words: 0,
     };
     while at < m.len() {
+        if passed_by(m, at, number) {
+            at += 2;
+            continue;
+        }
         let FieldAt::Is(f) = field_at(m, at) else {
             return Number::Bad;
         };

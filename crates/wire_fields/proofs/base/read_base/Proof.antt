@@ -1,17 +1,17 @@
 -- `wire_fields::base::read_base` meets its contract: the number that was seen under 1 is the type, and the part that was seen under the
 -- likely one is its message if the type is that one.
-use mathlib.Core.Path.{sym, _∙_}
+use mathlib.Core.Path.{_≡_, sym, _∙_}
 use borrow.Author.Needs.{needs}
-use Rattle.wire_fields.specs.Picked.{wanted-of}
+use Rattle.wire_fields.specs.Picked.{wanted-of, picked}
 use Prim.Native.Nat.{_+_, _*_}
 use Rattle.wire_fields.proofs.Selections.{Walked, walked, walked-not, saw-part}
-use Rattle.wire_fields.proofs.Bases.{seen-placed, unformed-base, untyped-base, typed-base}
+use Rattle.wire_fields.proofs.Bases.{whole, seen-placed, unformed-base, untyped-base, typed-base}
 use Rattle.wire_fields.proofs.base.read_base.Statement.{statement}
 use Rattle.wire_fields.proofs.base.read_base.Tie as tie
 
 -- the places: what stands before each, by name
 abbrev likely-before-x : tie.After-x → tie.After-likely-type
-likely-before-x c = c .before .before .before
+likely-before-x c = c .before .before .before .before
 
 abbrev x-before-told2 : tie.After-enum-told2 → tie.After-x
 x-before-told2 c = c .before .before .before .before
@@ -25,14 +25,29 @@ kind-before-part c = c .before .before .before
 abbrev kind-before-message : tie.After-message-part → tie.After-kind
 kind-before-message c = c .before .before .before
 
+-- what was picked, of the whole
+picked-whole : (c : tie.After-pick)
+    → (let l = c .before .before in
+    c .pick .result ≡ picked (l .before .before .args .m .now) (wanted-of 8) (wanted-of (l .likely-type .result * 8 + 2)) (wanted-of 0))
+picked-whole c = rw (whole (c .before .before .before .before .args .m .now)) at (c .pick .ensures)
+
 -- the message that was walked
 message : (c : tie.After-x)
     → Walked (likely-before-x c .before .before .args .m .now) (wanted-of 8) (wanted-of (likely-before-x c .likely-type .result * 8 + 2)) (wanted-of 0)
     (c .x .given .0 .0) (c .x .given .0 .1 .0) (c .x .given .0 .1 .1 .0)
-message c = walked _ _ _ _ _ _ _ (sym (c .x .given .1) ∙ c .before .before .pick .ensures)
+message c = walked _ _ _ _ _ _ _ (sym (c .x .given .1) ∙ picked-whole (c .before .before))
 
 likely-type-requires : tie.Need-likely-type-requires
 likely-type-requires c κs = search needs
+
+sub-pick : tie.Need-sub-pick
+sub-pick c = search needs
+
+part-pick-start : tie.Need-part-pick-start
+part-pick-start c = search needs
+
+part-pick-end : tie.Need-part-pick-end
+part-pick-end c = search needs
 
 mul-pick : tie.Need-mul-pick
 mul-pick c = search needs
@@ -50,7 +65,7 @@ enum-told : tie.Need-enum-told
 enum-told c = search needs
 
 returns : tie.Need-returns
-returns c = unformed-base _ (walked-not _ _ _ _ (sym (c .enum-told .given .1) ∙ c .before .before .pick .ensures))
+returns c = unformed-base _ (walked-not _ _ _ _ (sym (c .enum-told .given .1) ∙ picked-whole (c .before .before)))
 
 required-int32-requires : tie.Need-required-int32-requires
 required-int32-requires c κs = search needs
@@ -93,6 +108,9 @@ read-base-spec =
     tie.close
     (tie.spec
     likely-type-requires
+    sub-pick
+    part-pick-start
+    part-pick-end
     mul-pick
     add-pick
     pick-requires

@@ -4,7 +4,7 @@ use Prim.Native.Nat.{_-_}
 use lib.ListN.{take, drop}
 use borrow.Author.Needs.{needs}
 use Rattle.wire_ids.specs.Groups.{id-words, field-words}
-use Rattle.wire_ids.proofs.Groups.{lays-nothing, field-other, field-id}
+use Rattle.wire_ids.proofs.Groups.{lays-nothing, field-other, field-id, field-room}
 use Rattle.wire_ids.proofs.lay.lay_field.Statement.{statement}
 use Rattle.wire_ids.proofs.lay.lay_field.Tie as tie
 
@@ -24,7 +24,8 @@ returns : tie.Need-returns
 returns c = lays-nothing _ _ _ (field-other _ _ _ (c .if1 .taken))
 
 lay-id-in-requires : tie.Need-lay-id-in-requires
-lay-id-in-requires c κs = let e = entry-before-else1 (c .before) in (e .pre .0, e .pre .1, rw (words (c .before)) at (e .pre .2))
+lay-id-in-requires c κs =
+    let e = entry-before-else1 (c .before) in (e .pre .starts, e .pre .ends, field-room _ _ _ _ _ (c .before .if1 .left) (e .pre))
 
 same-length : tie.Need-same-length
 same-length c = search needs
