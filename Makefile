@@ -1,8 +1,8 @@
 # The two commands: `make run` (the main job) and `make test` (the gate); `make faults` runs the library
-# for C at its limits and on damaged words alone, `make examples` its callers, `make bench` times its
-# calls, `make edits` reads what a gate run said of the must-fail edits, `make runs` is the gate without its
-# proofs, `make install` puts it in place.
-.PHONY: run test runs faults examples bench edits install
+# for C at its limits and on damaged words alone, `make wire` holds its commands as bytes against protobuf,
+# `make examples` runs its callers, `make bench` times its calls, `make edits` reads what a gate run said of the
+# must-fail edits, `make runs` is the gate without its proofs, `make install` puts it in place.
+.PHONY: run test runs faults wire examples bench edits install
 
 LIBRARY = target/staticlib/libbroker.a
 
@@ -11,6 +11,10 @@ PREFIX = /usr/local
 
 # Random calls of the faults' last part; `make faults CALLS=1000000` is the long run.
 CALLS = 100000
+
+# Random commands as bytes; `make wire COMMANDS=1000000` is the long run.
+COMMANDS = 100000
+
 WARNINGS = -Wall -Wextra -Wconversion -pedantic -Werror
 
 # The header as C and as C++, then the program that calls every export with what it has to refuse.
@@ -21,6 +25,9 @@ gcc -std=c99 -O2 $(WARNINGS) -Iinclude -Itests/faults tests/faults/*.c $(LIBRARY
 target/faults $(CALLS)
 endef
 
+# Commands as bytes: the fixed ones, the rules, protobuf.
+run-wire = LIBBROKER=$(LIBRARY) tests/wire/run $(COMMANDS)
+
 # The market morning in C.
 build-terminal = gcc -std=c99 -O2 $(WARNINGS) -Iinclude examples/terminal.c $(LIBRARY) -o target/terminal
 
@@ -30,11 +37,14 @@ define run-examples
 $(build-terminal)
 target/terminal >target/terminal.out
 diff examples/terminal.expected target/terminal.out
+gcc -std=c99 -O2 $(WARNINGS) -Iinclude examples/wire.c $(LIBRARY) -o target/wire_example
+target/wire_example >target/wire_example.out
+diff examples/wire.expected target/wire_example.out
 gcc -std=c99 -O2 -ffreestanding $(WARNINGS) -Iinclude -c examples/firmware_loop.c -o target/firmware_loop.o
 rustc --edition 2024 -O examples/caller.rs -C link-arg=$(LIBRARY) -o target/caller
 target/caller >target/caller.out
 diff examples/caller.expected target/caller.out
-@echo "examples: terminal.c and caller.rs print what is stored, firmware_loop.c compiles"
+@echo "examples: terminal.c, wire.c and caller.rs print what is stored, firmware_loop.c compiles"
 endef
 
 # Prove and build what there is, the library for C too, and run the case runner and the market morning.
@@ -55,11 +65,13 @@ test:
 	{ rt ci || touch "$$work/failed"; } | tee "$$work/said"; \
 	[ ! -e "$$work/failed" ] && $(MAKE) --no-print-directory runs && tail -n 1 "$$work/said"
 
-# The library for C, the runs of it and of broker.rs, its limits and faults, its examples, the check on changed words.
+# The library for C, the runs of it and of broker.rs, its limits and faults, its commands as bytes, its examples, the
+# check on changed words.
 runs:
 	rt staticlib broker
 	LIBBROKER=$(LIBRARY) CALLS=$(CALLS) reference/check
 	$(run-faults)
+	$(run-wire)
 	$(run-examples)
 	fuzz/run fuzz 1
 
@@ -68,15 +80,24 @@ faults:
 	rt staticlib broker
 	$(run-faults)
 
+# Commands as bytes against fixed bytes, the rules and protobuf.
+wire:
+	rt staticlib broker
+	$(run-wire)
+
 # The library called as a maker would call it.
 examples:
 	rt staticlib broker
 	$(run-examples)
 
-# The time of every call beside a bare pass over the same words and beside broker.rs.
+# The time of every call beside a bare pass over the same words and beside broker.rs, and of the calls on bytes beside
+# a plain decoder and encoder.
 bench:
 	rt staticlib broker
 	LIBBROKER=$(LIBRARY) reference/bench
+	mkdir -p target/wire
+	gcc -std=c99 -O2 $(WARNINGS) -Iinclude tests/wire/speed.c tests/wire/plain.c $(LIBRARY) -o target/wire/speed
+	target/wire/speed
 
 # The must-fail edits that were refused by form alone, from the logs of the last gate run: there are none.
 edits:

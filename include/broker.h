@@ -2,11 +2,11 @@
  * The dispatch part for C: the consumer side of a Pulsar broker in one lent slice of 64-bit words.
  * Link with libbroker.a (`rt staticlib broker`). docs/STORE.md says what every word of a store means.
  *
- * Every call takes the store as a pointer and its length in words, and returns one number:
- * value * 256 + number, where the number is 0 when the call is done and else says why it was refused.
- * A refused call has changed no word of the store and of the list. A refusal's value is 0, save that
- * of BROKER_LIST_SHORT. The first refusal that applies, in the order given at each call, is returned.
- * Three calls at the end take no store: they read and write commands as bytes, with answers of the same form.
+ * Every call but the last three takes the store as a pointer and its length in words; those three read and
+ * write commands as bytes and take no store. Every call returns one number: value * 256 + number, where the
+ * number is 0 when the call is done and else says why it was refused. A refused call has changed nothing of
+ * what was lent. A refusal's value is 0, save that of BROKER_LIST_SHORT. The first refusal that applies, in
+ * the order given at each call, is returned.
  *
  * Every call on a store but broker_open first checks that the words spell a state, and returns 1 if they do
  * not; it takes any words whatever. Words past BROKER_NEEDED(E) are never read or written.
@@ -14,6 +14,7 @@
  * The caller's part:
  *  - A pointer is to as many words as the length says, aligned for uint64_t, or to as many bytes. With length 0
  *    it is never read or written through and may be NULL: an empty list, a store of no words, an empty input.
+ *    One without a length is to as many words as it is declared with.
  *  - The slices of one call (the store, the list, bytes and words lent) do not overlap.
  *  - Nobody else writes a slice of a call during it, nor reads one that the call writes.
  * The library keeps nothing between calls: several stores may be used at once, each by one call at a time.
@@ -135,10 +136,10 @@ uint64_t broker_push(uint64_t *store, size_t n, uint64_t *list, size_t m);
  *
  * The bytes are a BaseCommand of Pulsar without the sizes before it; metadata, payload and checksum stay with
  * the caller. Unknown fields and other types' messages are skipped. 16: the bytes are not well formed, a
- * required field is absent, a field read stands twice or has another wire type or a number too wide for it, a
- * group occurs, a list has more than 64 ids or 16 words of an id, the lent list is under
- * BROKER_COMMAND_LIST words. 17: else, if the type is none that the reader takes. Such a call has changed
- * nothing.
+ * required field is absent, or the message of a type that the reader takes; a field read stands twice or has
+ * another wire type or a number too wide for it; a group occurs; a list has more than 64 ids or 16 words of an
+ * id; the lent list is under BROKER_COMMAND_LIST words. 17: else, if the type is none that the reader takes.
+ * Such a call has changed nothing.
  *
  * What each command puts into the 8 words of `command`; words not named are 0:
  *

@@ -125,7 +125,7 @@ void push_lists(void);
 
 /* ---- nulls.c ---- */
 
-/* NULL with length 0 for every slice of every export. */
+/* NULL with length 0 for every slice of every export that takes a store; wire.c has the others. */
 void null_slices(void);
 
 /* ---- wire.c ---- */

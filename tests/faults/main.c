@@ -8,6 +8,8 @@
  *    none of push's list behind its records;
  *  - words before and behind what was lent are never changed.
  *
+ * Commands as bytes have no store: 16 and 17 are request A2's, and what is lent is looked at in the same way.
+ *
  *     faults [CALLS [SEED]]     CALLS random calls in the last part, 100,000 if not given
  *
  * One line for each part; ends with 1 and a message at the first thing that is not as it has to be.
@@ -71,7 +73,7 @@ int main(int argc, char **argv)
 
     begin("no slices");
     null_slices();
-    ended("NULL with length 0 for every slice");
+    ended("NULL with length 0 for every slice of a call on a store");
 
     begin("short stores");
     short_stores();
@@ -103,6 +105,6 @@ int main(int argc, char **argv)
              unspelt, damaged - unspelt);
     ended(text);
     counts();
-    printf("faults: %lu calls, all as document 01 has them\n", calls);
+    printf("faults: %lu calls, all as document 01 and request A2 have them\n", calls);
     return 0;
 }

@@ -1,7 +1,7 @@
-// The exports for C: what makers' firmware links. Each takes the store as a slice of words, a
+// The exports for C: what makers' firmware links. Each here takes the store as a slice of words, a
 // pointer and a length, and answers value × 256 + number, the number 0 when done. No export
 // requires anything; the contracts are one equation for the answer and one for every lent slice.
-// Every call but opening first checks that the words spell a state, and answers 1 where they do not.
+// Every call here but opening first checks that the words spell a state, and answers 1 where they do not.
 pub mod commands;
 
 use ack::ack;

@@ -1,4 +1,4 @@
-// Whether words spell a state: the check that every call but opening makes first. One pass over the
+// Whether words spell a state: the check that every call on a store but opening makes first. One pass over the
 // needed words tests that they are spelt as the layout has them; then each record is tested against
 // the rules on states. Nothing is required of the words.
 mod valid_consumers;

@@ -62,7 +62,7 @@ fn leave(store: &mut [u64], first: u64, acked: &[u64], back: &[u64])
     broker_close(store, first);
 }
 
-// Ten calls through all nine exports: a store is opened, a message is appended, two consumers
+// Ten calls through all nine exports on a store: it is opened, a message is appended, two consumers
 // subscribe, each is granted permits, what is due is pushed, and one acknowledges, hands back, seeks
 // and closes. The answers are not looked at: whatever the calls come to, done or refused, no permit has
 // leaked and no message is lost or doubled.

@@ -16,7 +16,12 @@ use Rattle.wire.specs.Select.{numbered, bytes-of, up-to, numbers}
 use Rattle.wire.specs.Ids.{group-of, groups-of, id-list}
 use Rattle.wire.proofs.Options.{answered, Gives, gives-some, gives-bind}
 
--- the fields of a repeated one are those that stand there, as many as allowed
+-- the fields of a repeated one are those that stand there
+pub up-to-is : (k wire : ℕ) (fs gs : List Field) → up-to k wire fs ≡ some gs → fs ≡ gs
+unfolding up-to
+up-to-is k wire fs gs e = answered (leb (length fs) k && all (λ (f : Field). eqb (f .wire) wire) fs) fs e .1
+
+-- as many as allowed
 up-to-length : (k wire : ℕ) (fs gs : List Field) → up-to k wire fs ≡ some gs → length gs ≤ k
 unfolding up-to
 up-to-length k wire fs gs e =

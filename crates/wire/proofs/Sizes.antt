@@ -12,7 +12,7 @@ use Rattle.rules.proofs.Says.{every-cons, every-head, every-tail}
 use Rattle.wire.specs.Varint.{written-within, written}
 use Rattle.wire.specs.Message.{MESSAGE, Message, number-bytes, part-bytes, minus-one, id-bytes, ack-set-bytes, content-bytes, message-bytes}
 use Rattle.wire.specs.Promises.{Within-limits, Messages-fit, largest, Largest-takes-114}
-use Rattle.wire.proofs.Written.{written-length, written-ten}
+use Rattle.wire.proofs.Written.{written-length, written-short}
 use Rattle.wire.proofs.Laid.{number-size, part-size}
 
 -- words of 64 bits
@@ -21,7 +21,7 @@ Words words = Every (λ (w : ℕ). w < 2 ^ 64) words
 
 -- a number of 64 bits takes eleven bytes at most
 number-fits : (n v : ℕ) → n < 16 → v < 2 ^ 64 → length (number-bytes n v) ≤ 11
-number-fits n v q h = omega (arith, number-size n v q, written-ten v h)
+number-fits n v q h = omega (arith, number-size n v q, written-short v)
 
 -- an id with its batch size
 pub id-fits : (id : Id) (batch-size : ℕ) → id .ledger < 2 ^ 64 → id .entry < 2 ^ 64 → batch-size ≤ 256 → length (id-bytes id batch-size) ≤ 47

@@ -58,9 +58,17 @@ pub written-length : (k v : ℕ) → v < 128 ^ suc k → length (written v) ≤ 
 unfolding written
 written-length k v = within-length 9 k v
 
--- a number of 64 bits takes ten bytes at most
-pub written-ten : (v : ℕ) → v < 2 ^ 64 → length (written v) ≤ 10
-written-ten v h = written-length 9 v (omega (arith, leb-true (2 ^ 64) (128 ^ 10) refl))
+-- a varint has no more bytes than it may
+within-short : (k v : ℕ) → length (written-within k v) ≤ k + 1
+unfolding written-within
+within-short zero v = omega arith
+within-short (suc k) v =
+    let h = within-short k (v / 128) in by-test (ltb v 128) (λ t. rw t (omega arith)) (λ t. rw t (omega arith))
+
+-- so the varint of a number has ten at most
+pub written-short : (v : ℕ) → length (written v) ≤ 10
+unfolding written
+written-short v = within-short 9 v
 
 -- what follows a byte, as the rest of the number
 rest-is : (b n : ℕ) → b < 256 → 128 ≤ b → (b - 128 + 128 * n) / 128 ≡ n

@@ -3,20 +3,18 @@
 use Prim.Native.Nat.{ℕ, _-_, _*_, _^_}
 use mathlib.Core.Bool.{Bool, cond, _&&_}
 use mathlib.Core.List.{List, [], _∷_, _++_}
-use mathlib.Core.Option.{Option, none, some}
 use lib.Dec.{leb, ltb}
 use lib.ListN.{length, getD, take, drop, replicate}
 use Rattle.rules.specs.State.{Kind}
 use Rattle.rules.specs.State.Kind.{plain, shared}
-use Rattle.rules.specs.Groups.{Group}
 use Rattle.rules.specs.Commands.{Target}
 use Rattle.rules.specs.Commands.Target.{start, to-id}
 use Rattle.words.specs.Act.{lay}
 use Rattle.wire.specs.Ids.{list-words}
-use Rattle.wire.specs.Commands.{Command, Name, Reading, command, SUBSCRIBE, ACK, FLOW, CLOSE_CONSUMER, REDELIVER, SEEK}
+use Rattle.wire.specs.Commands.{Command, Reading, command, SUBSCRIBE, ACK, FLOW, CLOSE_CONSUMER, REDELIVER, SEEK}
 use Rattle.wire.specs.Commands.Command.{Subscribe, Flow, Ack, Seek, Redeliver, Close}
 use Rattle.wire.specs.Commands.Reading.{refused, read}
-use Rattle.wire.specs.Message.{Message, message, message-bytes}
+use Rattle.wire.specs.Message.{Message, message-bytes}
 
 -- ---- the reader of commands
 

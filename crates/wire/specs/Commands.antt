@@ -5,7 +5,7 @@ use mathlib.Core.Bool.{Bool, cond, _||_}
 use mathlib.Core.List.{List, [], _∷_}
 use mathlib.Core.Option.{Option, none, some, Option·map, bind}
 use lib.Dec.{eqb}
-use Rattle.rules.specs.State.{Id, Kind}
+use Rattle.rules.specs.State.{Kind}
 use Rattle.rules.specs.State.Kind.{plain, shared}
 use Rattle.rules.specs.Groups.{Group}
 use Rattle.rules.specs.Commands.{Target}
@@ -14,22 +14,27 @@ use Rattle.wire.specs.Fields.{Field, fields}
 use Rattle.wire.specs.Select.{numbered, uint64, uint32, int32, required, part, bytes-of}
 use Rattle.wire.specs.Ids.{id-of, id-list}
 
--- the types of the commands
+-- the type of CommandSubscribe
 abbrev pub SUBSCRIBE : ℕ
 SUBSCRIBE = 4
 
+-- the type of CommandAck
 abbrev pub ACK : ℕ
 ACK = 10
 
+-- the type of CommandFlow
 abbrev pub FLOW : ℕ
 FLOW = 11
 
+-- the type of CommandCloseConsumer
 abbrev pub CLOSE_CONSUMER : ℕ
 CLOSE_CONSUMER = 16
 
+-- the type of CommandRedeliverUnacknowledgedMessages
 abbrev pub REDELIVER : ℕ
 REDELIVER = 20
 
+-- the type of CommandSeek
 abbrev pub SEEK : ℕ
 SEEK = 28
 

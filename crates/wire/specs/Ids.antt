@@ -2,7 +2,7 @@
 -- The ids of Ack and Redeliver are document 01's groups.
 use Prim.Native.Nat.{ℕ}
 use mathlib.Core.List.{List, [], _∷_, _++_}
-use mathlib.Core.Option.{Option, none, some, Option·map, bind}
+use mathlib.Core.Option.{Option, some, Option·map, bind}
 use lib.ListN.{length}
 use Rattle.rules.specs.State.{Id}
 use Rattle.rules.specs.Groups.{Group}

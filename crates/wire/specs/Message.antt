@@ -1,11 +1,10 @@
 -- The BaseCommand of type Message that emit_message builds, read and written. CommandMessage has consumer_id 1, message_id 2,
 -- redelivery_count 3, ack_set 4; of its id ledgerId 1, entryId 2, partition 3, batch_index 4 and batch_size 6 are written.
 use Prim.Native.Nat.{ℕ, _+_, _-_, _*_, _^_}
-use mathlib.Core.Bool.{Bool, cond, _&&_}
 use mathlib.Core.List.{List, [], _∷_, _++_}
-use mathlib.Core.Option.{Option, none, some, Option·map, bind}
-use lib.Dec.{eqb, leb, ltb}
-use lib.ListN.{length, getD, take, drop, replicate}
+use mathlib.Core.Option.{Option, some, bind}
+use lib.Dec.{eqb}
+use lib.ListN.{length}
 use Rattle.rules.specs.State.{Id}
 use Rattle.wire.specs.Varint.{written}
 use Rattle.wire.specs.Fields.{Field, fields}

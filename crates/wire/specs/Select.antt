@@ -13,17 +13,19 @@ use Rattle.wire.specs.Fields.{Field}
 unfoldable pub numbered : ℕ → List Field → List Field
 numbered n fs = keep (λ (f : Field). eqb (f .number) n) fs
 
--- widths: uint64 and int64 take any varint, uint32 those below 2^32; an enum and int32 those below 2^31 and the ten-byte
--- negative ones; a count is an int32 from 0 on
+-- widths: uint64 and int64 take any varint
 unfoldable pub uint64 : ℕ → Bool
 uint64 v = true
 
+-- uint32 takes those below 2^32
 unfoldable pub uint32 : ℕ → Bool
 uint32 v = ltb v (2 ^ 32)
 
+-- an enum and int32 take those below 2^31 and the ten-byte negative ones
 unfoldable pub int32 : ℕ → Bool
 int32 v = ltb v (2 ^ 31) || leb (2 ^ 64 - 2 ^ 31) v
 
+-- a count is an int32 from 0 on
 unfoldable pub count : ℕ → Bool
 count v = ltb v (2 ^ 31)
 

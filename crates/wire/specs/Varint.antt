@@ -1,7 +1,7 @@
 -- Varints: seven bits a byte, the lowest first; every byte but the last has its top bit set. Any length up to ten bytes is
 -- read, the shortest is written.
 use Prim.Native.Nat.{ℕ, zero, suc, _+_, _-_, _*_, _/_, _%_, _^_}
-use mathlib.Core.Bool.{Bool, cond}
+use mathlib.Core.Bool.{cond}
 use mathlib.Core.List.{List, [], _∷_}
 use mathlib.Core.Option.{Option, none, some, Option·map, bind}
 use lib.Dec.{ltb}

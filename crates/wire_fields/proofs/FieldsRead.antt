@@ -1,6 +1,6 @@
 -- A field read by its wire type: what each way out of `field.rt` answers, from what was read of its varints.
 use Prim.Native.Nat.{ℕ, _+_, _-_, _/_, _%_, _^_, _<_, _≤_}
-use mathlib.Core.Path.{_≡_, refl, sym, ap, _∙_}
+use mathlib.Core.Path.{_≡_, refl, _∙_}
 use mathlib.Core.Bool.{Bool, true, false, cond, and-eq-true-iff}
 use mathlib.Core.List.{List}
 use mathlib.Core.Option.{Option, none, some, bind}
@@ -16,7 +16,6 @@ use Rattle.wire_fields.specs.Found.{found-varint, varint-at, as-field, f
 use Rattle.wire_fields.proofs.Varints.{one-byte}
 use Rattle.wire_fields.specs.declared.varint.Varint.{Varint}
 use Rattle.wire_fields.specs.declared.varint.Varint.the-variants.{Read, Bad}
-use Rattle.wire_fields.specs.declared.field.Field.{Field}
 use Rattle.wire_fields.specs.declared.field.FieldAt.{FieldAt}
 use Rattle.wire_fields.specs.declared.field.FieldAt.the-variants as FieldAt
 

@@ -2,9 +2,8 @@
 -- is laying all.
 use Prim.Native.Nat.{ℕ, _+_, _<_, _≤_}
 use mathlib.Core.Path.{_≡_, refl, sym, ap, _∙_}
-use mathlib.Core.List.{List, [], _∷_, _++_, map}
-use mathlib.Core.Option.{Option, none, some, Option·map}
-use native.Mathlib.Nat.{add-assoc}
+use mathlib.Core.List.{List, [], _∷_, _++_}
+use mathlib.Core.Option.{Option, none, some}
 use native.Mathlib.Omega.{arith}
 use lib.Dec.{eqb}
 use lib.ListN.{length, set, length-append}
@@ -18,7 +17,7 @@ use Rattle.wire.specs.Fields as wire
 use Rattle.wire.specs.Select.{numbered}
 use Rattle.wire.proofs.Fields.{left-start, left-end}
 use Rattle.wire_fields.specs.Found.{as-field}
-use Rattle.wire_fields.specs.Values.{all-of, values, values-of, one-value, Laid, Ready}
+use Rattle.wire_fields.specs.Values.{all-of, values, one-value, Laid}
 use Rattle.wire_fields.specs.declared.field.Field.{Field}
 use Rattle.wire_fields.proofs.Walks.{Stands, left-on, left-bad}
 

@@ -1,8 +1,8 @@
 -- A tag of one byte that is that of a varint field: the field is read from what follows it. So a walk that goes by such tags is a
 -- walk over the fields.
-use Prim.Native.Nat.{ℕ, zero, suc, _+_, _/_, _%_, _^_, _<_, _≤_}
-use mathlib.Core.Path.{_≡_, refl, sym, ap, _∙_}
-use mathlib.Core.Bool.{Bool, true, false, cond, _&&_, true≢false, and-eq-true-iff}
+use Prim.Native.Nat.{ℕ, zero, suc, _+_, _/_, _%_, _<_, _≤_}
+use mathlib.Core.Path.{_≡_, refl, sym, _∙_}
+use mathlib.Core.Bool.{true, false, _&&_, true≢false, and-eq-true-iff}
 use mathlib.Core.List.{List}
 use mathlib.Core.Option.{none}
 use native.Mathlib.Omega.{arith}
@@ -14,7 +14,7 @@ use Rattle.wire.specs.Fields.{field, field-of, varint-field}
 use Rattle.wire_fields.specs.Found.{varint-at, found-field, varint-tag, short-tag, passed-by}
 use Rattle.wire_fields.specs.declared.varint.Varint.the-variants.{Read, Bad}
 use Rattle.wire_fields.specs.declared.field.Field.{Field}
-use Rattle.wire_fields.proofs.FieldsRead.{tested, Was, was-read, not-read, one-byte-was, number-0, number-right, no-varint-field, is-varint-field}
+use Rattle.wire_fields.proofs.FieldsRead.{tested, was-read, not-read, one-byte-was, number-right, no-varint-field, is-varint-field}
 use Rattle.wire_fields.proofs.Varints.{one-byte}
 use Rattle.wire_fields.proofs.Walks.{Stands, stands, stands-not}
 

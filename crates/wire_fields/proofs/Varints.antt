@@ -1,7 +1,7 @@
 -- A varint read byte by byte: what the loop of `varint.rt` turns on. Some bytes are read, each says that another follows, and
 -- what is left decides what the whole is.
-use Prim.Native.Nat.{ℕ, zero, suc, _+_, _-_, _*_, _%_, _^_, _<_, _≤_}
-use mathlib.Core.Path.{_≡_, refl, sym, ap, _∙_, subst}
+use Prim.Native.Nat.{ℕ, suc, _+_, _-_, _*_, _%_, _^_, _<_, _≤_}
+use mathlib.Core.Path.{_≡_, refl, sym, ap, _∙_}
 use mathlib.Core.Bool.{Bool, true, false, cond}
 use mathlib.Core.List.{List, [], _∷_}
 use mathlib.Core.Option.{Option, none, some, Option·map, bind}

@@ -1,13 +1,12 @@
 -- A walk over the fields of a message, field by field: what the loop of `pick.rt` turns on. What was seen so far and the fields
 -- that are left decide what is seen in all.
-use Prim.Native.Nat.{ℕ, _+_, _<_, _≤_}
+use Prim.Native.Nat.{ℕ, _<_, _≤_}
 use mathlib.Core.Path.{_≡_, refl, sym, ap, _∙_}
-use mathlib.Core.Bool.{Bool, true, false}
 use mathlib.Core.List.{List, [], _∷_}
 use mathlib.Core.Option.{Option, none, some, Option·map, bind}
 use native.Mathlib.Omega.{arith}
 use lib.ListN.{length}
-use Rattle.wire.specs.Fields.{field, fields, left}
+use Rattle.wire.specs.Fields.{field, left}
 use Rattle.wire.specs.Fields as wire
 use Rattle.wire.proofs.Fields.{field-lies, left-start, left-end, left-step}
 use Rattle.wire_fields.specs.Found.{as-field, found-field}

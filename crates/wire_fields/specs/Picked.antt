@@ -22,10 +22,11 @@ pub record Wanted : Type 0 where
 abbrev pub wanted-of : ℕ → Wanted
 wanted-of tag = record { number = tag / 8; wire = tag % 8 }
 
--- a number that is read as a varint, or as a part
+-- a number that is read as a varint
 abbrev pub varint-of : ℕ → Wanted
 varint-of n = record { number = n; wire = 0 }
 
+-- a number that is read as a part
 abbrev pub part-of : ℕ → Wanted
 part-of n = record { number = n; wire = 2 }
 

@@ -11,8 +11,8 @@ use super::select::required_part;
 use super::varint::wide;
 ghost use mathlib.Core.Path.{_≡_};
 ghost use Prim.Native.Nat.{_<_, _^_};
-ghost use Rattle.wire.specs.Commands.{type-of, message-of};
-ghost use Rattle.wire_fields.specs.Selected.{found-place, found-base, placed};
+ghost use Rattle.wire.specs.Commands.{type-of};
+ghost use Rattle.wire_fields.specs.Selected.{found-base, placed};
 
 // The tag of the type.
 const TYPE: u64 = 1 * WIRE_TYPES + VARINT;

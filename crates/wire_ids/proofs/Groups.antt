@@ -24,7 +24,7 @@ use Rattle.wire_fields.proofs.Walks.{Stands}
 use Rattle.wire_fields.proofs.Laying.{laid, left-of, formed-start, formed-on, Laying, laying-start, laying-room, laying-on}
 use Rattle.wire_ids.specs.Sizes.{ids-of}
 use Rattle.wire_ids.specs.Groups.{words-of-group, id-words, field-words, field-right, IdRoom, FieldRoom, ids-there, Listed}
-use Rattle.wire_ids.proofs.OneId.{up-to-is}
+use Rattle.wire.proofs.Ids.{up-to-is}
 
 -- nothing laid
 pub lays-nothing : (words list : List ℕ) (to : ℕ) → words ≡ [] → Laid list to words list to

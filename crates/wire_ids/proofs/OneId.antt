@@ -7,11 +7,11 @@ use mathlib.Core.List.{List, [], _∷_, map}
 use mathlib.Core.Option.{Option, none, some, map-eq-some-iff, bind-eq-some-iff, Option·some-injective, Option·none-ne-some}
 use native.Mathlib.Nat.{add-zero}
 use native.Mathlib.Omega.{arith}
-use lib.Dec.{eqb, leb}
+use lib.Dec.{eqb}
 use lib.ListN.{length, set, length-set}
 use lib.Seq.{set-comm}
 use borrow.Author.Tests.{eqb-true}
-use Rattle.rules.specs.Table.{or-else, keep, all, is-some}
+use Rattle.rules.specs.Table.{or-else, keep, is-some}
 use Rattle.rules.specs.Groups.{Group}
 use Rattle.rules.proofs.Table.{by-test, never-both}
 use Rattle.words.specs.Act.{lay}
@@ -21,6 +21,7 @@ use Rattle.wire.specs.Fields as wire
 use Rattle.wire.specs.Select.{uint64, numbered, required, up-to, numbers}
 use Rattle.wire.specs.Ids.{id-of, group-of, group-words}
 use Rattle.wire.proofs.Options.{answered}
+use Rattle.wire.proofs.Ids.{up-to-is}
 use Rattle.wire_fields.specs.Found.{as-field}
 use Rattle.wire_fields.specs.Values.{all-of, values, values-of, Laid}
 use Rattle.wire_fields.specs.declared.field.Field.{Field}
@@ -45,11 +46,6 @@ unfolding required
 only [] v e = absurd (Option·none-ne-some v e)
 only (f ∷ []) v e = ap (λ (x : ℕ). x ∷ []) (answered (eqb (f .wire) 0 && uint64 (f .value)) (f .value) e .1)
 only (f ∷ g ∷ fs) v e = absurd (Option·none-ne-some v e)
-
--- the fields of a repeated one are those that stand there
-pub up-to-is : (k type : ℕ) (fs gs : List wire.Field) → up-to k type fs ≡ some gs → fs ≡ gs
-unfolding up-to
-up-to-is k type fs gs e = answered (leb (length fs) k && all (λ (f : wire.Field). eqb (f .wire) type) fs) fs e .1
 
 -- repeated numbers are those of the fields
 numbers-are : (k : ℕ) (fs : List wire.Field) (ws : List ℕ) → numbers k fs ≡ some ws → map (λ (f : wire.Field). f .value) fs ≡ ws

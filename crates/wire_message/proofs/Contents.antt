@@ -2,20 +2,18 @@
 -- before they are laid, and what a content that was read says of them.
 use Prim.Native.Nat.{ℕ, _≤_}
 use mathlib.Core.Path.{_≡_, refl, sym, ap, _∙_}
-use mathlib.Core.Bool.{_&&_}
 use mathlib.Core.List.{List, map}
 use mathlib.Core.Option.{Option, none, some, Option·map, bind, map-eq-some-iff, Option·none-ne-some}
 use native.Mathlib.Omega.{arith}
-use lib.Dec.{eqb, leb}
 use lib.ListN.{length, length-map}
 use Rattle.rules.specs.State.{Id}
-use Rattle.rules.specs.Table.{all, or-else}
+use Rattle.rules.specs.Table.{or-else}
 use Rattle.wire.specs.Fields.{Field, fields}
 use Rattle.wire.specs.Select.{numbered, uint64, uint32, count, required, optional, part, bytes-of, up-to, numbers}
 use Rattle.wire.specs.Ids.{id-of}
 use Rattle.wire.specs.Message.{Message, content-of}
-use Rattle.wire.proofs.Ids.{numbers-length}
-use Rattle.wire.proofs.Options.{bind-same, answered, gives-some, gives-bind}
+use Rattle.wire.proofs.Ids.{numbers-length, up-to-is}
+use Rattle.wire.proofs.Options.{bind-same, gives-some, gives-bind}
 use Rattle.wire_fields.specs.Selected.{at-most, found-number}
 use Rattle.wire_fields.specs.Values.{all-of, values, values-of}
 use Rattle.wire_fields.specs.declared.pick.Seen.{Seen}
@@ -128,18 +126,13 @@ several-count k few {wire = wire} {l = l} {s = s} w = go (at-most k s) refl
     go (Number.Is n) e = let p = several-is k few w e in rw (p .0, p .1)
     go Number.Bad e = rw (several-bad k few w e)
 
--- those that are answered are those that stand there
-up-to-same : (k wire : ℕ) (l gs : List Field) → up-to k wire l ≡ some gs → gs ≡ l
-unfolding up-to
-up-to-same k wire l gs e = sym (answered (leb (length l) k && all (λ (f : Field). eqb (f .wire) wire) l) l e .1)
-
 module _ (m : List ℕ) (fs : List Field) (e : fields m ≡ some fs) where
   -- the words that were counted
   pub words-are : (n : ℕ) → ack-count m ≡ some n → (numbers 4 (numbered 4 fs) ≡ some (values 4 fs)) × (n ≡ length (values 4 fs))
   unfolding ack-count bind numbers values
   words-are n h =
       let p = map-eq-some-iff length (up-to 4 0 (numbered 4 fs)) .0 (rw e at h) in
-      let s = up-to-same 4 0 (numbered 4 fs) (p .0) (p .1) in
+      let s = sym (up-to-is 4 0 (numbered 4 fs) (p .0) (p .1)) in
       (rw (p .1, s), sym (p .2) ∙ rw (s, length-map))
 
   -- too many, or one of another wire type
@@ -162,7 +155,7 @@ worded : (m : List ℕ) (fs : List Field) (x : Message) → fields m ≡ some fs
 unfolding numbers all-of values-of values or-else
 worded m fs x e w =
     let p = map-eq-some-iff (map (λ (f : Field). f .value)) (up-to 4 0 (numbered 4 fs)) .0 w in
-    let s = up-to-same 4 0 (numbered 4 fs) (p .0) (p .1) in
+    let s = sym (up-to-is 4 0 (numbered 4 fs) (p .0) (p .1)) in
     record { formed = rw e; are = sym (p .2) ∙ rw (e, s); few = numbers-length 4 (numbered 4 fs) (x .ack-set) w }
 
 -- so are those of every content that was read

@@ -10,7 +10,8 @@ use Rattle.wire.specs.Varint.{written}
 use Rattle.wire.specs.Message.{number-bytes, part-bytes, ack-set-bytes}
 use Rattle.wire_write.specs.Wrote.{Wrote}
 use Rattle.wire_write.proofs.Writers.{wrote-byte, and-then, byte-before, Left, left-start, left-on, left-end}
-use Rattle.wire_write.proofs.Varints.{last-byte, written-short}
+use Rattle.wire.proofs.Written.{written-short}
+use Rattle.wire_write.proofs.Varints.{last-byte}
 
 -- a number below 128 is its own varint
 one-byte : (v : ℕ) → v < 128 → written v ≡ v ∷ []

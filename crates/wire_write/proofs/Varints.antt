@@ -4,11 +4,10 @@ use mathlib.Core.List.{List, [], _∷_}
 use Prim.Native.Nat.{ℕ, zero, suc, _+_, _-_, _*_, _/_, _%_, _^_, _≤_, _<_}
 use native.Mathlib.Nat.{pow-suc, mul-assoc, div-lt-iff-lt-mul}
 use native.Mathlib.Omega.{arith}
-use lib.Dec.{ltb}
-use lib.ListN.{length, set}
+use lib.ListN.{set}
 use borrow.Author.Tests.{lt-ltb, le-ltb}
-use Rattle.rules.proofs.Table.{by-test}
 use Rattle.wire.specs.Varint.{written-within, written}
+use Rattle.wire.proofs.Written.{written-short}
 use Rattle.wire_write.specs.Wrote.{Wrote}
 use Rattle.wire_write.proofs.Writers.{Left, left-start, left-on, left-end, wrote-byte}
 
@@ -22,18 +21,6 @@ last-byte (suc k) v h = rw (lt-ltb v 128 h)
 first-byte : (k v : ℕ) → 128 ≤ v → written-within (suc k) v ≡ (128 + v % 128) ∷ written-within k (v / 128)
 unfolding written-within
 first-byte k v h = rw (le-ltb v 128 h)
-
--- a varint has no more bytes than it may
-within-short : (k v : ℕ) → length (written-within k v) ≤ k + 1
-unfolding written-within
-within-short zero v = omega arith
-within-short (suc k) v =
-    let h = within-short k (v / 128) in by-test (ltb v 128) (λ t. rw t (omega arith)) (λ t. rw t (omega arith))
-
--- so the varint of a number has ten at most
-pub written-short : (v : ℕ) → length (written v) ≤ 10
-unfolding written
-written-short v = within-short 9 v
 
 -- ---- the loop
 

@@ -11,10 +11,11 @@ use Rattle.wire.specs.Readings.Rows.{redeliver-id, message-id, ack-read,
 
 -- ---- 16 before 17
 
--- what each reader answers to a type alone
+-- what the reader of commands answers to a type alone
 abbrev pub type-to-commands : ℕ → ℕ
 type-to-commands type = command-answer (command (8 ∷ type ∷ []))
 
+-- what the reader of Message does
 abbrev pub type-to-message : ℕ → ℕ
 type-to-message type = message-answer (message (8 ∷ type ∷ []))
 
@@ -74,10 +75,11 @@ type-rows =
 
 -- ---- the lent list
 
--- an Ack and a Redeliver of consumer 7 with ids, each in some bytes
+-- an Ack of consumer 7 with k ids, each in some bytes
 abbrev pub ack-with : ℕ → List ℕ → List ℕ
 ack-with k id = 8 ∷ 10 ∷ a-long-part (82 ∷ []) (8 ∷ 7 ∷ 16 ∷ 0 ∷ times k (a-part (26 ∷ []) id))
 
+-- a Redeliver of consumer 7 with k ids
 abbrev pub redeliver-with : ℕ → List ℕ → List ℕ
 redeliver-with k id = 8 ∷ 20 ∷ a-long-part (162 ∷ 1 ∷ []) (8 ∷ 7 ∷ times k (a-part (18 ∷ []) id))
 

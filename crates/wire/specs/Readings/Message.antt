@@ -99,10 +99,11 @@ abbrev pub its-bytes : ℕ → List ℕ → List ℕ → List ℕ
 its-bytes size batch after =
     8 ∷ 9 ∷ 74 ∷ size ∷ 8 ∷ 7 ∷ a-part (18 ∷ []) (8 ∷ 1 ∷ 16 ∷ 2 ∷ 24 ∷ minus-1 ++ 32 ∷ minus-1 ++ 48 ∷ batch) ++ after
 
--- the largest record, and the bytes of its Message
+-- the largest record
 abbrev pub largest : List ℕ
 largest = replicate 4 all-ones ++ 256 ∷ 4 ∷ replicate 4 all-ones ++ (2 ^ 32 - 1) ∷ all-ones ∷ all-ones ∷ []
 
+-- the bytes of its Message
 abbrev pub largest-bytes : List ℕ
 largest-bytes =
     8 ∷ 9 ∷ 74 ∷ 110 ∷ 8 ∷ minus-1 ++ 18 ∷ 47 ∷ 8 ∷ minus-1 ++ 16 ∷ minus-1 ++ 24 ∷ minus-1 ++ 32 ∷ minus-1 ++ 48 ∷ 128 ∷ 2

@@ -42,6 +42,7 @@ unfoldable pub reading-numbers : Reading Command → List ℕ
 reading-numbers (refused n) = n ∷ []
 reading-numbers (read c) = (command-answer (read c) ∷ command-words c) ++ command-list c
 
+-- the same of bytes
 abbrev pub command-numbers : List ℕ → List ℕ
 command-numbers bytes = reading-numbers (command bytes)
 
@@ -127,38 +128,47 @@ a-long-part tag bytes = tag ++ (128 + length bytes % 128) ∷ length bytes / 128
 abbrev pub minus-1 : List ℕ
 minus-1 = replicate 9 255 ++ 1 ∷ []
 
--- a command of each type with the bytes of its message, and a Message
+-- a Subscribe with the bytes of its message
 abbrev pub a-subscribe : List ℕ → List ℕ
 a-subscribe bytes = 8 ∷ 4 ∷ a-part (34 ∷ []) bytes
 
+-- an Ack with the bytes of its message
 abbrev pub an-ack : List ℕ → List ℕ
 an-ack bytes = 8 ∷ 10 ∷ a-part (82 ∷ []) bytes
 
+-- a Flow with the bytes of its message
 abbrev pub a-flow : List ℕ → List ℕ
 a-flow bytes = 8 ∷ 11 ∷ a-part (90 ∷ []) bytes
 
+-- a CloseConsumer with the bytes of its message
 abbrev pub a-close : List ℕ → List ℕ
 a-close bytes = 8 ∷ 16 ∷ a-part (130 ∷ 1 ∷ []) bytes
 
+-- a Redeliver with the bytes of its message
 abbrev pub a-redeliver : List ℕ → List ℕ
 a-redeliver bytes = 8 ∷ 20 ∷ a-part (162 ∷ 1 ∷ []) bytes
 
+-- a Seek with the bytes of its message
 abbrev pub a-seek : List ℕ → List ℕ
 a-seek bytes = 8 ∷ 28 ∷ a-part (226 ∷ 1 ∷ []) bytes
 
+-- a Message with the bytes of its message
 abbrev pub a-message : List ℕ → List ℕ
 a-message bytes = 8 ∷ 9 ∷ a-part (74 ∷ []) bytes
 
--- an ack of consumer 7 with an id, a redeliver, a seek of request 9, a Message
+-- an Ack of consumer 7 with an id
 abbrev pub ack-id : List ℕ → List ℕ
 ack-id bytes = an-ack (8 ∷ 7 ∷ 16 ∷ 0 ∷ a-part (26 ∷ []) bytes)
 
+-- a Redeliver of consumer 7 with an id
 abbrev pub redeliver-id : List ℕ → List ℕ
 redeliver-id bytes = a-redeliver (8 ∷ 7 ∷ a-part (18 ∷ []) bytes)
 
+-- a Seek of consumer 7, request 9, to an id
 abbrev pub seek-id : List ℕ → List ℕ
 seek-id bytes = a-seek (8 ∷ 7 ∷ 16 ∷ 9 ∷ a-part (26 ∷ []) bytes)
 
+-- a Message to consumer 7 with an id
 abbrev pub message-id : List ℕ → List ℕ
 message-id bytes = a-message (8 ∷ 7 ∷ a-part (18 ∷ []) bytes)
 

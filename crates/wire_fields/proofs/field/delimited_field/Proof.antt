@@ -1,6 +1,5 @@
 -- `wire_fields::field::delimited_field` meets its contract: what was read of the length decides, and whether its bytes are there.
 use mathlib.Core.Path.{sym, _∙_}
-use native.Mathlib.Omega.{arith}
 use borrow.Author.Needs.{needs}
 use Rattle.wire_fields.proofs.FieldsRead.{Was, was-read, not-read, no-delimited-field, past-the-end, is-delimited-field}
 use Rattle.wire_fields.proofs.field.delimited_field.Statement.{statement}

@@ -1,6 +1,5 @@
 -- `wire_fields::field::field_of_any_size` meets its contract: the tag that was read decides.
 use mathlib.Core.Path.{sym, _∙_}
-use native.Mathlib.Omega.{arith}
 use borrow.Author.Needs.{needs}
 use Rattle.wire_fields.proofs.FieldsRead.{Was, was-read, not-read, no-tag, number-0, number-high, number-right}
 use Rattle.wire_fields.proofs.field.field_of_any_size.Statement.{statement}

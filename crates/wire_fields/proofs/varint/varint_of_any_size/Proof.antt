@@ -3,7 +3,6 @@
 use Prim.Native.Nat.{_-_, _+_, _<_}
 use mathlib.Core.Path.{_≡_, refl}
 use native.Mathlib.Omega.{arith}
-use lib.ListN.{length}
 use borrow.Author.Needs.{needs}
 use Rattle.wire_fields.specs.Found.{Partway}
 use Rattle.wire_fields.proofs.Varints.{partway-start, cut-off, goes-on, ends, moved, sum-fits}
