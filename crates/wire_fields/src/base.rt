@@ -53,7 +53,7 @@ fn message_part(m: &[u8], kind: u64) -> Place
 }
 
 // The type of a BaseCommand and where its message stands: in one walk where the type is as likely. The slice is lent anew as its
-// whole part: handed on as it came, it would be copied first, which costs a fifth of reading a Flow.
+// whole part, since handed on as it came it is copied first, and what reads the copy has to wait for it.
 pub fn read_base(m: &[u8]) -> Base
     ensures { λ r. ⌜ r ≡ found-base (now (m .entry)) (type-of (now (m .entry))) ⌝ }
 {

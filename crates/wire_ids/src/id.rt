@@ -2,6 +2,7 @@
 // there were.
 use wire_fields::field::FieldAt;
 use wire_fields::field::VARINT;
+use wire_fields::field::WIRE_TYPES;
 use wire_fields::field::field_at;
 use wire_fields::field::short_tag;
 use wire_fields::field::varint_tag;
@@ -19,9 +20,6 @@ pub const LEDGER: u64 = 1;
 pub const ENTRY: u64 = 2;
 
 pub const ACK_SET: u64 = 5;
-
-// A tag is number × 8 + wire type.
-pub const WIRE_TYPES: u64 = 8;
 
 // One ledger and one entry is right, two is too many; so are 17 words.
 const TOO_MANY: u64 = 2;

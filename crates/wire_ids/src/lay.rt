@@ -3,9 +3,9 @@
 use super::id::ACK_SET;
 use super::id::ENTRY;
 use super::id::LEDGER;
-use super::id::WIRE_TYPES;
 use wire_fields::field::Field;
 use wire_fields::field::FieldAt;
+use wire_fields::field::WIRE_TYPES;
 use wire_fields::field::field_at;
 use wire_fields::field::passed_by;
 use wire_fields::field::short_tag;

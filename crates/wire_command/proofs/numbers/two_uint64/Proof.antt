@@ -58,7 +58,8 @@ unfolding two-of found-two bind
 returns-2 c =
     let x = x-before-bad c in
     let w = walked-as (x .x .given .1) (x .before .before .pick .ensures) in
-    rw (w .all-fields, required-bad uint64 (saw-varint (entry-before-x x .args .first) (w .fs) (w .at-a)) (sym (c .enum-told2 .given .1) ∙ c .before .before .required-uint64 .ensures))
+    let a = saw-varint (entry-before-x x .args .first) (w .fs) (w .at-a) in
+    rw (w .all-fields, required-bad uint64 a (sym (c .enum-told2 .given .1) ∙ c .before .before .required-uint64 .ensures))
 
 required-uint64-requires-2 : tie.Need-required-uint64-requires-2
 required-uint64-requires-2 c κs = search needs
@@ -75,10 +76,12 @@ returns-3 c =
     let u = u-before-bad c in
     let x = x-before-u u in
     let w = walked-as (x .x .given .1) (x .before .before .pick .ensures) in
+    let a = saw-varint (entry-before-x x .args .first) (w .fs) (w .at-a) in
+    let b = saw-varint (entry-before-x x .args .second) (w .fs) (w .at-b) in
     rw (
       w .all-fields,
-      required-is uint64 (saw-varint (entry-before-x x .args .first) (w .fs) (w .at-a)) (sym (u .u .given .1) ∙ u .before .before .required-uint64 .ensures),
-      required-bad uint64 (saw-varint (entry-before-x x .args .second) (w .fs) (w .at-b)) (sym (c .enum-told3 .given .1) ∙ c .before .before .required-uint642 .ensures),
+      required-is uint64 a (sym (u .u .given .1) ∙ u .before .before .required-uint64 .ensures),
+      required-bad uint64 b (sym (c .enum-told3 .given .1) ∙ c .before .before .required-uint642 .ensures),
     )
 
 returns-4 : tie.Need-returns-4
@@ -88,10 +91,12 @@ returns-4 c =
     let u = u-before-v v in
     let x = x-before-u u in
     let w = walked-as (x .x .given .1) (x .before .before .pick .ensures) in
+    let a = saw-varint (entry-before-x x .args .first) (w .fs) (w .at-a) in
+    let b = saw-varint (entry-before-x x .args .second) (w .fs) (w .at-b) in
     rw (
       w .all-fields,
-      required-is uint64 (saw-varint (entry-before-x x .args .first) (w .fs) (w .at-a)) (sym (u .u .given .1) ∙ u .before .before .required-uint64 .ensures),
-      required-is uint64 (saw-varint (entry-before-x x .args .second) (w .fs) (w .at-b)) (sym (v .v .given .1) ∙ v .before .before .required-uint642 .ensures),
+      required-is uint64 a (sym (u .u .given .1) ∙ u .before .before .required-uint64 .ensures),
+      required-is uint64 b (sym (v .v .given .1) ∙ v .before .before .required-uint642 .ensures),
     )
 
 pub two-uint64-spec : {M : Type 1} → statement M
