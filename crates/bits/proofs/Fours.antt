@@ -3,12 +3,13 @@
 use mathlib.Core.Path.{_≡_, refl, sym}
 use mathlib.Core.Bool.{Bool, true, false, _&&_, and-true}
 use mathlib.Core.List.{List, [], _∷_}
-use Prim.Native.Nat.{ℕ, _+_}
+use Prim.Native.Nat.{ℕ, _+_, _-_, _^_, min}
+use native.Mathlib.Nat.{sub-zero}
 use native.Mathlib.Omega.{arith}
 use lib.Bits.{bitOr}
-use lib.Dec.{eqb}
+use lib.Dec.{eqb, leb}
 use lib.ListN.{length, getD}
-use Rattle.bits.specs.Bits.{count-ones, fresh-unacked-bits, and-into, bits-empty, bits-cardinality}
+use Rattle.bits.specs.Bits.{count-ones, fresh-unacked-bits, and-into, bits-empty, bits-cardinality, bits-below}
 use Rattle.bits.proofs.Word.{or-empty}
 use Rattle.bits.proofs.Sets.{cardinality-cons, cardinality-nil, fresh-length, and-into-length}
 use Rattle.bits.specs.Four.{four, words}
@@ -55,3 +56,14 @@ and-regroup false b c d = refl
 pub four-empty : (b : UnackedBits) → eqb (bitOr (bitOr (bitOr (b .w0) (b .w1)) (b .w2)) (b .w3)) 0 ≡ bits-empty (words b)
 unfolding bits-empty
 four-empty b = rw (or-empty, or-empty, or-empty) (and-regroup (eqb (b .w0) 0) (eqb (b .w1) 0) (eqb (b .w2) 0) (eqb (b .w3) 0))
+
+-- whether four words are below n: each is at most as many ones as it has room for
+pub four-below : (b : UnackedBits) (n : ℕ) {t₀ t₁ t₂ t₃ : Bool} → t₀ ≡ leb (b .w0) (2 ^ min (n - 0) 64 - 1) → t₁ ≡ leb (b .w1) (2 ^ min (n - 64) 64 - 1)
+    → t₂ ≡ leb (b .w2) (2 ^ min (n - 128) 64 - 1) → t₃ ≡ leb (b .w3) (2 ^ min (n - 192) 64 - 1) → (t₀ && t₁ && t₂ && t₃) ≡ bits-below n (words b)
+unfolding bits-below
+four-below b n e₀ e₁ e₂ e₃ =
+    let third : n - 128 ≡ n - 64 - 64 = omega arith in
+    let fourth : n - 192 ≡ n - 64 - 64 - 64 = omega arith in
+    rw (e₀, e₁, e₂, e₃, sub-zero n, third, fourth)
+    (and-regroup (leb (b .w0) (2 ^ min n 64 - 1)) (leb (b .w1) (2 ^ min (n - 64) 64 - 1)) (leb (b .w2) (2 ^ min (n - 64 - 64) 64 - 1))
+    (leb (b .w3) (2 ^ min (n - 64 - 64 - 64) 64 - 1)))

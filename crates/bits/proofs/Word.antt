@@ -2,17 +2,17 @@
 -- d digits by induction on d; the last part ties `and-low` and `count-ones` to the language's own mask and count, and
 -- has what an `|` of words says of their being 0.
 use mathlib.Core.Path.{_≡_, refl, sym, ap, ap₂, _∙_, subst}
-use mathlib.Core.Bool.{Bool, _&&_}
+use mathlib.Core.Bool.{Bool, true, false, _&&_}
 use Prim.Native.Nat.{ℕ, zero, suc, _+_, _-_, _*_, _/_, _%_, _^_, _≤_, _<_, min, zero-le}
-use native.Mathlib.Nat.{not-suc-le-zero, le-trans, le-of-eq, lt-of-lt-of-le, add-le-add, add-zero, add-suc, min-le-left, pow-suc, pow-succ', div-one, div-eq-of-lt, div-div-eq-div-mul, div-lt-iff-lt-mul, one-mul}
+use native.Mathlib.Nat.{not-suc-le-zero, le-trans, le-of-eq, lt-of-lt-of-le, add-le-add, add-zero, add-suc, min-le-left, pow-suc, pow-succ', div-one, div-eq-of-lt, div-div-eq-div-mul, div-lt-iff-lt-mul, le-div-iff-mul-le, one-mul}
 use native.Mathlib.Numerals.{add-one}
 use native.Mathlib.Omega.{arith}
 use lib.Arith.{lt-one, le-zero}
-use lib.Pow.{pow-pos, pow-mono, shr-lt, high, ones-lt, ones-split}
+use lib.Pow.{pow-pos, pow-mono, shr-lt, high, ones-lt, ones-split, lt-of-le-ones}
 use lib.Bits.{bitAnd, bitOr, and-step, and-le-r, or-add-and}
 use lib.Count.{ones, onesIn, ones-step, ones-le, ones-ones}
-use lib.Dec.{eqb, eqb·suc-zero}
-use borrow.Author.Tests.{ne-eqb}
+use lib.Dec.{eqb, leb, eqb·suc-zero}
+use borrow.Author.Tests.{leb-true, leb-false, eq-eqb, ne-eqb}
 use Rattle.bits.specs.Bits.{and-low, count-ones}
 
 -- ---- digits
@@ -154,6 +154,21 @@ count-ones-none w h e = onesIn-none 64 w h e
 pub count-ones-zero : count-ones 0 ≡ 0
 unfolding count-ones
 count-ones-zero = refl
+
+-- a word shifted right by k is 0 exactly when no bit at or past k is set
+pub shifted-below : (w k : ℕ) → eqb (w / 2 ^ k) 0 ≡ leb w (2 ^ k - 1)
+shifted-below w k = told (leb w (2 ^ k - 1)) refl
+  where
+    told : (t : Bool) → leb w (2 ^ k - 1) ≡ t → eqb (w / 2 ^ k) 0 ≡ t
+    told true e = eq-eqb (w / 2 ^ k) 0 (div-eq-of-lt (lt-of-le-ones k (leb-true w (2 ^ k - 1) e)))
+    told false e =
+        let over : 2 ^ k - 1 < w = leb-false w (2 ^ k - 1) e in
+        let some : 1 ≤ w / 2 ^ k = le-div-iff-mul-le (pow-pos k) .1 (omega arith) in
+        ne-eqb (w / 2 ^ k) 0 (λ z. omega arith)
+
+-- none of a word's bits may be set: the word is 0
+pub none-below : (w : ℕ) → eqb w 0 ≡ leb w 0
+none-below w = sym (ap (λ (x : ℕ). eqb x 0) (div-one w)) ∙ shifted-below w 0
 
 -- a sum less what is at most its right part is 0 only if its left part is
 left-zero : (o n a b : ℕ) → o + n ≡ a + b → n ≤ b → o ≡ 0 → a ≡ 0

@@ -22,28 +22,10 @@ ghost use mathlib.Core.Path.{_≡_};
 ghost use mathlib.Core.Bool.{true};
 ghost use Prim.Native.Nat.{_+_, _*_, _≤_};
 ghost use lib.ListN.{length, getD};
-ghost use Rattle.bits.specs.Bits.{bits-below};
 ghost use Rattle.bits.specs.Four.{words};
 ghost use Rattle.check_rows.specs.Rows.{twos-ascend};
 ghost use Rattle.check_state.specs.Marks.{mark-fits, joined, marks-right, absent, outside-right};
 ghost use Rattle.layout.specs.Offsets.{outside-in};
-
-// Whether only bits below the batch size are set.
-fn bits_below(bits: UnackedBits, batch: u64) -> bool
-    ensures { λ r. ⌜ r ≡ bits-below batch (words bits) ⌝ }
-{
-    let full = UnackedBits::fresh_unacked_bits(batch);
-    if full.w0 < bits.w0 {
-        return false;
-    }
-    if full.w1 < bits.w1 {
-        return false;
-    }
-    if full.w2 < bits.w2 {
-        return false;
-    }
-    bits.w3 <= full.w3
-}
 
 // Whether a count and bits suit an entry of a batch size. Most marks have no bits, and need no look at
 // the size.
@@ -59,7 +41,7 @@ fn mark_fits(count: u64, bits: UnackedBits, batch: u64) -> bool
     if batch <= 1 {
         return false;
     }
-    bits_below(bits, batch)
+    bits.bits_below(batch)
 }
 
 // The bits together with those of the mark at `at`.
