@@ -7,7 +7,7 @@
 
 #define E 32
 /* Words of entry 0 under dispatcher 0, and of a record. */
-#define COUNT (DISPATCHER(E, 0) + 177 + 3 * E)
+#define COUNT (MARK(E, 0, 0) + 1)
 #define RECORD_COUNT 10
 #define MOST_COUNT (POWER(32) - 1)
 

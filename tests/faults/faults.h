@@ -26,6 +26,8 @@
 #define TOPIC(e, t) ((size_t)2322 + (4 + 4 * (size_t)(e)) * (size_t)(t))
 #define DISPATCHERS(e) ((size_t)2354 + 32 * (size_t)(e))
 #define DISPATCHER(e, d) ((size_t)2355 + 32 * (size_t)(e) + (176 + 9 * (size_t)(e)) * (size_t)(d))
+/* The six words of entry k under a dispatcher: complete, redelivery count, four of bits. */
+#define MARK(e, d, k) (DISPATCHER(e, d) + 176 + 3 * (size_t)(e) + 6 * (size_t)(k))
 #define PERMITS 4
 #define CURSOR 5
 #define TOTAL 5
@@ -103,6 +105,11 @@ void records(void);
 
 /* Redelivery counts up to 2^32 - 1. */
 void count_limits(void);
+
+/* ---- batches.c ---- */
+
+/* Every batch size: the bits of a first ack in part, and which bits a mark may have. */
+void batch_sizes(void);
 
 /* ---- stores.c ---- */
 

@@ -62,6 +62,10 @@ int main(int argc, char **argv)
     count_limits();
     ended("each number at its limit and one past it");
 
+    begin("batch sizes");
+    batch_sizes();
+    ended("every size from 0 to 256: its fresh bits, its last bit and one past it");
+
     begin("push lists");
     push_lists();
     ended("every length about the number due");

@@ -281,5 +281,5 @@ def all_told(comparison, library, compare, differs):
             told += 1
     for what in missed:
         print(f"wire: FAILED: not told: {what}")
-    print(f"wire: {told} of {len(errors)} deliberate errors in the rules are told")
+    print(f"wire: {told} of {len(errors)} deliberate errors are told, in the rules and in what protobuf does")
     return 1 if missed else 0
