@@ -21,6 +21,8 @@ const TOPICS: u8 = 8;
 const SUBSCRIPTION: u8 = 1;
 /// A batch of the widest size, so that a mark with bits has four words.
 const BATCH: u64 = 256;
+/// What an ack in part leaves of any batch: all but its first message.
+const PART: [u64; 4] = [u64::MAX - 1, u64::MAX, u64::MAX, u64::MAX];
 const RECORD: usize = 13;
 /// The goals, as times of the bare pass; push may have so many ns a dispatch more.
 const CHECK_GOAL: f64 = 1.5;
@@ -107,6 +109,11 @@ fn group(ledger: u64, entry: u64, words: &[u64]) -> Group {
     Group { ledger, entry, words: words.to_vec() }
 }
 
+/// The first `count` messages of a topic, each acknowledged in part.
+fn in_part(count: u64) -> Vec<Group> {
+    (0..count).map(|k| group(1, k, &PART)).collect()
+}
+
 /// One message, held by one consumer: the least in which every call has something to do.
 fn empty(entries: u64) -> World {
     let mut world = World::open(entries);
@@ -147,10 +154,7 @@ fn fill(
     seen("all in flight", &world);
     dispatchers.clone().for_each(|d| world.redeliver(d, |position| position / 8 % 2 == 1));
     seen("half queued", &world);
-    let part = [u64::MAX - 1, u64::MAX, u64::MAX, u64::MAX];
-    for d in dispatchers.clone() {
-        world.ack(d, (0..count).map(|k| group(1, k, &part)).collect());
-    }
+    dispatchers.clone().for_each(|d| world.ack(d, in_part(count)));
     seen("bits in all marks", &world);
     for d in dispatchers {
         world.ack(d, (0..outside).map(|k| group(2, k, &[])).collect());
@@ -161,6 +165,26 @@ fn fill(
 
 fn filled(entries: u64, count: u64, consumers: u64, outside: u64) -> World {
     fill(entries, count, consumers, outside, |_, _| ())
+}
+
+/// Eight topics of batches, each of another size than the one before it, all handed out: none of them
+/// acknowledged, so that no mark has bits, or every one in part.
+fn mixed(entries: u64, acknowledged: bool) -> World {
+    let mut world = World::open(entries);
+    let count = entries - 1;
+    for (topic, consumer) in (0..TOPICS).zip(1..) {
+        for entry in 0..count {
+            let batch = 2 + 37 * entry % 255;
+            world.call(Call::Append { topic, ledger: 1, entry, handle: 500 + entry, batch });
+        }
+        world.subscribe(consumer, topic);
+        world.flow(&[consumer], count, BATCH);
+    }
+    world.call(Call::Push);
+    if acknowledged {
+        (0..usize::from(TOPICS)).for_each(|d| world.ack(d, in_part(count)));
+    }
+    world
 }
 
 /// One topic of messages that are no batches, four consumers without permits, and every message in
@@ -399,7 +423,7 @@ impl Case {
     }
 }
 
-/// Each size empty, half full, full, and full with outside ids.
+/// Each size empty, half full, full, full with outside ids, and full of batches without bits.
 fn cases() -> Vec<Case> {
     let mut cases = Vec::new();
     for e in SIZES {
@@ -409,6 +433,8 @@ fn cases() -> Vec<Case> {
         cases.push(Case::new(e, "half", calls(e, e / 2), filled(e, e / 2, 16, 0)));
         cases.push(Case::new(e, "full", calls(e, e - 1), filled(e, e - 1, 31, 0)));
         cases.push(Case::new(e, "outside", calls(e, e - 1), filled(e, e - 1, 31, 64)));
+        let part = Call::Ack { consumer: 1, groups: in_part((e - 1).min(64)) };
+        cases.push(Case::new(e, "mixed", vec![("part of 64", part)], mixed(e, false)));
     }
     cases
 }
@@ -461,6 +487,7 @@ impl Parts {
         let mut last = world.words();
         fuller(entries as usize, &mut last);
         keep("every list full", last);
+        keep("sizes all different", mixed(entries, true).words());
         Parts { entries, bench: Bench::new(world), steps, bare: f64::INFINITY }
     }
 
