@@ -2,17 +2,17 @@
 -- whose sizes leave its number.
 use mathlib.Core.Path.{_≡_, refl, sym, ap, ap₂, _∙_}
 use mathlib.Core.Bool.{Bool, true, false, cond, _||_}
-use mathlib.Core.List.{List, [], _∷_}
-use Prim.Native.Nat.{ℕ, zero, suc, _+_, _-_, _*_, _/_, _%_, _^_, _≤_, _<_, min}
+use mathlib.Core.List.{[], _∷_}
+use Prim.Native.Nat.{ℕ, zero, suc, _+_, _-_, _*_, _/_, _%_, _^_, _≤_, _<_}
 use native.Mathlib.Nat.{not-suc-le-zero, le-of-suc-le-suc, add-zero, zero-add, add-suc, suc-add}
 use native.Mathlib.Omega.{arith}
 use lib.Dec.{eqb, leb, ltb, eqb·suc-zero}
 use lib.Pow.{ones-lt}
-use lib.ListN.{length, getD}
+use lib.ListN.{getD}
 use borrow.Author.Tests.{leb-true, leb-false, ltb-true, ltb-false}
-use Rattle.bits.specs.Bits.{bit, fresh-unacked-bits}
+use Rattle.bits.specs.Bits.{bit}
 use Rattle.bits.specs.Masks.{mask, masks-from, masks, Masks-in-place, Masks-by-bits, Fresh-by-masks}
-use Rattle.bits.proofs.Word.{digit, digit-ones, digit-clear}
+use Rattle.bits.proofs.Word.{digit, digit-ones, digit-clear, ones-of}
 use Rattle.bits.proofs.Sets.{room, fresh-word}
 
 -- ---- the table
@@ -79,8 +79,8 @@ pub fresh-by-masks : Fresh-by-masks
 unfolding Fresh-by-masks
 fresh-by-masks k n q h = fresh-word k n q h ∙ past (leb n (64 * q)) refl
   where
-    ones : (m : ℕ) → room n q ≡ m → 2 ^ room n q - 1 ≡ 2 ^ m - 1
-    ones m e = ap (λ (x : ℕ). 2 ^ x - 1) e
+    ones : (m : ℕ) → m ≡ room n q → 2 ^ room n q - 1 ≡ 2 ^ m - 1
+    ones m e = sym (ones-of (n - 64 * q) m e)
 
     last : (t : Bool) → leb n (64 * q + 64) ≡ t → 64 * q < n → 2 ^ room n q - 1 ≡ cond t (mask (n % 64)) (2 ^ 64 - 1)
     last true e l =

@@ -40,6 +40,10 @@ digit-ones k j h =
     ap (λ (x : ℕ). (2 ^ x - 1) / 2 ^ j % 2) e ∙ ap (λ (x : ℕ). x / 2 ^ j % 2) (ones-split (suc (k - suc j)) j)
     ∙ ap (λ (x : ℕ). x % 2) (high (2 ^ suc (k - suc j) - 1) j (ones-lt j)) ∙ ones-odd (k - suc j)
 
+-- as many ones as a word has room for
+pub ones-of : (m n : ℕ) → n ≡ min m 64 → 2 ^ n - 1 ≡ 2 ^ min m 64 - 1
+ones-of m n e = ap (λ (x : ℕ). 2 ^ x - 1) e
+
 -- the top digit is clear, so one digit fewer holds the number
 drop-top : (w m : ℕ) → w < 2 ^ suc m → digit w m ≡ 0 → w < 2 ^ m
 drop-top w m h e =

@@ -162,18 +162,19 @@ fn fresh_word(batch_size: u64, from: u64, last: u64) -> u64
     0
 }
 
-// Whether no bit at or past message `batch_size` is set in a word that begins with message `from`.
+// Whether a word that begins with message `from` has no bit set at or past `batch_size`: any word where
+// the batch goes on to its end, by the bits behind the batch where it ends in it, else 0 alone.
 fn word_below(word: u64, batch_size: u64, from: u64) -> bool
+    requires { ⌜ from ≤ 192 ⌝ }
     ensures { λ r. ⌜ r ≡ leb word (2 ^ min («batch_size» - from) 64 - 1) ⌝ }
 {
-    if batch_size <= from {
-        return word == 0;
-    }
-    let n = batch_size - from;
-    if 64 <= n {
+    if from + 64 <= batch_size {
         return true;
     }
-    word >> n == 0
+    if from < batch_size {
+        return word >> (batch_size - from) == 0;
+    }
+    word == 0
 }
 
 // The word at `at`, or 0 where the list is shorter.

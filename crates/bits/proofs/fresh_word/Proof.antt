@@ -1,15 +1,12 @@
 -- `bits::fresh_word` meets its contract: none, the last or all of the word's bits lie below the batch size. Assumes nothing.
-use mathlib.Core.Path.{_≡_, ap, _∙_}
-use Prim.Native.Nat.{ℕ, _-_, _^_, min}
+use mathlib.Core.Path.{_∙_}
+use Prim.Native.Nat.{ℕ, _-_}
 use native.Mathlib.Omega.{arith}
 use borrow.Author.Needs.{needs}
+use Rattle.bits.proofs.Word.{ones-of}
 use Rattle.bits.proofs.Masks.{mask-rest}
 use Rattle.bits.proofs.fresh_word.Statement.{statement}
 use Rattle.bits.proofs.fresh_word.Tie as tie
-
--- n ones, n being as many as there is room for
-ones-of : (m n : ℕ) → n ≡ min m 64 → 2 ^ n - 1 ≡ 2 ^ min m 64 - 1
-ones-of m n e = ap (λ (x : ℕ). 2 ^ x - 1) e
 
 add-if1 : tie.Need-add-if1
 add-if1 c = search needs
