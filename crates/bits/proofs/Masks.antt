@@ -1,9 +1,9 @@
 -- The masks: each stands at its place of the table, is what it should be bit by bit, and is the last word of the fresh sets
 -- whose sizes leave its number.
-use mathlib.Core.Path.{_≡_, refl, sym, ap, ap₂, _∙_}
+use mathlib.Core.Path.{_≡_, refl, sym, ap, _∙_}
 use mathlib.Core.Bool.{Bool, true, false, cond, _||_}
 use mathlib.Core.List.{[], _∷_}
-use Prim.Native.Nat.{ℕ, zero, suc, _+_, _-_, _*_, _/_, _%_, _^_, _≤_, _<_}
+use Prim.Native.Nat.{ℕ, zero, suc, _+_, _-_, _*_, _%_, _^_, _≤_, _<_}
 use native.Mathlib.Nat.{not-suc-le-zero, le-of-suc-le-suc, add-zero, zero-add, add-suc, suc-add}
 use native.Mathlib.Omega.{arith}
 use lib.Dec.{eqb, leb, ltb, eqb·suc-zero}
@@ -13,7 +13,7 @@ use borrow.Author.Tests.{leb-true, leb-false, ltb-true, ltb-false}
 use Rattle.bits.specs.Bits.{bit}
 use Rattle.bits.specs.Masks.{mask, masks-from, masks, Masks-in-place, Masks-by-bits, Fresh-by-masks}
 use Rattle.bits.proofs.Word.{digit, digit-ones, digit-clear, ones-of}
-use Rattle.bits.proofs.Sets.{room, fresh-word}
+use Rattle.bits.proofs.Sets.{room, bit-at, fresh-word}
 
 -- ---- the table
 
@@ -52,11 +52,10 @@ mask-digit (suc r) j h = rw (eqb·suc-zero r) (ones-digit (suc r) j)
 
 -- `Masks-by-bits` of the specs
 pub masks-by-bits : Masks-by-bits
-unfolding Masks-by-bits bit
+unfolding Masks-by-bits
 masks-by-bits r j l h =
-    let word : j / 64 ≡ 0 = omega arith in
-    let place : j % 64 ≡ j = omega arith in
-    ap₂ (λ (x y : ℕ). digit (getD (mask r ∷ []) x 0) y) word place ∙ mask-digit r j h
+    let first : j ≡ 64 * 0 + j = omega arith in
+    ap (bit (mask r ∷ [])) first ∙ bit-at (mask r ∷ []) 0 j h ∙ mask-digit r j h
 
 -- ---- the last word of a fresh set
 

@@ -79,7 +79,7 @@ word-of-clear k w l h f =
     below-of-digits (64 - k) k w (subst (λ (x : ℕ). w < 2 ^ x) e h) (λ j a b. f j a (omega arith))
 
 -- a bit by its word and its place there
-bit-at : (ws : List ℕ) (q j : ℕ) → j < 64 → bit ws (64 * q + j) ≡ digit (getD ws q 0) j
+pub bit-at : (ws : List ℕ) (q j : ℕ) → j < 64 → bit ws (64 * q + j) ≡ digit (getD ws q 0) j
 unfolding bit
 bit-at ws q j h =
     let e : (64 * q + j) / 64 ≡ q = omega arith in
