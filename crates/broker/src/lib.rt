@@ -24,7 +24,7 @@ ghost use Rattle.rules.specs.Calls.Call.{Append, Flow, Ack, Redeliver, Close, P
 ghost use Rattle.layout.specs.Fields.{pair-of};
 ghost use Rattle.layout.specs.Calls.{outcome, answer, after, list-after, open-answer, open-after};
 ghost use Rattle.topic.specs.Ids.{message-of};
-ghost use Rattle.broker.specs.Exports.{target-from, kind-from};
+ghost use Rattle.rules.specs.Calls.{target-from, kind-from};
 
 // Opens a store for `entries` entries per topic; the two switches are off at 0, else on.
 #[no_mangle]

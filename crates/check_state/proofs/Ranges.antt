@@ -1,39 +1,16 @@
--- Numbers in their ranges, as the code tests them: bytes, 32-bit counts, next in a ring, and what a passed head says of the
--- cursor.
+-- Numbers in their ranges, as the code tests them: next in a ring, and what a passed head says of the cursor.
 use mathlib.Core.Path.{_≡_, refl}
 use mathlib.Core.Bool.{Bool, true, false, _&&_, false≢true}
 use mathlib.Core.List.{List}
-use Prim.Native.Nat.{ℕ, _+_, _^_, _≤_, _<_}
+use Prim.Native.Nat.{ℕ, _+_, _≤_}
 use native.Mathlib.Omega.{arith}
 use lib.Dec.{eqb, leb, ltb}
 use lib.ListN.{getD}
-use borrow.Author.Tests.{lt-ltb, le-ltb, leb-true, ne-eqb}
+use borrow.Author.Tests.{le-ltb, leb-true, ne-eqb}
 use Rattle.rules.specs.Permits.{least-total, most-total}
 use Rattle.rules.specs.Valid.{is-byte}
 use Rattle.rules.proofs.Table.{by-test}
 use Rattle.check_state.specs.Dispatchers.{head-right, next-right}
-
--- ---- a topic or subscription number is a byte
-
--- past the range
-pub byte-over : (n : ℕ) → 255 < n → is-byte n ≡ false
-unfolding is-byte
-byte-over n h = le-ltb n 256 (omega arith)
-
--- in it
-pub byte-fits : (n : ℕ) → n ≤ 255 → is-byte n ≡ true
-unfolding is-byte
-byte-fits n h = lt-ltb n 256 (omega arith)
-
--- ---- the redelivery count has 32 bits
-
--- past the range
-pub count-over : (n : ℕ) → 0xffff_ffff < n → ltb n (2 ^ 32) ≡ false
-count-over n h = le-ltb n (2 ^ 32) (omega arith)
-
--- in it
-pub count-fits : (n : ℕ) → n ≤ 0xffff_ffff → ltb n (2 ^ 32) ≡ true
-count-fits n h = lt-ltb n (2 ^ 32) (omega arith)
 
 -- ---- next in a ring
 

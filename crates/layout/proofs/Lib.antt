@@ -12,6 +12,7 @@ pub mod Narrow
 pub mod Tables
 pub mod Part
 pub mod Parts
+pub mod Slices
 pub mod Spot
 pub mod Gets
 pub mod GetsDispatcher

@@ -1,9 +1,9 @@
 -- What a caller learns from the word that an export answers and from push's list: every refusal has a number from 1 to 255,
 -- so that the number tells whether a call was done; the value of a done push is how many records it made, and these are
--- read back from their flat words.
+-- read back from their flat words; and only a push makes records.
 use Prim.Native.Nat.{ℕ, _+_, _-_, _*_, _/_, _%_, _^_, _≤_, _<_}
 use mathlib.Core.Path.{_≡_, refl, sym, ap, ap₂, _∙_}
-use mathlib.Core.Bool.{Bool, true, false, cond, _&&_}
+use mathlib.Core.Bool.{Bool, true, false, cond, _&&_, true≢false}
 use mathlib.Core.List.{List, [], _∷_, _++_, append-assoc}
 use mathlib.Core.Option.{Option, none, some}
 use native.Mathlib.Nat.{mod-eq-of-lt}
@@ -22,8 +22,80 @@ use Rattle.rules.specs.Commands.{append, subscribe, flow, ack, ack-share
 use Rattle.rules.specs.Push.{push, push-pending, flat, flat-records, record-read, records-read}
 use Rattle.rules.specs.Calls.{Call, rule, value-number, answer-word, number-in, value-in}
 use Rattle.rules.specs.Calls.Call.{Append, Subscribe, Flow, Ack, Seek, Redeliver, Close, Push}
+use Rattle.rules.specs.Book.{records-of}
 use Rattle.rules.specs.Demand.{is-done}
 use Rattle.rules.proofs.Says.{every-head, every-tail}
+
+-- ---- what holds of every outcome
+
+-- Something that holds of every refusal with a number from 1 to 255, and of what is done without records.
+module _ (P : Outcome → Type 0) (refuses : (n : ℕ) → 1 ≤ n → n ≤ 255 → P (refused n))
+    (does : (v : Value) (t : State) → records-of v ≡ [] → P (done v t)) where
+  -- a refusal in its case, else what follows
+  at-guard : (t : Bool) (n : ℕ) (o : Outcome) → 1 ≤ n → n ≤ 255 → P o → P (guard t n o)
+  unfolding guard
+  at-guard true n o h k more = refuses n h k
+  at-guard false n o h k more = more
+
+  -- one of two
+  at-cond : (t : Bool) (o r : Outcome) → P o → P r → P (cond t o r)
+  at-cond true o r h k = h
+  at-cond false o r h k = k
+
+  -- one of two, by the kind
+  at-kind : (k : Kind) (o r : Outcome) → P o → P r → P (by-kind k o r)
+  unfolding by-kind
+  at-kind plain o r h k = h
+  at-kind shared o r h k = k
+
+  -- refusal 4, or what is done with the consumer
+  at-live : (s : State) (i : ℕ) (f : Consumer → Outcome) → ((c : Consumer) → P (f c)) → P (with-live s i f)
+  unfolding with-live found-or-4
+  at-live s i f g = go (consumer-of s i)
+    where
+      go : (o : Option Consumer) → P (found-or-4 f o)
+      go none = refuses 4 (omega arith) (omega arith)
+      go (some c) = g c
+
+  -- refusal 10, or what is done with the groups
+  at-groups : (o : Option (List Group)) (f : List Group → Outcome) → ((gs : List Group) → P (f gs)) → P (with-groups o f)
+  unfolding with-groups
+  at-groups none f g = refuses 10 (omega arith) (omega arith)
+  at-groups (some gs) f g = g gs
+
+  -- an id that is live, or not
+  at-close : (s : State) (o : Option Consumer) → P (close-found s o)
+  unfolding close-found close-consumer records-of
+  at-close s none = does _ _ refl
+  at-close s (some c) = at-kind (c .kind) _ _ (does _ _ refl) (at-guard _ 9 _ (omega arith) (omega arith) (does _ _ refl))
+
+  -- it holds of every call's outcome if it does of every push's
+  of-call : (s : State) (x : Call) → ((room : ℕ) → x ≡ Push room → P (push s room)) → P (rule s x)
+  unfolding rule append subscribe flow ack ack-shared seek redeliver redeliver-plain close records-of
+  of-call s (Append topic m) pushes =
+      at-guard _ 8 _ (omega arith) (omega arith)
+      (at-guard _ 7 _ (omega arith) (omega arith)
+      (at-guard _ 5 _ (omega arith) (omega arith) (at-guard _ 6 _ (omega arith) (omega arith) (does _ _ refl))))
+  of-call s (Subscribe i kind p) pushes =
+      at-cond (is-some (consumer-of s i) && s .live-id-subscribe-is-noop) (done nothing s) _ (does _ _ refl)
+      (at-guard _ 12 _ (omega arith) (omega arith)
+      (at-kind kind _ _ (does _ _ refl)
+      (at-guard _ 13 _ (omega arith) (omega arith) (at-guard _ 14 _ (omega arith) (omega arith) (does _ _ refl)))))
+  of-call s (Flow i grant) pushes =
+      at-live s i _ (λ c.
+      at-guard _ 9 _ (omega arith) (omega arith)
+      (at-kind (c .kind) _ _ (does _ _ refl) (at-guard _ 9 _ (omega arith) (omega arith) (does _ _ refl))))
+  of-call s (Ack i list) pushes =
+      at-live s i _ (λ c.
+      at-groups (groups list) _ (λ gs.
+      at-kind (c .kind) _ _ (does _ _ refl) (at-guard _ 11 _ (omega arith) (omega arith) (does _ _ refl))))
+  of-call s (Seek i target) pushes = at-live s i _ (λ c. does _ _ refl)
+  of-call s (Redeliver i list) pushes =
+      at-live s i _ (λ c.
+      at-groups (groups list) _ (λ gs.
+      at-kind (c .kind) _ _ (at-guard _ 11 _ (omega arith) (omega arith) (does _ _ refl)) (does _ _ refl)))
+  of-call s (Close i) pushes = at-close s (consumer-of s i)
+  of-call s (Push room) pushes = pushes room refl
 
 -- ---- refusals have numbers
 
@@ -33,89 +105,44 @@ Numbered (refused n) = (1 ≤ n) × (n ≤ 255)
 Numbered (short n) = Unit {0}
 Numbered (done v t) = Unit {0}
 
--- one from 1 to 255 is
-numbered-refused : (n : ℕ) → 1 ≤ n → n ≤ 255 → Numbered (refused n)
-unfolding Numbered
-numbered-refused n h k = (h, k)
-
--- what is done has none
-numbered-done : (v : Value) (t : State) → Numbered (done v t)
-unfolding Numbered
-numbered-done v t = tt
-
--- and 15 is told apart by its form
-numbered-short : (n : ℕ) → Numbered (short n)
-unfolding Numbered
-numbered-short n = tt
-
--- a refusal in its case, else what follows
-numbered-guard : (t : Bool) (n : ℕ) (o : Outcome) → 1 ≤ n → n ≤ 255 → Numbered o → Numbered (guard t n o)
-unfolding guard
-numbered-guard true n o h k more = numbered-refused n h k
-numbered-guard false n o h k more = more
-
--- one of two
-numbered-cond : (t : Bool) (o r : Outcome) → Numbered o → Numbered r → Numbered (cond t o r)
-numbered-cond true o r h k = h
-numbered-cond false o r h k = k
-
--- one of two, by the kind
-numbered-kind : (k : Kind) (o r : Outcome) → Numbered o → Numbered r → Numbered (by-kind k o r)
-unfolding by-kind
-numbered-kind plain o r h k = h
-numbered-kind shared o r h k = k
-
--- refusal 4, or what is done with the consumer
-numbered-live : (s : State) (i : ℕ) (f : Consumer → Outcome) → ((c : Consumer) → Numbered (f c)) → Numbered (with-live s i f)
-unfolding with-live found-or-4
-numbered-live s i f g = go (consumer-of s i)
+-- a push is done, or 15 is told apart by its form
+push-numbered : (s : State) (room : ℕ) → Numbered (push s room)
+unfolding push Numbered
+push-numbered s room = go (leb (length (push-pending s .dispatched)) room)
   where
-    go : (o : Option Consumer) → Numbered (found-or-4 f o)
-    go none = numbered-refused 4 (omega arith) (omega arith)
-    go (some c) = g c
-
--- refusal 10, or what is done with the groups
-numbered-groups : (o : Option (List Group)) (f : List Group → Outcome) → ((gs : List Group) → Numbered (f gs)) → Numbered (with-groups o f)
-unfolding with-groups
-numbered-groups none f g = numbered-refused 10 (omega arith) (omega arith)
-numbered-groups (some gs) f g = g gs
-
--- an id that is live, or not
-numbered-close : (s : State) (o : Option Consumer) → Numbered (close-found s o)
-unfolding close-found close-consumer
-numbered-close s none = numbered-done _ _
-numbered-close s (some c) = numbered-kind (c .kind) _ _ (numbered-done _ _) (numbered-guard _ 9 _ (omega arith) (omega arith) (numbered-done _ _))
+    go : (t : Bool) → Numbered (cond t (done (dispatches (push-pending s .dispatched)) (push-pending s .state)) (short (length (push-pending s .dispatched))))
+    go true = tt
+    go false = tt
 
 -- every call's
 pub numbered : (s : State) (x : Call) → Numbered (rule s x)
-unfolding rule append subscribe flow ack ack-shared seek redeliver redeliver-plain close push
-numbered s (Append topic m) =
-    numbered-guard _ 8 _ (omega arith) (omega arith)
-    (numbered-guard _ 7 _ (omega arith) (omega arith)
-    (numbered-guard _ 5 _ (omega arith) (omega arith) (numbered-guard _ 6 _ (omega arith) (omega arith) (numbered-done _ _))))
-numbered s (Subscribe i kind p) =
-    numbered-cond (is-some (consumer-of s i) && s .live-id-subscribe-is-noop) (done nothing s) _ (numbered-done _ _)
-    (numbered-guard _ 12 _ (omega arith) (omega arith)
-    (numbered-kind kind _ _ (numbered-done _ _)
-    (numbered-guard _ 13 _ (omega arith) (omega arith) (numbered-guard _ 14 _ (omega arith) (omega arith) (numbered-done _ _)))))
-numbered s (Flow i grant) =
-    numbered-live s i _ (λ c.
-    numbered-guard _ 9 _ (omega arith) (omega arith)
-    (numbered-kind (c .kind) _ _ (numbered-done _ _) (numbered-guard _ 9 _ (omega arith) (omega arith) (numbered-done _ _))))
-numbered s (Ack i list) =
-    numbered-live s i _ (λ c.
-    numbered-groups (groups list) _ (λ gs.
-    numbered-kind (c .kind) _ _ (numbered-done _ _) (numbered-guard _ 11 _ (omega arith) (omega arith) (numbered-done _ _))))
-numbered s (Seek i target) = numbered-live s i _ (λ c. numbered-done _ _)
-numbered s (Redeliver i list) =
-    numbered-live s i _ (λ c.
-    numbered-groups (groups list) _ (λ gs.
-    numbered-kind (c .kind) _ _ (numbered-guard _ 11 _ (omega arith) (omega arith) (numbered-done _ _)) (numbered-done _ _)))
-numbered s (Close i) = numbered-close s (consumer-of s i)
-numbered s (Push room) =
-    let all = push-pending s in
-    numbered-cond (leb (length (all .dispatched)) room) (done (dispatches (all .dispatched)) (all .state)) (short (length (all .dispatched)))
-    (numbered-done _ _) (numbered-short _)
+unfolding Numbered
+numbered s x = of-call Numbered (λ n h k. (h, k)) (λ v t e. tt) s x (λ room e. push-numbered s room)
+
+-- ---- only a push makes records
+
+-- the records of what is done
+unfoldable pub Without-records : Outcome → Type 0
+Without-records (refused n) = Unit {0}
+Without-records (short n) = Unit {0}
+Without-records (done v t) = records-of v ≡ []
+
+-- whether a call is a push
+unfoldable pub is-push : Call → Bool
+is-push (Append topic m) = false
+is-push (Subscribe i kind p) = false
+is-push (Flow i grant) = false
+is-push (Ack i list) = false
+is-push (Seek i target) = false
+is-push (Redeliver i list) = false
+is-push (Close i) = false
+is-push (Push room) = true
+
+-- any other call makes none
+pub without-records : (s : State) (x : Call) → is-push x ≡ false → Without-records (rule s x)
+unfolding Without-records is-push
+without-records s x h =
+    of-call Without-records (λ n j k. tt) (λ v t e. e) s x (λ room e. absurd (true≢false (sym (ap is-push e) ∙ h)))
 
 -- ---- an answer read
 

@@ -1,11 +1,12 @@
 -- Opening, the eight calls with their rule, and lists of calls. Exported functions' contracts and demand 3 speak of these.
 use Prim.Native.Nat.{ℕ, _+_, _*_, _/_, _%_, _^_}
-use mathlib.Core.Bool.{Bool, true, false, not, _&&_}
+use mathlib.Core.Bool.{Bool, true, false, cond, not, _&&_}
 use mathlib.Core.List.{List, [], _∷_}
-use lib.Dec.{leb, ltb}
+use lib.Dec.{eqb, leb, ltb}
 use lib.ListN.{length}
 use Rattle.rules.specs.Table.{all}
 use Rattle.rules.specs.State.{StoredMessage, Pair, Kind, State, state-with}
+use Rattle.rules.specs.State.Kind.{plain, shared}
 use Rattle.rules.specs.Valid.{is-byte, is-word, valid-id}
 use Rattle.rules.specs.Outcome.{Value, Outcome, guard}
 use Rattle.rules.specs.Outcome.Outcome.{refused, short, done}
@@ -63,6 +64,17 @@ state-after s (done v t) = t
 unfoldable pub run : State → List Call → State
 run s [] = s
 run s (x ∷ calls) = run (state-after s (rule s x)) calls
+
+-- ---- from numbers
+
+-- a subscribe's kind: 0 is plain, anything else shared
+unfoldable pub kind-from : ℕ → Kind
+kind-from kind = cond (eqb kind 0) plain shared
+
+-- a seek's target: 0 is the start, anything else the id
+unfoldable pub target-from : ℕ → ℕ → ℕ → Target
+target-from target ledger entry =
+    cond (eqb target 0) start (to-id (record { ledger = ledger; entry = entry }))
 
 -- ---- widths
 

@@ -2,10 +2,10 @@
 use mathlib.Core.Path.{_≡_, refl, sym, subst, _∙_}
 use mathlib.Core.Bool.{Bool, true, false}
 use mathlib.Core.List.{List, [], _∷_}
-use Prim.Native.Nat.{ℕ, suc, _/_, _<_, _≤_, _^_}
+use Prim.Native.Nat.{ℕ, _/_, _<_, _≤_, _^_}
 use lib.Dec.{eqb}
 use native.Mathlib.Omega.{arith}
-use lib.ListN.{length, getD}
+use lib.ListN.{length}
 use borrow.Author.Tests.{lt-ltb, eq-eqb, ne-eqb}
 use Rattle.rules.specs.Table.{all}
 use Rattle.rules.specs.State.{StoredMessage, Pair, Kind}
@@ -20,6 +20,7 @@ use Rattle.rules.specs.Book.Told.{told-refused, told-done}
 use Rattle.rules.specs.Demand.{is-live, subscribes-live}
 use Rattle.layout.specs.Calls.{after, outcome, answer, run, list-after, open-after}
 use Rattle.layout.specs.Demand.{Lent, room-of-list, can-be-given, told-by, Words-reached, at-opening, after-call, after-calls, replaces, never-replaces, Words-accounted, Demand-3-words}
+use Rattle.layout.proofs.Slices.{word}
 use Rattle.layout.proofs.Demand.{demand-3-words}
 use Rattle.ten_calls.specs.TenCalls.{subscription, ten-calls, lent}
 
@@ -102,21 +103,6 @@ module _ (m : StoredMessage) (first second grant room : ℕ) (acked back list : 
       (rest-replaces-none r3)))
 
 -- ---- widths
-
--- a word
-word : (n : ℕ) → n < 2 ^ 64 → is-word n ≡ true
-unfolding is-word
-word n h = lt-ltb n (2 ^ 64) h
-
--- the records that a list of so many words holds
-pub few-records : (n : ℕ) → n < 2 ^ 64 → n / 13 < 2 ^ 64
-few-records n h = omega arith
-
--- the words of a list, each known by its place
-pub all-words : (l : List ℕ) → ((k : ℕ) → getD l k 0 < 2 ^ 64) → all is-word l ≡ true
-unfolding all
-all-words [] h = refl
-all-words (n ∷ l) h = rw (word n (h 0), all-words l (λ k. h (suc k)))
 
 -- the exports can be given the ten calls
 pub all-fit : (m : StoredMessage) (first second grant : ℕ) (acked back list : List ℕ)

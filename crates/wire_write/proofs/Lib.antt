@@ -1,6 +1,4 @@
--- `Writers` has the laws of writers in a row and of loops of them; the others serve the functions: the bytes of a varint, the
--- fields, the message.
-pub mod Writers
+-- What serves the functions: the bytes of a varint, the fields, the message.
 pub mod Varints
 pub mod Parts
 pub mod Messages

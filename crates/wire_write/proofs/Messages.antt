@@ -11,8 +11,9 @@ use borrow.Author.Tests.{leb-true, le-leb, lt-leb}
 use Rattle.rules.proofs.Table.{by-test}
 use Rattle.wire.specs.Message.{number-bytes, part-bytes, ack-set-bytes, content-bytes, message-bytes}
 use Rattle.wire.specs.Answers.{message-from, writable, write-message, bytes-answer, buffer-after}
-use Rattle.wire_write.specs.Wrote.{Wrote, id-numbers}
-use Rattle.wire_write.proofs.Writers.{and-then}
+use Rattle.words.specs.Wrote.{Wrote}
+use Rattle.wire_write.specs.Numbers.{id-numbers}
+use Rattle.words.proofs.Writers.{and-then}
 
 -- consumer, id, redelivery count and ack words, one after the other, are a record's content
 pub content-written : (words : List ℕ) {a b c d e : List ℕ} {at p q r end : ℕ}

@@ -8,8 +8,8 @@ use lib.ListN.{length, getD, set, drop, length-append, drop-of-length-le}
 use lib.Seq.{drop-cons}
 use Rattle.wire.specs.Varint.{written}
 use Rattle.wire.specs.Message.{number-bytes, part-bytes, ack-set-bytes}
-use Rattle.wire_write.specs.Wrote.{Wrote}
-use Rattle.wire_write.proofs.Writers.{wrote-byte, and-then, byte-before, Left, left-start, left-on, left-end}
+use Rattle.words.specs.Wrote.{Wrote}
+use Rattle.words.proofs.Writers.{wrote-byte, and-then, byte-before, Left, left-start, left-on, left-end}
 use Rattle.wire.proofs.Written.{written-short}
 use Rattle.wire_write.proofs.Varints.{last-byte}
 

@@ -8,8 +8,8 @@ use lib.ListN.{set}
 use borrow.Author.Tests.{lt-ltb, le-ltb}
 use Rattle.wire.specs.Varint.{written-within, written}
 use Rattle.wire.proofs.Written.{written-short}
-use Rattle.wire_write.specs.Wrote.{Wrote}
-use Rattle.wire_write.proofs.Writers.{Left, left-start, left-on, left-end, wrote-byte}
+use Rattle.words.specs.Wrote.{Wrote}
+use Rattle.words.proofs.Writers.{Left, left-start, left-on, left-end, wrote-byte}
 
 -- a number below 128 is its own varint
 pub last-byte : (k v : ℕ) → v < 128 → written-within k v ≡ v ∷ []

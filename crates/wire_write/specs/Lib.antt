@@ -1,1 +1,1 @@
-pub mod Wrote
+pub mod Numbers

@@ -4,7 +4,7 @@ ghost use Prim.Native.Nat.{_+_, _<_, _≤_};
 ghost use lib.ListN.{length};
 ghost use Rattle.wire.specs.Varint.{written};
 ghost use Rattle.wire.specs.Message.{number-bytes, ack-set-bytes};
-ghost use Rattle.wire_write.specs.Wrote.{Wrote};
+ghost use Rattle.words.specs.Wrote.{Wrote};
 
 // Writes the shortest varint of a number: seven bits a byte, the lowest first, all but the last with the top bit set.
 fn write_varint(buffer: &mut [u8], at: usize, number: u64) -> usize

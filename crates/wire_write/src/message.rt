@@ -7,7 +7,8 @@ ghost use Prim.Native.Nat.{_+_, _≤_};
 ghost use lib.ListN.{length, getD};
 ghost use Rattle.wire.specs.Message.{number-bytes, part-bytes, content-bytes, message-bytes};
 ghost use Rattle.wire.specs.Answers.{message-from, writable, write-message, bytes-answer, buffer-after};
-ghost use Rattle.wire_write.specs.Wrote.{Wrote, id-numbers};
+ghost use Rattle.words.specs.Wrote.{Wrote};
+ghost use Rattle.wire_write.specs.Numbers.{id-numbers};
 
 // The answer to a record or a buffer that is not right.
 const NOT_WRITTEN: u64 = 16;

@@ -50,6 +50,13 @@ unfolding lay
 lay-set [] off i v ws h = refl
 lay-set (u ∷ vs) off i v ws h = rw (set-comm ws i off v u (λ e. omega arith)) (lay-set vs (suc off) i v (set ws off u) (omega arith))
 
+-- And so may one past it.
+pub lay-set-past : (vs : List ℕ) (off i v : ℕ) (ws : List ℕ) → off + length vs ≤ i → lay vs .run off (set ws i v) ≡ set (lay vs .run off ws) i v
+unfolding lay
+lay-set-past [] off i v ws h = refl
+lay-set-past (u ∷ vs) off i v ws h =
+    rw (set-comm ws i off v u (λ e. omega arith)) (lay-set-past vs (suc off) i v (set ws off u) (omega arith))
+
 -- ---- an act on a part of the words
 
 -- An act after the words l, of which there are off.

@@ -8,4 +8,5 @@ pub mod Lists
 pub mod Slots
 pub mod Store
 pub mod Width
+pub mod Writers
 pub mod Zero

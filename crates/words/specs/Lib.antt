@@ -3,3 +3,4 @@ pub mod Codec
 pub mod Field
 pub mod Store
 pub mod Words
+pub mod Wrote

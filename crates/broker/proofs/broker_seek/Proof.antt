@@ -4,7 +4,7 @@ use Rattle.broker.proofs.Unspelt.{unspelt}
 use borrow.Author.Needs.{needs}
 use borrow.Author.Tests.{eq-eqb, ne-eqb}
 use Rattle.seek.specs.Targets.{target-of}
-use Rattle.broker.specs.Exports.{target-from}
+use Rattle.rules.specs.Calls.{target-from}
 use Rattle.broker.proofs.broker_seek.Statement.{statement}
 use Rattle.broker.proofs.broker_seek.Tie as tie
 use Rattle.broker.proofs.broker_seek.Reads as reads

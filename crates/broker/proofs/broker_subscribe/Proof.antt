@@ -4,7 +4,7 @@ use Rattle.broker.proofs.Unspelt.{unspelt}
 use borrow.Author.Needs.{needs}
 use borrow.Author.Tests.{eq-eqb, ne-eqb}
 use Rattle.subscribe.specs.Commanded.{kind-of}
-use Rattle.broker.specs.Exports.{kind-from}
+use Rattle.rules.specs.Calls.{kind-from}
 use Rattle.broker.proofs.broker_subscribe.Statement.{statement}
 use Rattle.broker.proofs.broker_subscribe.Tie as tie
 use Rattle.broker.proofs.broker_subscribe.Reads as reads

@@ -1,5 +1,5 @@
 -- `ten_calls::leave` meets its contract: four calls in a row.
-use Rattle.broker.specs.Exports.{target-from}
+use Rattle.rules.specs.Calls.{target-from}
 use Rattle.ten_calls.specs.TenCalls.{leaving}
 use Rattle.ten_calls.proofs.Runs.{ran-on, ran-last}
 use borrow.Author.Needs.{needs}

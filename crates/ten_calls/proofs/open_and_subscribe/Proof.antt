@@ -1,5 +1,5 @@
 -- `ten_calls::open_and_subscribe` meets its contract: the opening, then three calls in a row.
-use Rattle.broker.specs.Exports.{kind-from}
+use Rattle.rules.specs.Calls.{kind-from}
 use Rattle.ten_calls.specs.TenCalls.{subscribing, subscription}
 use Rattle.ten_calls.proofs.Runs.{ran-from, ran-on, ran-last}
 use borrow.Author.Needs.{needs}

@@ -5,7 +5,8 @@ use lib.ListN.{length}
 use Rattle.rules.specs.State.{StoredMessage}
 use Rattle.topic.specs.Ids.{message-of}
 use Rattle.ten_calls.proofs.Runs.{all-ten, list-of-ten}
-use Rattle.ten_calls.proofs.Fitting.{all-fit, all-words, few-records, ten-accounted}
+use Rattle.layout.proofs.Slices.{all-words, few-records}
+use Rattle.ten_calls.proofs.Fitting.{all-fit, ten-accounted}
 use borrow.Author.Needs.{needs}
 use Rattle.ten_calls.proofs.ten_calls.Statement.{statement}
 use Rattle.ten_calls.proofs.ten_calls.Tie as tie

@@ -4,7 +4,7 @@ use mathlib.Core.Path.{refl}
 use borrow.Author.Tests.{lt-leb, le-leb}
 use Rattle.check_state.specs.Dispatchers.{head-right}
 use Rattle.store.proofs.Tests.{fails, passes}
-use Rattle.check_state.proofs.Ranges.{byte-over, byte-fits}
+use Rattle.layout.proofs.Slices.{byte-over, byte-fits}
 use Rattle.check_state.proofs.valid_dispatchers.head_valid.Statement.{statement}
 use Rattle.check_state.proofs.valid_dispatchers.head_valid.Tie as tie
 

@@ -3,7 +3,7 @@ use borrow.Author.Needs.{needs}
 use mathlib.Core.Path.{sym, _∙_}
 use Rattle.bits.specs.Four.{words}
 use Rattle.store.proofs.Tests.{fails, passes}
-use Rattle.check_state.proofs.Ranges.{count-over, count-fits}
+use Rattle.layout.proofs.Slices.{count-over, count-fits}
 use Rattle.check_state.proofs.MarkBits.{bits-clear, bits-single, bits-batch}
 use Rattle.check_state.proofs.valid_marks.mark_fits.Statement.{statement}
 use Rattle.check_state.proofs.valid_marks.mark_fits.Tie as tie

@@ -4,7 +4,7 @@ use native.Mathlib.Omega.{arith}
 use lib.ListN.{length, length-set}
 use borrow.Author.Needs.{needs}
 use Rattle.wire.specs.Message.{message-bytes}
-use Rattle.wire_write.proofs.Writers.{and-then}
+use Rattle.words.proofs.Writers.{and-then}
 use Rattle.wire_write.proofs.Parts.{part-written}
 use Rattle.wire_write.proofs.message.write_command.Statement.{statement}
 use Rattle.wire_write.proofs.message.write_command.Tie as tie

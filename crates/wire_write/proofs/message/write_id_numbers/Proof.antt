@@ -1,7 +1,7 @@
 -- `wire_write::message::write_id_numbers` meets its contract: five fields one after the other.
 use borrow.Author.Needs.{needs}
 use Rattle.wire.specs.Message.{id-bytes}
-use Rattle.wire_write.proofs.Writers.{and-then}
+use Rattle.words.proofs.Writers.{and-then}
 use Rattle.wire_write.proofs.message.write_id_numbers.Statement.{statement}
 use Rattle.wire_write.proofs.message.write_id_numbers.Tie as tie
 

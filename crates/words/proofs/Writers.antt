@@ -4,15 +4,19 @@ use mathlib.Core.List.{List, [], _∷_, _++_}
 use Prim.Native.Nat.{ℕ, _+_, _≤_, _<_}
 use native.Mathlib.Omega.{arith}
 use lib.ListN.{length, set, length-append, length-set}
 use Rattle.words.specs.Act.{lay}
 use Rattle.words.proofs.Act.{lay-append, lay-none, lay-set}
-use Rattle.wire_write.specs.Wrote.{Wrote}
+use Rattle.words.specs.Wrote.{Wrote}
 
 -- one byte stored
 pub wrote-byte : (before : List ℕ) (at byte : ℕ) → Wrote 1 before at (byte ∷ []) (set before at byte) (at + 1)
 unfolding lay
 wrote-byte before at byte =
     record { laid = refl; ends = refl; short = omega arith; long = length-set before at byte }
+
+-- at most so many bytes are at most more
+pub wrote-within : {m n : ℕ} {a b xs : List ℕ} {at next : ℕ} → m ≤ n → Wrote m a at xs b next → Wrote n a at xs b next
+wrote-within h w = record { laid = w .laid; ends = w .ends; short = omega arith; long = w .long }
 
 -- a writer and then another from where it ended
 pub and-then : {m n : ℕ} {a b c xs ys : List ℕ} {at next end : ℕ} → Wrote m a at xs b next → Wrote n b next ys c end
