@@ -1,0 +1,2 @@
+-- What serves the functions, and the promises.
+pub mod Written

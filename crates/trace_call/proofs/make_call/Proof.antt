@@ -1,0 +1,67 @@
+-- `trace_call::make_call` meets its contract: a push may fill the list, and any other kind leaves it.
+use mathlib.Core.Path.{_≡_}
+use mathlib.Core.Bool.{false}
+use lib.Dec.{eqb}
+use borrow.Author.Needs.{needs}
+use borrow.Author.Tests.{ne-eqb}
+use Rattle.trace.specs.Calls.{PUSH, call-from, call-of}
+use Rattle.trace_call.proofs.Calls.{any-room, same-list}
+use Rattle.trace_call.proofs.make_call.Statement.{statement}
+use Rattle.trace_call.proofs.make_call.Tie as tie
+
+-- the places: what stands before each, by name
+abbrev entry-before-else1 : tie.Else1 → tie.Start
+entry-before-else1 c = c .before .before .before .before
+
+abbrev then1-before-slice-known4 : tie.After-slice-known4 → tie.Then1
+then1-before-slice-known4 c = c .before .before .before .before .before .before .before
+
+abbrev else1-before-slice-known5 : tie.After-slice-known5 → tie.Else1
+else1-before-slice-known5 c = c .before .before .before .before
+
+abbrev entry-before-slice-known5 : tie.After-slice-known5 → tie.Start
+entry-before-slice-known5 c = entry-before-else1 (else1-before-slice-known5 c)
+
+-- past the test a kind is not a push
+not-a-push : (c : tie.Else1) → eqb (entry-before-else1 c .args .kind) PUSH ≡ false
+not-a-push c = ne-eqb (entry-before-else1 c .args .kind) PUSH (c .if1 .left)
+
+make-push-requires : tie.Need-make-push-requires
+make-push-requires c κs = search needs
+
+same-length : tie.Need-same-length
+same-length c = search needs
+
+same-length-2 : tie.Need-same-length-2
+same-length-2 c = search needs
+
+returns : tie.Need-returns
+unfolding call-of call-from
+returns c = rw (then1-before-slice-known4 c .if1 .taken) (c .before .before .before .before .make-push .ensures)
+
+make-command-requires : tie.Need-make-command-requires
+make-command-requires c κs = (entry-before-else1 (c .before) .pre, not-a-push (c .before))
+
+same-length-3 : tie.Need-same-length-3
+same-length-3 c = search needs
+
+returns-2 : tie.Need-returns-2
+returns-2 c =
+    let s = entry-before-slice-known5 c in
+    let a = s .args in
+    let e = c .before .before .make-command .ensures in
+    let other = not-a-push (else1-before-slice-known5 c) in
+    rw (any-room _ (a .kind) (a .words .now) other)
+    (e .0, (e .1, same-list (a .store .now) (a .list .now) 0 (a .kind) (a .words .now) (s .pre) other))
+
+pub make-call-spec : {M : Type 1} → statement M
+make-call-spec =
+    tie.close
+    (tie.spec
+    make-push-requires
+    same-length
+    same-length-2
+    returns
+    make-command-requires
+    same-length-3
+    returns-2)

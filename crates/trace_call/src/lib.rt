@@ -1,0 +1,256 @@
+// A call made from a kind and its words, as a record of a trace has them. What fits no kind or has a word too wide for its
+// field is no call, and changes nothing. The store is not checked: the caller knows that it spells a state, and every call
+// leaves it so.
+use ack::ack;
+use append::append;
+use close::close;
+use flow::flow;
+use push::push;
+use redeliver::redeliver;
+use seek::command::Seek;
+use seek::command::Target;
+use seek::seek;
+use subscribe::command::Kind;
+use subscribe::command::Subscribe;
+use subscribe::subscribe;
+ghost use mathlib.Core.Path.{_≡_};
+ghost use mathlib.Core.Bool.{true, false};
+ghost use mathlib.Core.Option.{bind};
+ghost use Prim.Native.Nat.{_/_};
+ghost use lib.Dec.{eqb};
+ghost use lib.ListN.{length};
+ghost use Rattle.layout.specs.Layout.{spells};
+ghost use Rattle.trace.specs.Calls.{PUSH as Push-kind, call-of, that-fits, append-from, subscribe-from, flow-from, ack-from, seek-from};
+ghost use Rattle.trace.specs.Calls.{redeliver-from, close-from, push-from};
+ghost use Rattle.trace_call.specs.Made.{made, words-made, list-made};
+
+// What became of a kind and its words: the answer of their call, or they are none.
+pub enum Made {
+    Answer(u64),
+    NoCall,
+}
+
+// The kinds.
+pub const APPEND: u64 = 1;
+
+pub const SUBSCRIBE: u64 = 2;
+
+pub const FLOW: u64 = 3;
+
+pub const ACK: u64 = 4;
+
+pub const SEEK: u64 = 5;
+
+pub const REDELIVER: u64 = 6;
+
+pub const CLOSE: u64 = 7;
+
+pub const PUSH: u64 = 8;
+
+// The largest numbers of a field of 8 and of 32 bits.
+const MOST_8: u64 = 255;
+
+const MOST_32: u64 = 4_294_967_295;
+
+// Makes the call of a kind and its words; a push fills the list.
+pub fn make_call(store: &mut [u64], kind: u64, words: &[u64], list: &mut [u64]) -> Made
+    requires { ⌜ spells (now store) ≡ true ⌝ }
+    ensures answer { λ r. ⌜ r ≡ made (now (store .entry)) (call-of (length (now (list .entry)) / 13) kind (now (words .entry))) ⌝ }
+    ensures words { λ _. ⌜ now (store .exit) ≡ words-made (now (store .entry)) (call-of (length (now (list .entry)) / 13) kind (now (words .entry))) ⌝ }
+    ensures records { λ _. ⌜ now (list .exit) ≡ list-made (now (store .entry)) (now (list .entry))
+        (call-of (length (now (list .entry)) / 13) kind (now (words .entry))) ⌝ }
+{
+    if kind == PUSH {
+        return make_push(store, words, list);
+    }
+    make_command(store, kind, words)
+}
+
+// Any kind but a push.
+fn make_command(store: &mut [u64], kind: u64, words: &[u64]) -> Made
+    requires { ⌜ (spells (now store) ≡ true) × (eqb kind Push-kind ≡ false) ⌝ }
+    ensures answer { λ r. ⌜ r ≡ made (now (store .entry)) (call-of 0 kind (now (words .entry))) ⌝ }
+    ensures words { λ _. ⌜ now (store .exit) ≡ words-made (now (store .entry)) (call-of 0 kind (now (words .entry))) ⌝ }
+{
+    if kind == FLOW {
+        return make_flow(store, words);
+    }
+    if kind == ACK {
+        return make_ack(store, words);
+    }
+    if kind == APPEND {
+        return make_append(store, words);
+    }
+    if kind == SUBSCRIBE {
+        return make_subscribe(store, words);
+    }
+    if kind == REDELIVER {
+        return make_redeliver(store, words);
+    }
+    if kind == SEEK {
+        return make_seek(store, words);
+    }
+    if kind == CLOSE {
+        return make_close(store, words);
+    }
+    Made::NoCall
+}
+
+// An append: topic, ledger, entry, handle, batch size.
+fn make_append(store: &mut [u64], words: &[u64]) -> Made
+    requires { ⌜ spells (now store) ≡ true ⌝ }
+    ensures answer { λ r. ⌜ r ≡ made (now (store .entry)) (bind (append-from (now (words .entry))) that-fits) ⌝ }
+    ensures words { λ _. ⌜ now (store .exit) ≡ words-made (now (store .entry)) (bind (append-from (now (words .entry))) that-fits) ⌝ }
+{
+    if words.len() != 5 {
+        return Made::NoCall;
+    }
+    let topic = words[0];
+    if MOST_8 < topic {
+        return Made::NoCall;
+    }
+    Made::Answer(append(store, topic as u8, words[1], words[2], words[3], words[4]))
+}
+
+// A subscribe: consumer, 0 plain or 1 shared, topic, subscription.
+fn make_subscribe(store: &mut [u64], words: &[u64]) -> Made
+    requires { ⌜ spells (now store) ≡ true ⌝ }
+    ensures answer { λ r. ⌜ r ≡ made (now (store .entry)) (bind (subscribe-from (now (words .entry))) that-fits) ⌝ }
+    ensures words { λ _. ⌜ now (store .exit) ≡ words-made (now (store .entry)) (bind (subscribe-from (now (words .entry))) that-fits) ⌝ }
+{
+    if words.len() != 4 {
+        return Made::NoCall;
+    }
+    let topic = words[2];
+    if MOST_8 < topic {
+        return Made::NoCall;
+    }
+    let subscription = words[3];
+    if MOST_8 < subscription {
+        return Made::NoCall;
+    }
+    let kind = words[1];
+    if kind == 0 {
+        return Made::Answer(subscribe(
+            store,
+            Subscribe {
+                consumer: words[0],
+                kind: Kind::Plain,
+                topic: topic as u8,
+                subscription: subscription as u8,
+            },
+        ));
+    }
+    if kind == 1 {
+        return Made::Answer(subscribe(
+            store,
+            Subscribe {
+                consumer: words[0],
+                kind: Kind::Shared,
+                topic: topic as u8,
+                subscription: subscription as u8,
+            },
+        ));
+    }
+    Made::NoCall
+}
+
+// A flow: consumer, grant.
+fn make_flow(store: &mut [u64], words: &[u64]) -> Made
+    requires { ⌜ spells (now store) ≡ true ⌝ }
+    ensures answer { λ r. ⌜ r ≡ made (now (store .entry)) (bind (flow-from (now (words .entry))) that-fits) ⌝ }
+    ensures words { λ _. ⌜ now (store .exit) ≡ words-made (now (store .entry)) (bind (flow-from (now (words .entry))) that-fits) ⌝ }
+{
+    if words.len() != 2 {
+        return Made::NoCall;
+    }
+    let grant = words[1];
+    if MOST_32 < grant {
+        return Made::NoCall;
+    }
+    Made::Answer(flow(store, words[0], grant as u32))
+}
+
+// An ack: consumer, list.
+fn make_ack(store: &mut [u64], words: &[u64]) -> Made
+    requires { ⌜ spells (now store) ≡ true ⌝ }
+    ensures answer { λ r. ⌜ r ≡ made (now (store .entry)) (bind (ack-from (now (words .entry))) that-fits) ⌝ }
+    ensures words { λ _. ⌜ now (store .exit) ≡ words-made (now (store .entry)) (bind (ack-from (now (words .entry))) that-fits) ⌝ }
+{
+    if words.len() == 0 {
+        return Made::NoCall;
+    }
+    Made::Answer(ack(store, words[0], &words[1..]))
+}
+
+// A seek: consumer, then 0, or 1, ledger, entry.
+fn make_seek(store: &mut [u64], words: &[u64]) -> Made
+    requires { ⌜ spells (now store) ≡ true ⌝ }
+    ensures answer { λ r. ⌜ r ≡ made (now (store .entry)) (bind (seek-from (now (words .entry))) that-fits) ⌝ }
+    ensures words { λ _. ⌜ now (store .exit) ≡ words-made (now (store .entry)) (bind (seek-from (now (words .entry))) that-fits) ⌝ }
+{
+    if words.len() == 2 {
+        if words[1] == 0 {
+            return Made::Answer(seek(
+                store,
+                Seek {
+                    consumer: words[0],
+                    target: Target::Start,
+                },
+            ));
+        }
+        return Made::NoCall;
+    }
+    if words.len() != 4 {
+        return Made::NoCall;
+    }
+    if words[1] != 1 {
+        return Made::NoCall;
+    }
+    Made::Answer(seek(
+        store,
+        Seek {
+            consumer: words[0],
+            target: Target::Id(words[2], words[3]),
+        },
+    ))
+}
+
+// A redeliver: consumer, list.
+fn make_redeliver(store: &mut [u64], words: &[u64]) -> Made
+    requires { ⌜ spells (now store) ≡ true ⌝ }
+    ensures answer { λ r. ⌜ r ≡ made (now (store .entry)) (bind (redeliver-from (now (words .entry))) that-fits) ⌝ }
+    ensures words { λ _. ⌜ now (store .exit) ≡ words-made (now (store .entry)) (bind (redeliver-from (now (words .entry))) that-fits) ⌝ }
+{
+    if words.len() == 0 {
+        return Made::NoCall;
+    }
+    Made::Answer(redeliver(store, words[0], &words[1..]))
+}
+
+// A close: consumer.
+fn make_close(store: &mut [u64], words: &[u64]) -> Made
+    requires { ⌜ spells (now store) ≡ true ⌝ }
+    ensures answer { λ r. ⌜ r ≡ made (now (store .entry)) (bind (close-from (now (words .entry))) that-fits) ⌝ }
+    ensures words { λ _. ⌜ now (store .exit) ≡ words-made (now (store .entry)) (bind (close-from (now (words .entry))) that-fits) ⌝ }
+{
+    if words.len() != 1 {
+        return Made::NoCall;
+    }
+    Made::Answer(close(store, words[0]))
+}
+
+// A push: no words.
+fn make_push(store: &mut [u64], words: &[u64], list: &mut [u64]) -> Made
+    requires { ⌜ spells (now store) ≡ true ⌝ }
+    ensures answer { λ r. ⌜ r ≡ made (now (store .entry)) (bind (push-from (length (now (list .entry)) / 13) (now (words .entry))) that-fits) ⌝ }
+    ensures words { λ _. ⌜ now (store .exit) ≡ words-made (now (store .entry))
+        (bind (push-from (length (now (list .entry)) / 13) (now (words .entry))) that-fits) ⌝ }
+    ensures records { λ _. ⌜ now (list .exit) ≡ list-made (now (store .entry)) (now (list .entry))
+        (bind (push-from (length (now (list .entry)) / 13) (now (words .entry))) that-fits) ⌝ }
+{
+    if words.len() != 0 {
+        return Made::NoCall;
+    }
+    Made::Answer(push(store, list))
+}

@@ -1,0 +1,4 @@
+-- What serves the functions.
+pub mod Numbers
+pub mod Reaches
+pub mod Words
