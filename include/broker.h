@@ -11,6 +11,8 @@
  * Every call on a store but broker_open first checks that the words spell a state, and returns 1 if they do
  * not; it takes any words whatever. Words past BROKER_NEEDED(E) are never read or written.
  *
+ * broker_trace.h records calls as bytes, which the trace player makes again.
+ *
  * The caller's part:
  *  - A pointer is to as many words as the length says, aligned for uint64_t, or to as many bytes. With length 0
  *    it is never read or written through and may be NULL: an empty list, a store of no words, an empty input.
@@ -57,6 +59,7 @@ extern "C" {
 #define BROKER_LIST_SHORT 15      /* more dispatches are due than the list holds; the value is how many */
 #define BROKER_NOT_WELL_FORMED 16 /* the bytes are no command, or what is lent or to be written is not fit */
 #define BROKER_OTHER_TYPE 17      /* a command of a type that this reader does not take */
+#define BROKER_NO_CALL 18         /* a record of a trace that is no call: the trace player prints it as bad */
 
 /* The limits. */
 #define BROKER_MAX_ENTRIES 4096
