@@ -102,7 +102,7 @@ pub fn script() -> Result<String, String> {
 }
 
 /// A push with room for so many records: 15 with the number due, or the model's push.
-fn push(model: &mut Model, room: usize) -> (Outcome, String) {
+pub fn push(model: &mut Model, room: usize) -> (Outcome, String) {
     let mut after = model.clone();
     let outcome = after.call(&Call::Push);
     let due = outcome.records.len();

@@ -33,6 +33,7 @@ impl Wanted {
 }
 
 /// What one sequence is made of.
+#[derive(Clone)]
 struct Profile {
     topics: Vec<u8>,
     subscriptions: Vec<u8>,
@@ -44,7 +45,8 @@ struct Profile {
 
 pub struct Generator<'a> {
     rng: &'a mut Rng,
-    model: Model,
+    /// The state after the calls so far.
+    pub model: Model,
     profile: Profile,
     wanted: &'a Wanted,
 }
@@ -121,6 +123,22 @@ pub fn sequence(rng: &mut Rng, wanted: &Wanted) -> Vec<Call> {
     calls
 }
 
+impl<'a> Generator<'a> {
+    /// One for a store that is not opened again, whose caller makes the calls: ten topics, two more
+    /// than there can be, and three subscriptions.
+    pub fn lasting(rng: &'a mut Rng, wanted: &'a Wanted, model: Model) -> Self {
+        let (topics, subscriptions) = (distinct_bytes(rng, 10), distinct_bytes(rng, 3));
+        let profile = Profile { topics, subscriptions, ..profile(rng) };
+        Generator { rng, model, profile, wanted }
+    }
+
+    /// Other consumers, weights and batches, on the same topics and subscriptions.
+    pub fn turn(&mut self) {
+        let Profile { topics, subscriptions, .. } = self.profile.clone();
+        self.profile = Profile { topics, subscriptions, ..profile(self.rng) };
+    }
+}
+
 impl Generator<'_> {
     /// A call inside the domain, if it has to be; none if a full state leaves nothing to draw. So
     /// a seek by id is played against broker.rs only where some entry is at or after the id.
@@ -144,7 +162,8 @@ impl Generator<'_> {
         due <= self.wanted.most_due.unwrap_or(usize::MAX) && (due > 0 || self.rng.percent(25))
     }
 
-    fn candidate(&mut self) -> Call {
+    /// A call of any kind, inside the domain or not.
+    pub fn candidate(&mut self) -> Call {
         let weights = &self.profile.weights;
         // With nobody live most calls are refused; subscribe soon.
         if weights[2] > 0 && self.model.consumers.is_empty() && self.rng.percent(70) {

@@ -21,6 +21,7 @@ mod speed;
 #[allow(dead_code)]
 mod standins;
 mod state;
+mod trace;
 mod vectors;
 mod words;
 
@@ -45,6 +46,10 @@ const USAGE: &str = "usage:
   reference vectors                      print the fixed list
   reference bench                        time the library's calls beside broker.rs's
   reference cases [--answers]            print the case runner's input, or its output
+  reference trace --player PATH [--records N] [--seed S]
+                                         the same traces to the trace player and to the model
+  reference trace --example              write document 02's example trace
+  reference trace-bench --player PATH    time the trace player beside the library's calls
   reference sha256                       print the SHA-256 of the broker.rs built in";
 
 /// Ends with status 2: what was asked for makes no sense.
@@ -223,6 +228,9 @@ fn main() {
         }
         ("vectors", []) => print!("{}", vectors::text()),
         ("bench", []) => speed::bench(),
+        ("trace", [example]) if example == "--example" => trace::write_example(),
+        ("trace", _) => trace::command(rest, USAGE),
+        ("trace-bench", _) => trace::speed::bench(rest, USAGE),
         ("sha256", []) => println!("{}", env!("BROKER_SHA256")),
         _ => refuse(USAGE),
     }

@@ -218,7 +218,7 @@ fn pass(words: &[u64]) -> u64 {
 }
 
 /// Makes a call; ack and redeliver read `lent`, push writes it.
-fn perform(store: &mut [u64], call: &Call, lent: &mut [u64]) -> u64 {
+pub fn perform(store: &mut [u64], call: &Call, lent: &mut [u64]) -> u64 {
     const THERE: &str = "LIBBROKER names an archive with the nine exports that take a store";
     let (s, n, l, m) = (store.as_mut_ptr(), store.len(), lent.as_mut_ptr(), lent.len());
     // Each pointer is to a slice that outlives the call, with its length beside it.
@@ -347,7 +347,7 @@ fn calls(entries: u64, count: u64) -> Vec<(&'static str, Call)> {
     ]
 }
 
-fn verdict(met: bool) -> &'static str {
+pub fn verdict(met: bool) -> &'static str {
     if met { "met" } else { "missed" }
 }
 
