@@ -1,10 +1,14 @@
 # The two commands: `make run` (the main job) and `make test` (the gate); `make faults` runs the library
 # for C at its limits and on damaged words alone, `make wire` holds its commands as bytes against protobuf,
-# `make examples` runs its callers, `make bench` times its calls, `make edits` reads what a gate run said of the
-# must-fail edits, `make runs` is the gate without its proofs, `make install` puts it in place.
-.PHONY: run test runs faults wire examples bench edits install
+# `make trace` holds the trace player against the rules, `make examples` runs the library's callers, `make bench` times its
+# calls and the player, `make edits` reads what a gate run said of the must-fail edits, `make runs` is the gate without its
+# proofs, `make install` puts it in place.
+.PHONY: run test runs faults wire trace examples bench edits install
 
 LIBRARY = target/staticlib/libbroker.a
+
+# The trace player, which `rt check` builds.
+PLAYER = target/bin/player
 
 # Where `make install` puts header, library and pkg-config file; DESTDIR comes before it.
 PREFIX = /usr/local
@@ -14,6 +18,9 @@ CALLS = 100000
 
 # Random commands as bytes; `make wire COMMANDS=1000000` is the long run.
 COMMANDS = 100000
+
+# Records of the random traces; `make trace RECORDS=100000` is the long run.
+RECORDS = 10000
 
 WARNINGS = -Wall -Wextra -Wconversion -pedantic -Werror
 
@@ -27,6 +34,17 @@ endef
 
 # Commands as bytes: the fixed ones, the rules, protobuf.
 run-wire = LIBBROKER=$(LIBRARY) tests/wire/run $(COMMANDS)
+
+# The header that records traces as C and as C++, the bytes that it writes, and the market morning recorded and played.
+define run-recording
+gcc -x c -std=c99 $(WARNINGS) -fsyntax-only include/broker_trace.h
+g++ -x c++ $(WARNINGS) -fsyntax-only include/broker_trace.h
+gcc -std=c99 -O2 $(WARNINGS) -Iinclude tests/trace/record.c -o target/record
+target/record target/example.trace
+cmp target/example.trace crates/player/stdin
+$(build-terminal)
+tests/trace/terminal target/terminal $(PLAYER)
+endef
 
 # The market morning in C.
 build-terminal = gcc -std=c99 -O2 $(WARNINGS) -Iinclude examples/terminal.c $(LIBRARY) -o target/terminal
@@ -65,13 +83,15 @@ test:
 	{ rt ci || touch "$$work/failed"; } | tee "$$work/said"; \
 	[ ! -e "$$work/failed" ] && $(MAKE) --no-print-directory runs && tail -n 1 "$$work/said"
 
-# The library for C, the runs of it and of broker.rs, its limits and faults, its commands as bytes, its examples, the
-# check on changed words.
+# The library for C and the trace player, the runs of both and of broker.rs, the library's limits and faults, its commands
+# as bytes, what records traces, its examples, the check on changed words.
 runs:
 	rt staticlib broker
-	LIBBROKER=$(LIBRARY) CALLS=$(CALLS) reference/check
+	rt check player
+	LIBBROKER=$(LIBRARY) CALLS=$(CALLS) PLAYER=$(PLAYER) RECORDS=$(RECORDS) reference/check
 	$(run-faults)
 	$(run-wire)
+	$(run-recording)
 	$(run-examples)
 	fuzz/run fuzz 1
 
@@ -85,16 +105,24 @@ wire:
 	rt staticlib broker
 	$(run-wire)
 
+# The trace player against the model of the rules, and what records traces.
+trace:
+	rt staticlib broker
+	rt check player
+	LIBBROKER=$(LIBRARY) PLAYER=$(PLAYER) RECORDS=$(RECORDS) reference/trace
+	$(run-recording)
+
 # The library called as a maker would call it.
 examples:
 	rt staticlib broker
 	$(run-examples)
 
-# The time of every call beside a bare pass over the same words and beside broker.rs, and of the calls on bytes beside
-# a plain decoder and encoder.
+# The time of every call beside a bare pass over the same words and beside broker.rs, of the trace player beside the same
+# calls through the library, and of the calls on bytes beside a plain decoder and encoder.
 bench:
 	rt staticlib broker
-	LIBBROKER=$(LIBRARY) reference/bench
+	rt check player
+	LIBBROKER=$(LIBRARY) PLAYER=$(PLAYER) reference/bench
 	mkdir -p target/wire
 	gcc -std=c99 -O2 $(WARNINGS) -Iinclude tests/wire/speed.c tests/wire/plain.c $(LIBRARY) -o target/wire/speed
 	target/wire/speed
@@ -109,7 +137,7 @@ $(LIBRARY):
 
 install: $(LIBRARY)
 	install -d "$(DESTDIR)$(PREFIX)/include" "$(DESTDIR)$(PREFIX)/lib/pkgconfig"
-	install -m 644 include/broker.h "$(DESTDIR)$(PREFIX)/include/broker.h"
+	install -m 644 include/broker.h include/broker_trace.h "$(DESTDIR)$(PREFIX)/include"
 	install -m 644 $(LIBRARY) "$(DESTDIR)$(PREFIX)/lib/libbroker.a"
 	sed 's|@PREFIX@|$(PREFIX)|' include/broker.pc.in >"$(DESTDIR)$(PREFIX)/lib/pkgconfig/broker.pc"
 	chmod 644 "$(DESTDIR)$(PREFIX)/lib/pkgconfig/broker.pc"
