@@ -10,8 +10,12 @@ use crate::input::read_more;
 use crate::place::Place;
 use crate::place::Turn;
 use libc::STDOUT_FILENO;
+use store::offsets::NEEDED_WORDS;
+use store::offsets::NEEDED_WORDS_E;
+use store::open::open;
+use trace_lines::LINES_BYTES;
+use trace_read::MOST_BYTES;
 use trace_step::Did;
-use trace_step::LINES_BYTES;
 use trace_step::finish;
 use trace_step::step;
 ghost use mathlib.Core.Path.{_≡_};
@@ -21,18 +25,22 @@ ghost use lib.ListN.{length};
 ghost use Rattle.layout.specs.Layout.{spells};
 ghost use Rattle.player.specs.Places.{held-bytes, out-bytes, Placed, Went-on, Goes-on};
 
-// The store's words for E = 32, the bytes of input that are held at most (a record of 1,217 words and a block), and the bytes
-// of lines that are kept until they are printed.
-const STORE_WORDS: usize = 8192;
+// E of the store, and the words that it needs.
+const ENTRIES: usize = 32;
 
-const HELD_BYTES: usize = 75_275;
+const STORE_WORDS: usize = NEEDED_WORDS + ENTRIES * NEEDED_WORDS_E;
+
+// The bytes of input that are held at most, a record and a block; and those of lines that are kept until they are printed.
+const BLOCK_BYTES: usize = 65_536;
+
+const HELD_BYTES: usize = MOST_BYTES + BLOCK_BYTES;
 
 const OUT_BYTES: usize = 65_536;
 
 // Opens the store and plays.
 fn main() {
     let mut store = [0u64; STORE_WORDS];
-    store::open::open(&mut store, 32, 0, 0);
+    open(&mut store, ENTRIES as u64, 0, 0);
     play(&mut store);
 }
 

@@ -6,7 +6,7 @@ use mathlib.Core.Bool.{true, false}
 use mathlib.Core.List.{List}
 use Rattle.rules.specs.Table.{all}
 use Rattle.rules.specs.Calls.{Call, run}
-use Rattle.rules.specs.Demand.{at-opening, after-calls, never-replaces, Accounted}
+use Rattle.rules.specs.Demand.{Reached, at-opening, after-calls, never-replaces, Accounted}
 use Rattle.trace.specs.Calls.{trace-bytes, recordable}
 use Rattle.trace.specs.Played.{ROOM, at-first, played, calls-played}
 use Rattle.trace.specs.Steps.{Player, new-player, step, at-end, player-at, after-text, Move, after-moves, input-of, waits}
@@ -36,9 +36,16 @@ pub record Alone (p : Player) : Type 0 where
 unfoldable pub Steps-alone : Type 0
 Steps-alone = (p : Player) → p .stopped ≡ false → Alone p
 
+-- the state after the calls of a trace, and the book of these calls
+unfoldable pub traced : List ℕ → Reached
+traced input =
+    record {
+      state = run at-first (calls-played input);
+      book = after-calls (at-opening 32 false false) (calls-played input) .book;
+    }
+
 -- demand 3 of every trace in which no live id is subscribed again: every permit and every message is accounted for in the
--- state after its calls
+-- state after it
 unfoldable pub Demand-3-traces : Type 0
 Demand-3-traces =
-    (input : List ℕ) → never-replaces (at-opening 32 false false) (calls-played input) ≡ true
-    → Accounted (after-calls (at-opening 32 false false) (calls-played input))
+    (input : List ℕ) → never-replaces (at-opening 32 false false) (calls-played input) ≡ true → Accounted (traced input)

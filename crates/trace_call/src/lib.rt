@@ -13,6 +13,14 @@ use seek::seek;
 use subscribe::command::Kind;
 use subscribe::command::Subscribe;
 use subscribe::subscribe;
+use trace_kind::ACK;
+use trace_kind::APPEND;
+use trace_kind::CLOSE;
+use trace_kind::FLOW;
+use trace_kind::PUSH;
+use trace_kind::REDELIVER;
+use trace_kind::SEEK;
+use trace_kind::SUBSCRIBE;
 ghost use mathlib.Core.Path.{_≡_};
 ghost use mathlib.Core.Bool.{true, false};
 ghost use mathlib.Core.Option.{bind};
@@ -29,23 +37,6 @@ pub enum Made {
     Answer(u64),
     NoCall,
 }
-
-// The kinds.
-pub const APPEND: u64 = 1;
-
-pub const SUBSCRIBE: u64 = 2;
-
-pub const FLOW: u64 = 3;
-
-pub const ACK: u64 = 4;
-
-pub const SEEK: u64 = 5;
-
-pub const REDELIVER: u64 = 6;
-
-pub const CLOSE: u64 = 7;
-
-pub const PUSH: u64 = 8;
 
 // The largest numbers of a field of 8 and of 32 bits.
 const MOST_8: u64 = 255;

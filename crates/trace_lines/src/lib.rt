@@ -3,7 +3,10 @@
 // constants.
 use decimal::write_decimal;
 use decimal::write_difference;
+use record::RECORD_WORDS;
 use std::num::wrapping_add_u64;
+use store::permits::ZERO_PERMITS;
+use trace_kind::PUSH;
 ghost use mathlib.Core.Path.{_≡_};
 ghost use Prim.Native.Nat.{_+_, _*_, _≤_};
 ghost use lib.ListN.{length, drop};
@@ -20,20 +23,20 @@ const BLANK: u8 = b' ';
 
 const NEWLINE: u8 = 10;
 
-// The words of a record in a push's list, and the places of those that are printed.
-const RECORD_WORDS: usize = 13;
+// The bytes of a record's line and of a dispatch's at most, and of all lines of a record with the 32 dispatches that a push's
+// list holds.
+const LINE_BYTES: usize = 84;
 
+const DISPATCH_BYTES: usize = 87;
+
+pub const LINES_BYTES: usize = LINE_BYTES + 32 * DISPATCH_BYTES;
+
+// The places of what is printed of a dispatch's record, behind the consumer.
 const LEDGER: usize = 1;
 
 const ENTRY: usize = 2;
 
 const PERMITS: usize = 12;
-
-// No permits, in excess form.
-const ZERO_PERMITS: u64 = 0x4000_0000_0000_0000;
-
-// The kind of a push.
-const PUSH: u64 = 8;
 
 // An answer is its value times this, plus the refusal's number.
 const NUMBERS: u64 = 256;

@@ -4,7 +4,7 @@ ghost use mathlib.Core.Path.{_≡_};
 ghost use Prim.Native.Nat.{_+_, _≤_};
 ghost use lib.ListN.{length, take, drop};
 ghost use Rattle.words.specs.Wrote.{Wrote};
-ghost use Rattle.trace.specs.Format.{number, header-reach, record-reach, record-in};
+ghost use Rattle.trace.specs.Format.{MOST_WORDS as most-words, number, header-reach, record-reach, record-in};
 ghost use Rattle.trace.specs.Format.Reach.{ends};
 ghost use Rattle.trace_read.specs.Reached.{reached};
 
@@ -28,10 +28,12 @@ const COUNT_BYTES: usize = 2;
 
 const FRONT_BYTES: usize = 3;
 
-// The bytes of a word, and the most words of a record.
+// The bytes of a word; the most words of a record, and the bytes of such a record.
 const WORD_BYTES: usize = 8;
 
 pub const MOST_WORDS: usize = 1217;
+
+pub const MOST_BYTES: usize = FRONT_BYTES + WORD_BYTES * MOST_WORDS;
 
 // A byte as a number.
 fn wide(b: u8) -> u64
@@ -95,8 +97,8 @@ pub fn kind_of(bytes: &[u8]) -> u64
 
 // Puts the words of a record at the start of `words`, and answers how many they are.
 pub fn read_words(bytes: &[u8], words: &mut [u64]) -> usize
-    requires { ⌜ (record-reach (now bytes) ≡ ends (length (now bytes))) × (1217 ≤ length (now words)) ⌝ }
-    ensures { λ r. ⌜ Wrote 1217 (now (words .entry)) 0 (record-in (now (bytes .entry)) .words) (now (words .exit)) r ⌝ }
+    requires { ⌜ (record-reach (now bytes) ≡ ends (length (now bytes))) × (most-words ≤ length (now words)) ⌝ }
+    ensures { λ r. ⌜ Wrote most-words (now (words .entry)) 0 (record-in (now (bytes .entry)) .words) (now (words .exit)) r ⌝ }
 {
     let mut at = FRONT_BYTES;
     let mut n = 0;

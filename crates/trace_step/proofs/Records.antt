@@ -1,5 +1,5 @@
 -- A record's bytes as its call: the words that were read are lent on, and what is made of them is made of the record.
-use Prim.Native.Nat.{ℕ, _/_, _≤_}
+use Prim.Native.Nat.{ℕ, _*_, _/_, _≤_}
 use mathlib.Core.Path.{_≡_, refl, sym, ap, _∙_, subst}
 use mathlib.Core.Bool.{true}
 use mathlib.Core.List.{List, []}
@@ -37,8 +37,8 @@ first-words {n = n} {a = a} {b = b} {xs = xs} w m =
     let e = w .ends in
     ap (take n) (w .laid ∙ lay-eq xs 0 a (omega arith)) ∙ take-at xs _ n (omega arith)
 
--- the call of a kind and of these words is the record's, with a list of 416 words
-pub of-record : (r : Record) (kind n : ℕ) (words : List ℕ) → kind ≡ r .kind → take n words ≡ r .words → (long : ℕ) → long ≡ 416
+-- the call of a kind and of these words is the record's, with the player's list
+pub of-record : (r : Record) (kind n : ℕ) (words : List ℕ) → kind ≡ r .kind → take n words ≡ r .words → (long : ℕ) → long ≡ ROOM * 13
     → call-of (long / 13) kind (take n words) ≡ record-call r
 unfolding record-call
 of-record r kind n words k w long l = rw (l, k, w)

@@ -1,6 +1,7 @@
 // The player's step: what stands at the front of the bytes held is found whole, cut off or wrong; a whole record is read as a
 // call, the call is made on the store, and its lines are written into a lent buffer. The store spells a state before and after,
 // so it is never checked.
+use record::RECORD_WORDS;
 use trace_call::Made;
 use trace_call::make_call;
 use trace_lines::write_bad;
@@ -13,13 +14,13 @@ use trace_read::read_words;
 use trace_read::record_reach;
 ghost use mathlib.Core.Path.{_≡_};
 ghost use mathlib.Core.Bool.{true};
-ghost use Prim.Native.Nat.{_≤_};
+ghost use Prim.Native.Nat.{_*_, _≤_};
 ghost use lib.ListN.{length};
 ghost use Rattle.words.specs.Act.{lay};
 ghost use Rattle.layout.specs.Layout.{decode, spells};
 ghost use Rattle.trace.specs.Format.{record-reach, record-in};
 ghost use Rattle.trace.specs.Format.Reach.{ends};
-ghost use Rattle.trace.specs.Played.{record-call};
+ghost use Rattle.trace.specs.Played.{ROOM, record-call};
 ghost use Rattle.trace.specs.Steps.{reach, end-text};
 ghost use Rattle.trace_call.specs.Made.{made, words-made, list-made};
 ghost use Rattle.trace_lines.specs.Told.{lines-bytes};
@@ -33,15 +34,12 @@ pub enum Did {
     Went(usize, usize),
 }
 
-// The bytes that the lines of a step take at most: one of 84, and 32 of 87.
-pub const LINES_BYTES: usize = 2868;
-
-// The words of a list of 32 records.
-const LIST_WORDS: usize = 416;
+// The words of a push's list, which holds 32 records.
+const LIST_WORDS: usize = 32 * RECORD_WORDS;
 
 // Makes the call of a record.
 fn make_record(store: &mut [u64], bytes: &[u8], list: &mut [u64]) -> Made
-    requires { ⌜ (spells (now store) ≡ true) × (record-reach (now bytes) ≡ ends (length (now bytes))) × (length (now list) ≡ 416) ⌝ }
+    requires { ⌜ (spells (now store) ≡ true) × (record-reach (now bytes) ≡ ends (length (now bytes))) × (length (now list) ≡ ROOM * 13) ⌝ }
     ensures answer { λ r. ⌜ r ≡ made (now (store .entry)) (record-call (record-in (now (bytes .entry)))) ⌝ }
     ensures words { λ _. ⌜ now (store .exit) ≡ words-made (now (store .entry)) (record-call (record-in (now (bytes .entry)))) ⌝ }
     ensures records { λ _. ⌜ now (list .exit) ≡ list-made (now (store .entry)) (now (list .entry)) (record-call (record-in (now (bytes .entry)))) ⌝ }
