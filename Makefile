@@ -10,7 +10,7 @@ LIBRARY = target/staticlib/libbroker.a
 # The trace player, which `rt check` builds.
 PLAYER = target/bin/player
 
-# Where `make install` puts header, library and pkg-config file; DESTDIR comes before it.
+# Where `make install` puts headers, library and pkg-config file; DESTDIR comes before it.
 PREFIX = /usr/local
 
 # Random calls of the faults' last part; `make faults CALLS=1000000` is the long run.

@@ -12,7 +12,7 @@ fn append(topic: u8, entry: u64, batch: u64) -> Call {
     Call::Append { topic, ledger: 1, entry, handle: 1000 * u64::from(topic) + entry, batch }
 }
 
-fn shared(consumer: u64, topic: u8, subscription: u8) -> Call {
+pub fn shared(consumer: u64, topic: u8, subscription: u8) -> Call {
     Call::Subscribe { consumer, kind: Kind::Shared, topic, subscription }
 }
 
@@ -20,7 +20,7 @@ fn plain(consumer: u64, topic: u8) -> Call {
     Call::Subscribe { consumer, kind: Kind::Plain, topic, subscription: 0 }
 }
 
-fn flow(consumer: u64, grant: u32) -> Call {
+pub fn flow(consumer: u64, grant: u32) -> Call {
     Call::Flow { consumer, grant }
 }
 
@@ -32,7 +32,7 @@ fn ack(consumer: u64, groups: Vec<Group>) -> Call {
     Call::Ack { consumer, groups }
 }
 
-fn close(consumer: u64) -> Call {
+pub fn close(consumer: u64) -> Call {
     Call::Close { consumer }
 }
 

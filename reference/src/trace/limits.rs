@@ -5,6 +5,7 @@ use super::bytes::{HEADER, MOST_WORDS, headed, record, trace, written};
 use super::on_model::play;
 use super::program::Runs;
 use crate::call::{Call, Group, Kind, Target, list};
+use crate::limits::{close, flow, shared};
 
 /// What the papers say of the record.
 #[derive(Debug, Clone, Copy, PartialEq, Eq)]
@@ -51,20 +52,8 @@ fn append(topic: u8, entry: u64, batch: u64) -> Call {
     Call::Append { topic, ledger: 1, entry, handle: 5, batch }
 }
 
-fn shared(consumer: u64, topic: u8, subscription: u8) -> Call {
-    Call::Subscribe { consumer, kind: Kind::Shared, topic, subscription }
-}
-
 fn plain(consumer: u64, topic: u8) -> Call {
     Call::Subscribe { consumer, kind: Kind::Plain, topic, subscription: 1 }
-}
-
-fn flow(consumer: u64, grant: u32) -> Call {
-    Call::Flow { consumer, grant }
-}
-
-fn close(consumer: u64) -> Call {
-    Call::Close { consumer }
 }
 
 /// Groups of ids (1, from) to (1, to - 1), each with so many words.

@@ -22,7 +22,9 @@ same-length : tie.Need-same-length
 same-length c = c .before .before .write-decimal .ensures .long ∙ simp length-set
 
 returns : tie.Need-returns
-returns c = negative _ _ (search needs) (c .before .before .write-decimal .ensures)
+returns c =
+    let a = c .before .before .before .before .before .before .args in
+    negative (a .a) (a .b) (search needs) (c .before .before .write-decimal .ensures)
 
 write-decimal-requires-2 : tie.Need-write-decimal-requires-2
 write-decimal-requires-2 c κs = search needs
