@@ -3,6 +3,7 @@
 // requires anything; the contracts are one equation for the answer and one for every lent slice.
 // Every call here but opening first checks that the words spell a state, and answers 1 where they do not.
 pub mod commands;
+pub mod rows;
 
 use ack::ack;
 use append::append;

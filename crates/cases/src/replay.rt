@@ -1,6 +1,6 @@
 // The replay of the calls that stand on the input, one a line, on a store of 8,192 words. Each line is
-// printed with what the call gave, and a push with its records; a line `balance` asks for the balance
-// check of each dispatcher, and one that begins with # is a heading.
+// printed with what the call gave, and a push with its records; a line `row` makes a row of calls, a line
+// `balance` asks for the balance check of each dispatcher, and one that begins with # is a heading.
 use crate::balances::show_balances;
 use cases_line::name::ACK;
 use cases_line::name::APPEND;
@@ -11,11 +11,13 @@ use cases_line::name::OPEN;
 use cases_line::name::PLAIN;
 use cases_line::name::PUSH;
 use cases_line::name::REDELIVER;
+use cases_line::name::ROW;
 use cases_line::name::SEEK;
 use cases_line::name::START;
 use cases_line::name::SUBSCRIBE;
 use cases_line::read_line;
 use cases_line::words_of;
+use cases_rows::replay_row;
 use cases_show::show_outcome;
 use cases_show::show_records;
 use cases_show::show_twin;
@@ -63,6 +65,8 @@ fn replay_call(store: &mut [u64], line: &[u8]) {
     let n = words_of(line, &mut words);
     if words[0] == PUSH {
         replay_push(store, n, words[1]);
+    } else if words[0] == ROW {
+        replay_row(store, &words, n);
     } else if words[0] == BALANCE {
         show_balances(store);
     } else {
@@ -88,7 +92,7 @@ fn push_into(store: &mut [u64], list: &mut [u64], room: usize) -> u64
     let answer = broker::broker_push(store, &mut list[..room]);
     show_outcome(PUSH, answer);
     if answer % 256 == 0 {
-        show_records(list, answer / 256);
+        show_records(list, 0, answer / 256);
     }
     answer
 }

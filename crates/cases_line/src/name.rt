@@ -31,6 +31,9 @@ pub const PUSH: u64 = 0x70757368;
 // balance
 pub const BALANCE: u64 = 0x62616c616e6365;
 
+// row
+pub const ROW: u64 = 0x726f77;
+
 // plain
 pub const PLAIN: u64 = 0x706c61696e;
 

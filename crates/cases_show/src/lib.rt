@@ -3,6 +3,7 @@ use cases_line::name::ACK;
 use cases_line::name::CLOSE;
 use cases_line::name::FLOW;
 use cases_line::name::PUSH;
+use cases_line::name::ROW;
 use cases_line::name::SEEK;
 use libc::STDOUT_FILENO;
 ghost use Prim.Native.Nat.{_+_, _≤_};
@@ -18,6 +19,8 @@ pub fn show_outcome(name: u64, answer: u64) {
         show_field(b"refused ", number);
         if number == 15 {
             show_field(b", due ", answer / 256);
+        } else if number == 64 {
+            show_field(b", calls ", answer / 256);
         }
     }
     io::write_all(STDOUT_FILENO, b"\n");
@@ -37,6 +40,8 @@ fn show_value(name: u64, value: u64) {
         show_field(b", closed ", value);
     } else if name == PUSH {
         show_field(b", dispatches ", value);
+    } else if name == ROW {
+        show_field(b", calls ", value);
     }
 }
 
@@ -67,18 +72,22 @@ pub fn show_twin(same: bool) {
     }
 }
 
-// The records at the start of a push's list, a line each.
-pub fn show_records(list: &[u64], count: u64) {
-    let mut at = 0;
+// The records from a place of a list on, a line each; answers the place after the last one.
+pub fn show_records(list: &[u64], from: usize, count: u64) -> usize
+    requires { ⌜ from ≤ length (now list) ⌝ }
+    ensures { λ r. ⌜ r ≤ length (now (list .entry)) ⌝ }
+{
+    let mut at = from;
     let mut left = count;
     while left > 0 {
         if list.len() - at < 13 {
-            return;
+            return at;
         }
         show_record(list, at);
         at += 13;
         left -= 1;
     }
+    at
 }
 
 // The record at a place of a list.

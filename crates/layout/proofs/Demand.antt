@@ -3,7 +3,7 @@
 use Prim.Native.Nat.{ℕ, _^_, _≤_, _<_}
 use mathlib.Core.Path.{_≡_, refl, sym, ap, ap₂, _∙_, subst}
 use mathlib.Core.Bool.{Bool, true, false, cond, not, _&&_}
-use mathlib.Core.List.{List, [], _∷_, map}
+use mathlib.Core.List.{List, [], _∷_, _++_, map}
 use native.Mathlib.Omega.{arith}
 use lib.Dec.{eqb, leb}
 use lib.ListN.{length, drop}
@@ -26,7 +26,7 @@ use Rattle.rules.proofs.Kept.{records-ranged, settings-kept}
 use Rattle.rules.proofs.Answers.{Numbered, numbered, number-done, value-made, records-back}
 use Rattle.rules.proofs.Demand.{demand-3}
 use Rattle.layout.specs.Layout.{decode, spells}
-use Rattle.layout.specs.Calls.{outcome, answer, after, with-records, list-after, open-after}
+use Rattle.layout.specs.Calls.{outcome, answer, after, made-words, with-records, list-after, open-after}
 use Rattle.layout.specs.Demand.{Lent, can-be-given, told-by, Words-reached, at-opening, after-call, after-calls, replaces, never-replaces, Words-accounted, Demand-3-words}
 use Rattle.layout.proofs.Store.{spells-valid}
 use Rattle.layout.proofs.Calls.{outcome-is, decode-after, spells-after, open-decode, open-spells}
@@ -41,43 +41,57 @@ unfolding told-by
 told-as b x o list h =
     ap (λ (t : Bool). enter b x (cond t (told-done (records-read (value-in (answer-word o)) list)) told-refused)) (number-done o h)
 
--- a call whose records the book does not look at
+-- a call whose records the book does not look at, whatever the list
 told-other : (b : Book) (x : Call) → ((l m : List Dispatch) → enter-done b x l ≡ enter-done b x m) → (list : List ℕ) (o : Outcome) → Numbered o
-    → enter b x (told-by (answer-word o) (list-after list o)) ≡ enter b x (told o)
+    → enter b x (told-by (answer-word o) list) ≡ enter b x (told o)
 unfolding is-done enter told
-told-other b x same list (refused n) h = told-as b x (refused n) (list-after list (refused n)) h
-told-other b x same list (short n) h = told-as b x (short n) (list-after list (short n)) h
-told-other b x same list (done v t) h = told-as b x (done v t) (list-after list (done v t)) h ∙ same _ (records-of v)
+told-other b x same list (refused n) h = told-as b x (refused n) list h
+told-other b x same list (short n) h = told-as b x (short n) list h
+told-other b x same list (done v t) h = told-as b x (done v t) list h ∙ same _ (records-of v)
 
--- a push: the records are read back from the lent list
-told-push : (b : Book) (room : ℕ) (list : List ℕ) (l : List Dispatch) (t : State) → length l < 2 ^ 56
+-- a push: the records are read back from the front of the list
+told-push : (b : Book) (room : ℕ) (behind : List ℕ) (l : List Dispatch) (t : State) → length l < 2 ^ 56
     → Every (λ (x : Dispatch). x .permits < 2 ^ 64) l → (c : Bool) → Numbered (cond c (done (dispatches l) t) (short (length l)))
-    → enter b (Push room) (told-by (answer-word (cond c (done (dispatches l) t) (short (length l)))) (list-after list (cond c (done (dispatches l) t) (short (length l)))))
+    → enter b (Push room) (told-by (answer-word (cond c (done (dispatches l) t) (short (length l)))) (made-words (cond c (done (dispatches l) t) (short (length l))) ++ behind))
     ≡ enter b (Push room) (told (cond c (done (dispatches l) t) (short (length l))))
-unfolding is-done enter told list-after with-records records-of
-told-push b room list l t few small true h =
-    let after : List ℕ = with-records list (flat-records l) in
-    told-as b (Push room) (done (dispatches l) t) after h
-    ∙ ap (λ (n : ℕ). enter-done b (Push room) (records-read n after)) (value-made l t few)
-    ∙ ap (enter-done b (Push room)) (records-back l (drop (length (flat-records l)) list) small)
-told-push b room list l t few small false h = told-as b (Push room) (short (length l)) list h
+unfolding is-done enter told made-words records-of
+told-push b room behind l t few small true h =
+    let list : List ℕ = flat-records l ++ behind in
+    told-as b (Push room) (done (dispatches l) t) list h
+    ∙ ap (λ (n : ℕ). enter-done b (Push room) (records-read n list)) (value-made l t few)
+    ∙ ap (enter-done b (Push room)) (records-back l behind small)
+told-push b room behind l t few small false h = told-as b (Push room) (short (length l)) behind h
 
--- any call of a valid state
-told-same : (b : Book) (s : State) (x : Call) (list : List ℕ) → Valid s
-    → enter b x (told-by (answer-word (rule s x)) (list-after list (rule s x))) ≡ enter b x (told (rule s x))
+-- any call of a valid state: the records that it makes tell the book, whatever stands behind them
+pub told-front : (b : Book) (s : State) (x : Call) (behind : List ℕ) → Valid s
+    → enter b x (told-by (answer-word (rule s x)) (made-words (rule s x) ++ behind)) ≡ enter b x (told (rule s x))
 unfolding enter-done rule push
-told-same b s (Append topic m) list v = told-other b (Append topic m) (λ l k. refl) list (rule s (Append topic m)) (numbered s (Append topic m))
-told-same b s (Subscribe i kind p) list v = told-other b (Subscribe i kind p) (λ l k. refl) list (rule s (Subscribe i kind p)) (numbered s (Subscribe i kind p))
-told-same b s (Flow i grant) list v = told-other b (Flow i grant) (λ l k. refl) list (rule s (Flow i grant)) (numbered s (Flow i grant))
-told-same b s (Ack i acked) list v = told-other b (Ack i acked) (λ l k. refl) list (rule s (Ack i acked)) (numbered s (Ack i acked))
-told-same b s (Seek i target) list v = told-other b (Seek i target) (λ l k. refl) list (rule s (Seek i target)) (numbered s (Seek i target))
-told-same b s (Redeliver i back) list v = told-other b (Redeliver i back) (λ l k. refl) list (rule s (Redeliver i back)) (numbered s (Redeliver i back))
-told-same b s (Close i) list v = told-other b (Close i) (λ l k. refl) list (rule s (Close i)) (numbered s (Close i))
-told-same b s (Push room) list v =
+told-front b s (Append topic m) behind v = told-other b (Append topic m) (λ l k. refl) _ (rule s (Append topic m)) (numbered s (Append topic m))
+told-front b s (Subscribe i kind p) behind v = told-other b (Subscribe i kind p) (λ l k. refl) _ (rule s (Subscribe i kind p)) (numbered s (Subscribe i kind p))
+told-front b s (Flow i grant) behind v = told-other b (Flow i grant) (λ l k. refl) _ (rule s (Flow i grant)) (numbered s (Flow i grant))
+told-front b s (Ack i acked) behind v = told-other b (Ack i acked) (λ l k. refl) _ (rule s (Ack i acked)) (numbered s (Ack i acked))
+told-front b s (Seek i target) behind v = told-other b (Seek i target) (λ l k. refl) _ (rule s (Seek i target)) (numbered s (Seek i target))
+told-front b s (Redeliver i back) behind v = told-other b (Redeliver i back) (λ l k. refl) _ (rule s (Redeliver i back)) (numbered s (Redeliver i back))
+told-front b s (Close i) behind v = told-other b (Close i) (λ l k. refl) _ (rule s (Close i)) (numbered s (Close i))
+told-front b s (Push room) behind v =
     let all = push-pending s in
-    told-push b room list (all .dispatched) (all .state) (omega (arith, few-due s v))
+    told-push b room behind (all .dispatched) (all .state) (omega (arith, few-due s v))
     (λ x m. let top = records-ranged s (v .tables) x m .permits-to in omega (arith, top))
     (leb (length (all .dispatched)) room) (numbered s (Push room))
+
+-- the list after a call has its records in front
+pub records-in-front : (list : List ℕ) (o : Outcome) → list-after list o ≡ made-words o ++ drop (length (made-words o)) list
+unfolding list-after made-words with-records
+records-in-front list (refused n) = refl
+records-in-front list (short n) = refl
+records-in-front list (done v t) = refl
+
+-- so it tells the book
+told-same : (b : Book) (s : State) (x : Call) (list : List ℕ) → Valid s
+    → enter b x (told-by (answer-word (rule s x)) (list-after list (rule s x))) ≡ enter b x (told (rule s x))
+told-same b s x list v =
+    ap (λ (l : List ℕ). enter b x (told-by (answer-word (rule s x)) l)) (records-in-front list (rule s x))
+    ∙ told-front b s x (drop (length (made-words (rule s x))) list) v
 
 -- ---- one call
 
@@ -143,7 +157,7 @@ abbrev calls-of : List Lent → List Call
 calls-of calls = map (λ (c : Lent). c .call) calls
 
 -- the words after a list of calls spell a state
-calls-spell : (calls : List Lent) (r : Words-reached) → spells (r .words) ≡ true → all can-be-given calls ≡ true
+pub calls-spell : (calls : List Lent) (r : Words-reached) → spells (r .words) ≡ true → all can-be-given calls ≡ true
     → spells (after-calls r calls .words) ≡ true
 unfolding after-calls
 calls-spell [] r h g = h
@@ -170,6 +184,23 @@ never-same noop (c ∷ calls) r h g n =
     ap₂ (λ (x y : Bool). not x && y) (replaces-same r c h f noop n)
     (never-same noop calls (after-call r c) (its-spells r c h f) (given-rest c calls g) (same-switch r c h f ∙ n)
     ∙ ap (λ (z : Reached). rules.never-replaces z (calls-of calls)) (call-same r c h f))
+
+-- ---- calls after calls
+
+-- those of one list and then those of another
+pub after-append : (xs ys : List Lent) (r : Words-reached) → after-calls r (xs ++ ys) ≡ after-calls (after-calls r xs) ys
+unfolding after-calls
+after-append [] ys r = refl
+after-append (c ∷ xs) ys r = after-append xs ys (after-call r c)
+
+-- replace no live id if neither do
+pub never-append : (noop : ℕ) (xs ys : List Lent) (r : Words-reached) → never-replaces noop r xs ≡ true
+    → never-replaces noop (after-calls r xs) ys ≡ true → never-replaces noop r (xs ++ ys) ≡ true
+unfolding never-replaces after-calls
+never-append noop [] ys r h g = g
+never-append noop (c ∷ xs) ys r h g =
+    let first : not (replaces noop r c) ≡ true = and-left (not (replaces noop r c)) (never-replaces noop (after-call r c) xs) h in
+    rw first (never-append noop xs ys (after-call r c) (and-right (not (replaces noop r c)) (never-replaces noop (after-call r c) xs) h) g)
 
 -- ---- demand 3
 

@@ -38,6 +38,12 @@ run ws (x ∷ calls) = run (after ws x) calls
 unfoldable pub with-records : List ℕ → List ℕ → List ℕ
 with-records list records = records ++ drop (length records) list
 
+-- the words of the records that an outcome makes
+unfoldable pub made-words : Outcome → List ℕ
+made-words (refused n) = []
+made-words (short n) = []
+made-words (done v s) = flat-records (records-of v)
+
 -- push's lent list after an outcome
 unfoldable pub list-after : List ℕ → Outcome → List ℕ
 list-after list (refused n) = list

@@ -22,7 +22,7 @@ use Rattle.layout.specs.Layout.{decode, spells}
 use Rattle.layout.specs.Calls.{outcome, answer, with-records, list-after}
 use Rattle.layout.proofs.FewDue.{few-due}
 use Rattle.operation_laws.proofs.Frame.{valid-now}
-use Rattle.record.proofs.Filled.{flats-length}
+use Rattle.rules.proofs.Answers.{flats-length}
 use Rattle.record.specs.declared.Dispatch as declared
 use Rattle.push_records.specs.Listed.{records-in, dispatched, room, listed}
 use Rattle.push_records.proofs.Reading.{read-made}

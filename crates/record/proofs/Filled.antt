@@ -9,6 +9,7 @@ use lib.Seq.{sets-eq, drop-drop}
 use Rattle.words.specs.Act.{lay}
 use Rattle.rules.specs.Outcome.{Dispatch}
 use Rattle.rules.specs.Push.{flat, flat-records}
+use Rattle.rules.proofs.Answers.{flat-length}
 use Rattle.layout.specs.Calls.{with-records}
 use Rattle.record.specs.Flat.{filled, record-words}
 use Rattle.record.specs.declared.Dispatch as declared
@@ -75,17 +76,6 @@ pub filled-length : (list : List ℕ) (m : ℕ) (l : List Dispatch) → length (
 unfolding filled
 filled-length list m [] = refl
 filled-length list m (x ∷ l) = filled-length (lay (flat x) .run (m * 13) list) (suc m) l ∙ lay (flat x) .even (m * 13) list
-
--- a record has thirteen words
-pub flat-length : (x : Dispatch) → length (flat x) ≡ 13
-unfolding flat
-flat-length x = refl
-
--- so records have thirteen each
-pub flats-length : (l : List Dispatch) → length (flat-records l) ≡ 13 * length l
-unfolding flat-records
-flats-length [] = refl
-flats-length (x ∷ l) = rw (length-append (flat x) (flat-records l), flat-length x, flats-length l) (omega arith)
 
 -- a record written at the start
 laid-first : (x : Dispatch) (r : List ℕ) → 13 ≤ length r → lay (flat x) .run 0 r ≡ flat x ++ drop 13 r

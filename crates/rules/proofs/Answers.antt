@@ -9,7 +9,7 @@ use mathlib.Core.Option.{Option, none, some}
 use native.Mathlib.Nat.{mod-eq-of-lt}
 use native.Mathlib.Omega.{arith}
 use lib.Dec.{eqb, leb}
-use lib.ListN.{length, drop}
+use lib.ListN.{length, drop, length-append}
 use borrow.Author.Tests.{ne-eqb}
 use Rattle.rules.specs.Table.{Every, is-some}
 use Rattle.rules.specs.State.{Kind, by-kind, Consumer, State, consumer-of}
@@ -138,6 +138,18 @@ is-push (Redeliver i list) = false
 is-push (Close i) = false
 is-push (Push room) = true
 
+-- what holds of every other call and of every push holds of all
+pub by-push : (P : Call → Type 0) → ((x : Call) → is-push x ≡ false → P x) → ((room : ℕ) → P (Push room)) → (x : Call) → P x
+unfolding is-push
+by-push P others pushes (Append topic m) = others (Append topic m) refl
+by-push P others pushes (Subscribe i kind p) = others (Subscribe i kind p) refl
+by-push P others pushes (Flow i grant) = others (Flow i grant) refl
+by-push P others pushes (Ack i list) = others (Ack i list) refl
+by-push P others pushes (Seek i target) = others (Seek i target) refl
+by-push P others pushes (Redeliver i list) = others (Redeliver i list) refl
+by-push P others pushes (Close i) = others (Close i) refl
+by-push P others pushes (Push room) = pushes room
+
 -- any other call makes none
 pub without-records : (s : State) (x : Call) → is-push x ≡ false → Without-records (rule s x)
 unfolding Without-records is-push
@@ -170,7 +182,18 @@ value-made l s h =
     let high : n * 256 / 256 ≡ n = omega arith in
     ap (λ (k : ℕ). k * 256 / 256) whole ∙ high
 
--- ---- records read back
+-- ---- records in words
+
+-- a record has thirteen words
+pub flat-length : (x : Dispatch) → length (flat x) ≡ 13
+unfolding flat
+flat-length x = refl
+
+-- so records have thirteen each
+pub flats-length : (l : List Dispatch) → length (flat-records l) ≡ 13 * length l
+unfolding flat-records
+flats-length [] = refl
+flats-length (x ∷ l) = rw (length-append (flat x) (flat-records l), flat-length x, flats-length l) (omega arith)
 
 -- permits come back from their two's complement
 permits-back : (p : ℕ) → p < 2 ^ 64 → ((p + (2 ^ 64 - 2 ^ 62)) % 2 ^ 64 + 2 ^ 62) % 2 ^ 64 ≡ p

@@ -1,12 +1,16 @@
--- What holds of every record that is a call: the call is of the record's kind, and its arguments have their widths.
-use Prim.Native.Nat.{ℕ}
+-- What holds of every record that is a call: the call is of the record's kind, and its arguments have their widths; and what
+-- a kind and its words come to: no call where a test or a width fails, else the call.
+use Prim.Native.Nat.{ℕ, zero, suc}
 use mathlib.Core.Path.{_≡_, refl, sym, subst}
 use mathlib.Core.Bool.{Bool, true, false, cond}
 use mathlib.Core.List.{List}
 use mathlib.Core.Option.{Option, none, some, bind}
-use lib.Dec.{eqb}
-use borrow.Author.Tests.{eqb-true, eq-eqb}
+use native.Mathlib.Omega.{arith}
+use lib.Dec.{eqb, leb}
+use borrow.Author.Tests.{eqb-true, eq-eqb, ne-eqb, lt-leb}
 use Rattle.rules.specs.Calls.{Call, fits}
+use Rattle.rules.specs.Calls.Call.{Append, Subscribe, Flow, Ack, Seek, Redeliver, Close, Push}
+use Rattle.rules.proofs.Answers.{is-push}
 use Rattle.trace.specs.Calls.{APPEND, SUBSCRIBE, FLOW, ACK, SEEK, REDELIVER, CLOSE, PUSH}
 use Rattle.trace.specs.Calls.{if-so, append-from, subscribe-from, flow-from, ack-from, seek-from, redeliver-from, close-from}
 use Rattle.trace.specs.Calls.{push-from, call-from, that-fits, call-of, kind-of, room-is}
@@ -114,3 +118,62 @@ call-room room kind ws =
     (room-cond room (eqb kind REDELIVER) _ _ (room-so room _ _ refl)
     (room-cond room (eqb kind CLOSE) _ _ (room-so room _ _ refl)
     (room-cond room (eqb kind PUSH) _ none (room-so room _ _ (eq-eqb room room refl)) tt))))))))
+
+-- the room is a push's only
+pub any-room : (room kind : ℕ) (ws : List ℕ) → eqb kind PUSH ≡ false → call-of room kind ws ≡ call-of 0 kind ws
+unfolding call-of call-from
+any-room room kind ws e = rw e
+
+-- a push is known by its kind
+pub push-kind : (x : Call) → is-push x ≡ eqb (kind-of x) PUSH
+unfolding is-push kind-of
+push-kind (Append topic m) = refl
+push-kind (Subscribe i kind p) = refl
+push-kind (Flow i grant) = refl
+push-kind (Ack i list) = refl
+push-kind (Seek i target) = refl
+push-kind (Redeliver i list) = refl
+push-kind (Close i) = refl
+push-kind (Push room) = refl
+
+-- ---- the words of a kind
+
+-- a number that is neither 0 nor 1, as a subscribe's kind
+pub past-one : (n : ℕ) → (n ≡ 0 → ⊥) → (n ≡ 1 → ⊥) → leb n 1 ≡ false
+past-one zero h k = absurd (h refl)
+past-one (suc zero) h k = absurd (k refl)
+past-one (suc (suc n)) h k = lt-leb (suc (suc n)) 1 (omega arith)
+
+-- ---- a call, or none
+
+-- none: the words do not pass the test of their kind
+pub not-passed : {passed : Bool} (x : Call) → passed ≡ false → bind (if-so passed x) that-fits ≡ none
+unfolding bind if-so
+not-passed x e = rw e
+
+-- none: an argument is too wide
+pub too-wide : (passed : Bool) (x : Call) → fits x ≡ false → bind (if-so passed x) that-fits ≡ none
+unfolding bind if-so that-fits
+too-wide true x e = rw e
+too-wide false x e = refl
+
+-- a call
+pub is-call : {passed : Bool} {x : Call} → passed ≡ true → fits x ≡ true → bind (if-so passed x) that-fits ≡ some x
+unfolding bind if-so that-fits
+is-call e f = rw (e, f)
+
+-- a kind that is none of the eight
+pub no-kind : (room kind : ℕ) (ws : List ℕ) → (kind ≡ APPEND → ⊥) → (kind ≡ SUBSCRIBE → ⊥) → (kind ≡ FLOW → ⊥) → (kind ≡ ACK → ⊥)
+    → (kind ≡ SEEK → ⊥) → (kind ≡ REDELIVER → ⊥) → (kind ≡ CLOSE → ⊥) → eqb kind PUSH ≡ false → call-of room kind ws ≡ none
+unfolding call-of call-from bind
+no-kind room kind ws append subscribe flow ack seek redeliver close push =
+    rw (
+      ne-eqb kind APPEND append,
+      ne-eqb kind SUBSCRIBE subscribe,
+      ne-eqb kind FLOW flow,
+      ne-eqb kind ACK ack,
+      ne-eqb kind SEEK seek,
+      ne-eqb kind REDELIVER redeliver,
+      ne-eqb kind CLOSE close,
+      push,
+    )

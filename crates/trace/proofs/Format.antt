@@ -12,9 +12,10 @@ use lib.Seq.{length-take-le, take-append-le, drop-append-le}
 use borrow.Author.Tests.{ltb-true, ltb-false, lt-ltb, le-ltb}
 use Rattle.words.specs.Words.{starts}
 use Rattle.trace.specs.Format.{number, number-bytes, header, HEADER_BYTES, Record, MOST_WORDS, FRONT_BYTES, record-size, Reach}
-use Rattle.trace.specs.Format.{record-reach, header-reach, words-in, record-in, first-record, records-within, records}
+use Rattle.trace.specs.Format.{record-reach, header-reach, words-in, record-in, records-within, records-by, in-bytes, records}
 use Rattle.trace.specs.Format.Reach.{ends, cut-off, wrong}
 use Rattle.trace.specs.Played.{record-call, calls-in}
+use Rattle.trace.proofs.Records.{Ends-in, ends-in, too-many-in, reaches-in, by-first, by-wrong, by-cut}
 
 -- the count of a record
 abbrev pub count-in : List ℕ → ℕ
@@ -22,54 +23,25 @@ count-in bytes = number (take 2 (drop 1 bytes))
 
 -- ---- how far a record reaches
 
--- what an answer of `record-reach` tells
-pub record Whole (bytes : List ℕ) (size : ℕ) : Type 0 where
-  pub front : FRONT_BYTES ≤ length bytes
-  pub few : count-in bytes ≤ MOST_WORDS
-  pub inside : record-size (count-in bytes) ≤ length bytes
-  pub is-size : size ≡ record-size (count-in bytes)
-
--- by cases
-unfoldable Told : List ℕ → Reach → Type 0
-Told bytes (ends size) = Whole bytes size
-Told bytes cut-off = Unit {0}
-Told bytes wrong = (FRONT_BYTES ≤ length bytes) × (MOST_WORDS < count-in bytes)
-
--- it is told by the tests
-told : (bytes : List ℕ) → Told bytes (record-reach bytes)
-unfolding record-reach Told
-told bytes = go (ltb (length bytes) FRONT_BYTES) (ltb MOST_WORDS (count-in bytes)) (ltb (length bytes) (record-size (count-in bytes))) refl refl refl
-  where
-    go : (a b c : Bool) → ltb (length bytes) FRONT_BYTES ≡ a → ltb MOST_WORDS (count-in bytes) ≡ b
-        → ltb (length bytes) (record-size (count-in bytes)) ≡ c
-        → Told bytes (cond a cut-off (cond b wrong (cond c cut-off (ends (record-size (count-in bytes))))))
-    go true b c e f g = tt
-    go false true c e f g = (ltb-false (length bytes) FRONT_BYTES e, ltb-true MOST_WORDS (count-in bytes) f)
-    go false false true e f g = tt
-    go false false false e f g =
-        record {
-          front = ltb-false (length bytes) FRONT_BYTES e;
-          few = ltb-false MOST_WORDS (count-in bytes) f;
-          inside = ltb-false (length bytes) (record-size (count-in bytes)) g;
-          is-size = refl;
-        }
+-- what is told of one that ends
+abbrev pub Whole : List ℕ → ℕ → Type 0
+Whole bytes size = Ends-in (length bytes) FRONT_BYTES (count-in bytes) (record-size (count-in bytes)) size
 
 -- a record that ends
 pub whole : (bytes : List ℕ) (size : ℕ) → record-reach bytes ≡ ends size → Whole bytes size
-unfolding Told
-whole bytes size e = subst (Told bytes) e (told bytes)
+unfolding record-reach
+whole bytes size e = ends-in (length bytes) FRONT_BYTES (count-in bytes) (record-size (count-in bytes)) size e
 
 -- one with too many words
 pub too-many : (bytes : List ℕ) → record-reach bytes ≡ wrong → (FRONT_BYTES ≤ length bytes) × (MOST_WORDS < count-in bytes)
-unfolding Told
-too-many bytes e = subst (Told bytes) e (told bytes)
+unfolding record-reach
+too-many bytes e = too-many-in (length bytes) FRONT_BYTES (count-in bytes) (record-size (count-in bytes)) e
 
 -- and back
 pub reaches : (bytes : List ℕ) → FRONT_BYTES ≤ length bytes → count-in bytes ≤ MOST_WORDS → record-size (count-in bytes) ≤ length bytes
     → record-reach bytes ≡ ends (record-size (count-in bytes))
 unfolding record-reach
-reaches bytes h f g =
-    rw (le-ltb (length bytes) FRONT_BYTES h, le-ltb MOST_WORDS (count-in bytes) f, le-ltb (length bytes) (record-size (count-in bytes)) g)
+reaches bytes h f g = reaches-in (length bytes) FRONT_BYTES (count-in bytes) (record-size (count-in bytes)) h f g
 
 -- ---- more bytes behind
 
@@ -156,61 +128,32 @@ module _ (held : List ℕ) (size : ℕ) (e : record-reach held ≡ ends size) wh
 
 -- ---- records one after the other
 
--- a whole record is not empty
-size-some : (bytes : List ℕ) (size : ℕ) → record-reach bytes ≡ ends size → FRONT_BYTES ≤ size
-size-some bytes size e = let w = whole bytes size e in omega (arith, w .is-size)
-
--- more than enough is enough
-fuel : (k j : ℕ) (bytes : List ℕ) → length bytes ≤ k → length bytes ≤ j → records-within k bytes ≡ records-within j bytes
-unfolding records-within first-record
-fuel zero zero bytes h g = refl
-fuel zero (suc j) [] h g = refl
-fuel zero (suc j) (b ∷ bytes) h g = absurd (omega arith)
-fuel (suc k) zero [] h g = refl
-fuel (suc k) zero (b ∷ bytes) h g = absurd (omega arith)
-fuel (suc k) (suc j) [] h g = refl
-fuel (suc k) (suc j) (b ∷ bytes) h g = go (record-reach (b ∷ bytes)) refl (λ rest m n. fuel k j rest m n)
-  where
-    go : (r : Reach) → record-reach (b ∷ bytes) ≡ r
-        → ((rest : List ℕ) → length rest ≤ k → length rest ≤ j → records-within k rest ≡ records-within j rest)
-        → first-record (b ∷ bytes) (records-within k) r ≡ first-record (b ∷ bytes) (records-within j) r
-    go (ends size) e more =
-        let s = size-some (b ∷ bytes) size e in
-        let l = length-drop size (b ∷ bytes) in
-        ap {B = List (Option Record)} (λ t. some (record-in (b ∷ bytes)) ∷ t) (more (drop size (b ∷ bytes)) (omega arith) (omega arith))
-    go cut-off e more = refl
-    go wrong e more = refl
+-- a whole record is not empty, and is there
+record-inside : (bytes : List ℕ) (size : ℕ) → record-reach bytes ≡ ends size → (1 ≤ size) × (size ≤ length bytes)
+record-inside bytes size e =
+    let w = whole bytes size e in
+    (omega (arith, w .is-size), omega (arith, w .is-size, w .inside))
 
 -- no bytes, no records
 pub records-none : records [] ≡ []
-unfolding records records-within
+unfolding records records-by records-within
 records-none = refl
-
--- the records of some bytes, by how far the first one reaches
-records-by : (b : ℕ) (bytes : List ℕ) (r : Reach) → record-reach (b ∷ bytes) ≡ r → records (b ∷ bytes) ≡ first-record (b ∷ bytes) (records-within (length bytes)) r
-unfolding records records-within
-records-by b bytes r e = rw e
 
 -- a record, and those after it
 pub records-first : (bytes : List ℕ) (size : ℕ) → record-reach bytes ≡ ends size → records bytes ≡ some (record-in bytes) ∷ records (drop size bytes)
-unfolding first-record records
-records-first [] size e = absurd (let w = whole [] size e in omega (arith, w .front))
-records-first (b ∷ bytes) size e =
-    let s = size-some (b ∷ bytes) size e in
-    let l = length-drop size (b ∷ bytes) in
-    records-by b bytes (ends size) e
-    ∙ ap {B = List (Option Record)} (λ t. some (record-in (b ∷ bytes)) ∷ t) (fuel (length bytes) (length (drop size (b ∷ bytes))) (drop size (b ∷ bytes)) (omega arith) (omega arith))
+unfolding records
+records-first bytes size e = by-first in-bytes record-inside bytes size e
 
 -- one with too many words, and no more
 pub records-wrong : (bytes : List ℕ) → record-reach bytes ≡ wrong → records bytes ≡ none ∷ []
-unfolding first-record
+unfolding records
 records-wrong [] e = absurd (let w = too-many [] e in omega (arith, w .0))
-records-wrong (b ∷ bytes) e = records-by b bytes wrong e
+records-wrong (b ∷ bytes) e = by-wrong in-bytes record-inside b bytes e
 
 -- one that is cut off, and no more
 pub records-cut : (b : ℕ) (bytes : List ℕ) → record-reach (b ∷ bytes) ≡ cut-off → records (b ∷ bytes) ≡ none ∷ []
-unfolding first-record
-records-cut b bytes e = records-by b bytes cut-off e
+unfolding records
+records-cut b bytes e = by-cut in-bytes record-inside b bytes e
 
 -- ---- the header
 

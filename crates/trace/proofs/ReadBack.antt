@@ -192,26 +192,26 @@ words-fit (Close i) h = rw h
 words-fit (Push room) h = refl
 
 -- what the words of a call say is that call
-said-back : (x : Call) → room-is ROOM x ≡ true → call-from ROOM (kind-of x) (words-of x) ≡ some x
+said-back : (room : ℕ) (x : Call) → room-is room x ≡ true → call-from room (kind-of x) (words-of x) ≡ some x
 unfolding call-from kind-of words-of if-so append-from subscribe-from flow-from ack-from seek-from redeliver-from close-from push-from
     kind-word target-words kind-from target-from room-is
-said-back (Append topic m) h = refl
-said-back (Subscribe i plain p) h = refl
-said-back (Subscribe i shared p) h = refl
-said-back (Flow i grant) h = refl
-said-back (Ack i list) h = rw (le-leb 1 (length (i ∷ list)) (omega arith))
-said-back (Seek i start) h = refl
-said-back (Seek i (to-id target)) h = refl
-said-back (Redeliver i list) h = rw (le-leb 1 (length (i ∷ list)) (omega arith))
-said-back (Close i) h = refl
-said-back (Push room) h = ap (λ (n : ℕ). some (Push n)) (sym (eqb-true room ROOM h))
+said-back room (Append topic m) h = refl
+said-back room (Subscribe i plain p) h = refl
+said-back room (Subscribe i shared p) h = refl
+said-back room (Flow i grant) h = refl
+said-back room (Ack i list) h = rw (le-leb 1 (length (i ∷ list)) (omega arith))
+said-back room (Seek i start) h = refl
+said-back room (Seek i (to-id target)) h = refl
+said-back room (Redeliver i list) h = rw (le-leb 1 (length (i ∷ list)) (omega arith))
+said-back room (Close i) h = refl
+said-back room (Push k) h = ap (λ (n : ℕ). some (Push n)) (sym (eqb-true k room h))
 
 -- and it fits
-call-back : (x : Call) → recordable ROOM x ≡ true → call-of ROOM (kind-of x) (words-of x) ≡ some x
+pub call-back : (room : ℕ) (x : Call) → recordable room x ≡ true → call-of room (kind-of x) (words-of x) ≡ some x
 unfolding call-of bind that-fits if-so recordable
-call-back x h =
-    let a = and-left (fits x && leb (length (words-of x)) MOST_WORDS) (room-is ROOM x) h in
-    rw (said-back x (and-right (fits x && leb (length (words-of x)) MOST_WORDS) (room-is ROOM x) h), and-left (fits x) _ a)
+call-back room x h =
+    let a = and-left (fits x && leb (length (words-of x)) MOST_WORDS) (room-is room x) h in
+    rw (said-back room x (and-right (fits x && leb (length (words-of x)) MOST_WORDS) (room-is room x) h), and-left (fits x) _ a)
 
 -- ---- traces
 
@@ -228,7 +228,7 @@ calls-back (x ∷ calls) h =
     let w = words-fit x (and-left (fits x) _ a) in
     calls-first (record-bytes r ++ more) _ (record-ends r more few)
     ∙ ap₂ (λ (o : Option Call) (l : List (Option Call)). o ∷ l)
-    (ap record-call (record-back r more few w) ∙ call-back x one)
+    (ap record-call (record-back r more few w) ∙ call-back ROOM x one)
     (ap calls-in (rest-back r more few) ∙ calls-back calls (and-right (recordable ROOM x) (all (recordable ROOM) calls) h))
 
 -- with none bad among them

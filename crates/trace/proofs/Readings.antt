@@ -8,7 +8,7 @@ use Rattle.rules.specs.Book.{records-of}
 use Rattle.rules.proofs.Computes.{computes as rules-compute}
 use Rattle.decimal.specs.Decimal.{digit, decimal-within, decimal, integer, decimal-from, decimal-read}
 use Rattle.trace.specs.Format.{number-from, number, number-bytes, header, record-reach, header-reach, words-in, record-in}
-use Rattle.trace.specs.Format.{first-record, records-within, records, words-bytes, record-bytes}
+use Rattle.trace.specs.Format.{first-record, records-within, records-by, records, words-bytes, record-bytes}
 use Rattle.trace.specs.Calls.{if-so, append-from, subscribe-from, flow-from, ack-from, seek-from, redeliver-from, close-from}
 use Rattle.trace.specs.Calls.{push-from, call-from, that-fits, call-of, kind-of, kind-word, target-words, words-of, record-of}
 use Rattle.trace.specs.Calls.{calls-bytes, trace-bytes, room-is, recordable}
@@ -21,7 +21,7 @@ unfoldable pub computes : ℕ
 unfolding rules-compute bind starts records-of
     digit decimal-within decimal integer decimal-from decimal-read
     number-from number number-bytes header record-reach header-reach words-in record-in
-    first-record records-within records words-bytes record-bytes
+    first-record records-within records-by records words-bytes record-bytes
     if-so append-from subscribe-from flow-from ack-from seek-from redeliver-from close-from
     push-from call-from that-fits call-of kind-of kind-word target-words words-of record-of
     calls-bytes trace-bytes room-is recordable

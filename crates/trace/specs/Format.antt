@@ -60,12 +60,17 @@ pub data Reach : Type 0 where
   cut-off : Reach
   wrong : Reach
 
--- how far the record at the front of some bytes reaches: wrong where its count is too large
+-- how far a record reaches in so many bytes or words: it has a front, whose count says how long it is in all, and is wrong where
+-- that count is too large
+abbrev pub reach-in : ℕ → ℕ → ℕ → ℕ → Reach
+reach-in long front count size =
+    cond (ltb long front) cut-off (cond (ltb MOST_WORDS count) wrong (cond (ltb long size) cut-off (ends size)))
+
+-- how far the record at the front of some bytes reaches
 unfoldable pub record-reach : List ℕ → Reach
 record-reach bytes =
     let n = number (take 2 (drop 1 bytes)) in
-    cond (ltb (length bytes) FRONT_BYTES) cut-off
-    (cond (ltb MOST_WORDS n) wrong (cond (ltb (length bytes) (record-size n)) cut-off (ends (record-size n))))
+    reach-in (length bytes) FRONT_BYTES n (record-size n)
 
 -- how far the header reaches: wrong where mark or version is
 unfoldable pub header-reach : List ℕ → Reach
@@ -82,21 +87,36 @@ unfoldable pub record-in : List ℕ → Record
 record-in bytes =
     record { kind = getD bytes 0 0; words = words-in (number (take 2 (drop 1 bytes))) (drop FRONT_BYTES bytes) }
 
--- the record at the front of some bytes and those that are read after it; nothing where it is cut off or wrong, and no more
-unfoldable pub first-record : List ℕ → (List ℕ → List (Option Record)) → Reach → List (Option Record)
-first-record bytes read (ends size) = some (record-in bytes) ∷ read (drop size bytes)
-first-record bytes read cut-off = none ∷ []
-first-record bytes read wrong = none ∷ []
+-- ---- records one after the other
 
--- at most k records, one after the other
-unfoldable pub records-within : ℕ → List ℕ → List (Option Record)
-records-within zero bytes = []
-records-within (suc k) [] = []
-records-within (suc k) (b ∷ bytes) = first-record (b ∷ bytes) (records-within k) (record-reach (b ∷ bytes))
+-- how records stand in bytes or words: how far the first one reaches, and which it is where it is whole
+pub record Form : Type 0 where
+  pub reach : List ℕ → Reach
+  pub first : List ℕ → Record
+
+-- the first record and those that are read after it; nothing where it is cut off or wrong, and no more
+unfoldable pub first-record : Form → List ℕ → (List ℕ → List (Option Record)) → Reach → List (Option Record)
+first-record form ws read (ends size) = some (form .first ws) ∷ read (drop size ws)
+first-record form ws read cut-off = none ∷ []
+first-record form ws read wrong = none ∷ []
+
+-- at most k records
+unfoldable pub records-within : Form → ℕ → List ℕ → List (Option Record)
+records-within form zero ws = []
+records-within form (suc k) [] = []
+records-within form (suc k) (w ∷ ws) = first-record form (w ∷ ws) (records-within form k) (form .reach (w ∷ ws))
+
+-- the records of a form
+unfoldable pub records-by : Form → List ℕ → List (Option Record)
+records-by form ws = records-within form (length ws) ws
+
+-- records as they stand in a trace
+abbrev pub in-bytes : Form
+in-bytes = record { reach = record-reach; first = record-in }
 
 -- the records of some bytes
 unfoldable pub records : List ℕ → List (Option Record)
-records bytes = records-within (length bytes) bytes
+records bytes = records-by in-bytes bytes
 
 -- ---- written
 

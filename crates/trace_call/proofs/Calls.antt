@@ -1,58 +1,32 @@
--- What a kind and its words come to: no call where a test or a width fails, else the call; and only a push changes the list.
-use Prim.Native.Nat.{ℕ, zero, suc, _-_}
+-- What is made of a kind and its words on the words of a store: nothing of no call, else the call; and only a push changes the
+-- list.
+use Prim.Native.Nat.{ℕ, _-_}
 use mathlib.Core.Path.{_≡_, refl, ap, _∙_}
-use mathlib.Core.Bool.{Bool, true, false}
+use mathlib.Core.Bool.{true, false}
 use mathlib.Core.List.{List}
-use mathlib.Core.Option.{Option, none, some, bind}
+use mathlib.Core.Option.{Option, none, some}
 use native.Mathlib.Omega.{arith}
-use lib.Dec.{eqb, leb}
+use lib.Dec.{eqb}
 use lib.ListN.{length, take, drop, length-drop}
 use lib.Seq.{take-all}
-use borrow.Author.Tests.{lt-leb, ne-eqb}
 use Rattle.rules.specs.Outcome.{Outcome}
 use Rattle.rules.specs.Outcome.Outcome.{refused, short, done}
 use Rattle.rules.specs.Push.{flat-records}
-use Rattle.rules.specs.Calls.{Call, fits, rule}
-use Rattle.rules.specs.Calls.Call.{Append, Subscribe, Flow, Ack, Seek, Redeliver, Close, Push}
+use Rattle.rules.specs.Calls.{Call, rule}
 use Rattle.rules.proofs.Answers.{Without-records, is-push, without-records}
 use Rattle.layout.specs.Layout.{decode, spells}
 use Rattle.layout.specs.Calls.{outcome, answer, after, with-records, list-after}
 use Rattle.layout.proofs.Calls.{outcome-is}
-use Rattle.trace.specs.Calls.{APPEND, SUBSCRIBE, FLOW, ACK, SEEK, REDELIVER, CLOSE, PUSH}
-use Rattle.trace.specs.Calls.{if-so, call-from, that-fits, call-of, kind-of}
-use Rattle.trace.proofs.Calls.{If-call, call-kind}
+use Rattle.trace.specs.Calls.{PUSH, call-of, kind-of}
+use Rattle.trace.proofs.Calls.{If-call, call-kind, push-kind}
 use Rattle.trace_call.specs.declared.Made.the-variants as variants
 use Rattle.trace_call.specs.Made.{made, words-made, list-made}
 
 -- ---- the words of a kind
 
--- a number that is neither 0 nor 1, as a subscribe's kind
-pub past-one : (n : ℕ) → (n ≡ 0 → ⊥) → (n ≡ 1 → ⊥) → leb n 1 ≡ false
-past-one zero h k = absurd (h refl)
-past-one (suc zero) h k = absurd (k refl)
-past-one (suc (suc n)) h k = lt-leb (suc (suc n)) 1 (omega arith)
-
 -- the words after the first, as a part of the slice
 pub rest-part : (ws : List ℕ) → take (length ws - 1) (drop 1 ws) ≡ drop 1 ws
 rest-part ws = let l = length-drop 1 ws in take-all (length ws - 1) (drop 1 ws) (omega arith)
-
--- ---- a call, or none
-
--- none: the words do not pass the test of their kind
-pub not-passed : {passed : Bool} (x : Call) → passed ≡ false → bind (if-so passed x) that-fits ≡ none
-unfolding bind if-so
-not-passed x e = rw e
-
--- none: an argument is too wide
-pub too-wide : (passed : Bool) (x : Call) → fits x ≡ false → bind (if-so passed x) that-fits ≡ none
-unfolding bind if-so that-fits
-too-wide true x e = rw e
-too-wide false x e = refl
-
--- a call
-pub is-call : {passed : Bool} {x : Call} → passed ≡ true → fits x ≡ true → bind (if-so passed x) that-fits ≡ some x
-unfolding bind if-so that-fits
-is-call e f = rw (e, f)
 
 -- ---- what is made
 
@@ -81,42 +55,7 @@ module _ (ws : List ℕ) {o : Option Call} where
     unfolding made words-made list-made
     list-is-made e h = rw e (ap variants.Answer (h .0), h .1)
 
--- ---- kinds
-
--- a kind that is none of the eight
-pub no-kind : (room kind : ℕ) (ws : List ℕ) → (kind ≡ APPEND → ⊥) → (kind ≡ SUBSCRIBE → ⊥) → (kind ≡ FLOW → ⊥) → (kind ≡ ACK → ⊥)
-    → (kind ≡ SEEK → ⊥) → (kind ≡ REDELIVER → ⊥) → (kind ≡ CLOSE → ⊥) → eqb kind PUSH ≡ false → call-of room kind ws ≡ none
-unfolding call-of call-from bind
-no-kind room kind ws append subscribe flow ack seek redeliver close push =
-    rw (
-      ne-eqb kind APPEND append,
-      ne-eqb kind SUBSCRIBE subscribe,
-      ne-eqb kind FLOW flow,
-      ne-eqb kind ACK ack,
-      ne-eqb kind SEEK seek,
-      ne-eqb kind REDELIVER redeliver,
-      ne-eqb kind CLOSE close,
-      push,
-    )
-
--- the room is a push's only
-pub any-room : (room kind : ℕ) (ws : List ℕ) → eqb kind PUSH ≡ false → call-of room kind ws ≡ call-of 0 kind ws
-unfolding call-of call-from
-any-room room kind ws e = rw e
-
 -- ---- only a push changes the list
-
--- a push is known by its kind
-push-kind : (x : Call) → is-push x ≡ eqb (kind-of x) PUSH
-unfolding is-push kind-of
-push-kind (Append topic m) = refl
-push-kind (Subscribe i kind p) = refl
-push-kind (Flow i grant) = refl
-push-kind (Ack i list) = refl
-push-kind (Seek i target) = refl
-push-kind (Redeliver i list) = refl
-push-kind (Close i) = refl
-push-kind (Push room) = refl
 
 -- what makes no records leaves the list
 none-listed : (list : List ℕ) (o : Outcome) → Without-records o → list ≡ list-after list o

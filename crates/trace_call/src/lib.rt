@@ -17,6 +17,8 @@ use trace_kind::ACK;
 use trace_kind::APPEND;
 use trace_kind::CLOSE;
 use trace_kind::FLOW;
+use trace_kind::MOST_8;
+use trace_kind::MOST_32;
 use trace_kind::PUSH;
 use trace_kind::REDELIVER;
 use trace_kind::SEEK;
@@ -37,11 +39,6 @@ pub enum Made {
     Answer(u64),
     NoCall,
 }
-
-// The largest numbers of a field of 8 and of 32 bits.
-const MOST_8: u64 = 255;
-
-const MOST_32: u64 = 4_294_967_295;
 
 // Makes the call of a kind and its words; a push fills the list.
 pub fn make_call(store: &mut [u64], kind: u64, words: &[u64], list: &mut [u64]) -> Made

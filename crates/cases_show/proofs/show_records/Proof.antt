@@ -11,10 +11,10 @@ use Rattle.cases_show.proofs.show_records.Lts as lts
 use Rattle.cases_show.proofs.show_record.Reads as show-record-reads
 
 abbrev Inv-loop : tie.InvT-loop
-Inv-loop list count at₀ left₀ at left = at ≤ length list
+Inv-loop list from count at₀ left₀ at left = at ≤ length list
 
 abbrev μ-loop : tie.MeasureT-loop
-μ-loop list count at₀ left₀ at left = left
+μ-loop list from count at₀ left₀ at left = left
 
 loop-holds : tie.Need-loop-holds Inv-loop μ-loop
 loop-holds c = search needs

@@ -2,8 +2,9 @@
 use borrow.Author.Needs.{needs}
 use borrow.Author.Tests.{eq-eqb, ne-eqb}
 use Rattle.trace.specs.Calls.{append-from}
-use Rattle.trace_call.proofs.Calls.{not-passed, too-wide, is-call, not-made, is-made}
-use Rattle.trace_call.proofs.Widths.{append-fits, append-wide}
+use Rattle.trace.proofs.Calls.{not-passed, too-wide, is-call}
+use Rattle.trace_call.proofs.Calls.{not-made, is-made}
+use Rattle.trace.proofs.Widths.{append-fits, append-wide}
 use Rattle.trace_call.proofs.make_append.Statement.{statement}
 use Rattle.trace_call.proofs.make_append.Tie as tie
 

@@ -5,7 +5,8 @@ use lib.Dec.{eqb}
 use borrow.Author.Needs.{needs}
 use borrow.Author.Tests.{ne-eqb}
 use Rattle.trace.specs.Calls.{PUSH, call-from, call-of}
-use Rattle.trace_call.proofs.Calls.{any-room, same-list}
+use Rattle.trace.proofs.Calls.{any-room}
+use Rattle.trace_call.proofs.Calls.{same-list}
 use Rattle.trace_call.proofs.make_call.Statement.{statement}
 use Rattle.trace_call.proofs.make_call.Tie as tie
 

@@ -4,7 +4,8 @@ use borrow.Author.Tests.{eq-eqb, ne-eqb}
 use Rattle.rules.specs.Calls.{fits}
 use Rattle.trace.specs.Calls.{close-from}
 use Rattle.layout.proofs.Slices.{word}
-use Rattle.trace_call.proofs.Calls.{not-passed, is-call, not-made, is-made}
+use Rattle.trace.proofs.Calls.{not-passed, is-call}
+use Rattle.trace_call.proofs.Calls.{not-made, is-made}
 use Rattle.trace_call.proofs.make_close.Statement.{statement}
 use Rattle.trace_call.proofs.make_close.Tie as tie
 

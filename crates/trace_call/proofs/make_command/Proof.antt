@@ -1,7 +1,8 @@
 -- `trace_call::make_command` meets its contract: each kind's function makes its call, and no other kind is one.
 use borrow.Author.Needs.{needs}
 use Rattle.trace.specs.Calls.{call-from, call-of}
-use Rattle.trace_call.proofs.Calls.{not-made, no-kind}
+use Rattle.trace.proofs.Calls.{no-kind}
+use Rattle.trace_call.proofs.Calls.{not-made}
 use Rattle.trace_call.proofs.make_command.Statement.{statement}
 use Rattle.trace_call.proofs.make_command.Tie as tie
 

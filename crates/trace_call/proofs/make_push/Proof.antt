@@ -6,7 +6,8 @@ use borrow.Author.Tests.{eq-eqb, ne-eqb}
 use Rattle.rules.specs.Calls.{fits}
 use Rattle.trace.specs.Calls.{push-from}
 use Rattle.layout.proofs.Slices.{word, few-records}
-use Rattle.trace_call.proofs.Calls.{not-passed, is-call, list-not-made, list-is-made}
+use Rattle.trace.proofs.Calls.{not-passed, is-call}
+use Rattle.trace_call.proofs.Calls.{list-not-made, list-is-made}
 use Rattle.trace_call.proofs.make_push.Statement.{statement}
 use Rattle.trace_call.proofs.make_push.Tie as tie
 

@@ -5,8 +5,9 @@ use borrow.Author.Tests.{ne-eqb}
 use Rattle.rules.specs.Calls.{target-from}
 use Rattle.seek.specs.Targets.{target-of}
 use Rattle.trace.specs.Calls.{seek-from}
-use Rattle.trace_call.proofs.Calls.{not-passed, is-call, not-made, is-made}
-use Rattle.trace_call.proofs.Widths.{start-fits, id-fits}
+use Rattle.trace.proofs.Calls.{not-passed, is-call}
+use Rattle.trace_call.proofs.Calls.{not-made, is-made}
+use Rattle.trace.proofs.Widths.{start-fits, id-fits}
 use Rattle.trace_call.proofs.make_seek.Statement.{statement}
 use Rattle.trace_call.proofs.make_seek.Tie as tie
 

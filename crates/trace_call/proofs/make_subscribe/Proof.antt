@@ -5,8 +5,9 @@ use borrow.Author.Tests.{ne-eqb}
 use Rattle.rules.specs.Calls.{kind-from}
 use Rattle.subscribe.specs.Commanded.{kind-of}
 use Rattle.trace.specs.Calls.{subscribe-from}
-use Rattle.trace_call.proofs.Calls.{not-passed, too-wide, is-call, not-made, is-made, past-one}
-use Rattle.trace_call.proofs.Widths.{subscribe-fits, topic-wide, subscription-wide}
+use Rattle.trace.proofs.Calls.{not-passed, too-wide, is-call, past-one}
+use Rattle.trace_call.proofs.Calls.{not-made, is-made}
+use Rattle.trace.proofs.Widths.{subscribe-fits, topic-wide, subscription-wide}
 use Rattle.trace_call.proofs.make_subscribe.Statement.{statement}
 use Rattle.trace_call.proofs.make_subscribe.Tie as tie
 

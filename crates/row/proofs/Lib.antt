@@ -1,0 +1,7 @@
+pub mod Readings
+pub mod Script
+pub mod Given
+pub mod ReadBack
+pub mod OneByOne
+pub mod Book
+pub mod Demand

@@ -1,0 +1,5 @@
+pub mod Script
+pub mod Row
+pub mod Readings
+pub mod Promises
+pub mod Demand

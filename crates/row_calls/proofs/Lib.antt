@@ -1,0 +1,4 @@
+pub mod Filled
+pub mod Going
+pub mod Parts
+pub mod Rows

@@ -1,0 +1,27 @@
+-- `row_demand::play_on` meets its contract: a row on words that a book tells of.
+use Rattle.row_demand.proofs.Played.{told-on, accounted-on}
+use borrow.Author.Needs.{needs}
+use Rattle.row_demand.proofs.play_on.Statement.{statement}
+use Rattle.row_demand.proofs.play_on.Tie as tie
+
+broker-calls-requires : tie.Need-broker-calls-requires
+broker-calls-requires c κs = search needs
+
+same-length : tie.Need-same-length
+same-length c = search needs
+
+same-length-2 : tie.Need-same-length-2
+same-length-2 c = search needs
+
+same-length-3 : tie.Need-same-length-3
+same-length-3 c = search needs
+
+returns : tie.Need-returns
+returns c =
+    let left = c .before .before .before .before .before .before .broker-calls .ensures in
+    let small = c .before .before .before .before .before .before .before .before .before .before .before .before .before .before .good .1 .1 .1 .0 .0 in
+    (left, (told-on left small, accounted-on left small))
+
+pub play-on-spec : {M : Type 1} → statement M
+play-on-spec =
+    tie.close (tie.spec broker-calls-requires same-length same-length-2 same-length-3 returns)
