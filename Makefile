@@ -1,9 +1,9 @@
 # The two commands: `make run` (the main job) and `make test` (the gate); `make faults` runs the library
 # for C at its limits and on damaged words alone, `make wire` holds its commands as bytes against protobuf,
-# `make trace` holds the trace player against the rules, `make examples` runs the library's callers, `make bench` times its
-# calls and the player, `make edits` reads what a gate run said of the must-fail edits, `make runs` is the gate without its
-# proofs, `make install` puts it in place.
-.PHONY: run test runs faults wire trace examples bench edits install
+# `make trace` holds the trace player against the rules, `make rows` rows of calls against the same calls one by one,
+# `make examples` runs the library's callers, `make bench` times its calls and the player, `make edits` reads what a gate
+# run said of the must-fail edits, `make runs` is the gate without its proofs, `make install` puts it in place.
+.PHONY: run test runs faults wire trace rows examples bench edits install
 
 LIBRARY = target/staticlib/libbroker.a
 
@@ -21,6 +21,9 @@ COMMANDS = 100000
 
 # Records of the random traces; `make trace RECORDS=100000` is the long run.
 RECORDS = 10000
+
+# Random rows of calls; `make rows ROWS=1000000` is the long run.
+ROWS = 100000
 
 WARNINGS = -Wall -Wextra -Wconversion -pedantic -Werror
 
@@ -58,11 +61,14 @@ diff examples/terminal.expected target/terminal.out
 gcc -std=c99 -O2 $(WARNINGS) -Iinclude examples/wire.c $(LIBRARY) -o target/wire_example
 target/wire_example >target/wire_example.out
 diff examples/wire.expected target/wire_example.out
+gcc -std=c99 -O2 $(WARNINGS) -Iinclude examples/row.c $(LIBRARY) -o target/row_example
+target/row_example >target/row_example.out
+diff examples/row.expected target/row_example.out
 gcc -std=c99 -O2 -ffreestanding $(WARNINGS) -Iinclude -c examples/firmware_loop.c -o target/firmware_loop.o
 rustc --edition 2024 -O examples/caller.rs -C link-arg=$(LIBRARY) -o target/caller
 target/caller >target/caller.out
 diff examples/caller.expected target/caller.out
-@echo "examples: terminal.c, wire.c and caller.rs print what is stored, firmware_loop.c compiles"
+@echo "examples: terminal.c, wire.c, row.c and caller.rs print what is stored, firmware_loop.c compiles"
 endef
 
 # Prove and build what there is, the library for C too, and run the case runner and the market morning.
@@ -88,7 +94,7 @@ test:
 runs:
 	rt staticlib broker
 	rt check player
-	LIBBROKER=$(LIBRARY) CALLS=$(CALLS) PLAYER=$(PLAYER) RECORDS=$(RECORDS) reference/check
+	LIBBROKER=$(LIBRARY) CALLS=$(CALLS) ROWS=$(ROWS) PLAYER=$(PLAYER) RECORDS=$(RECORDS) reference/check
 	$(run-faults)
 	$(run-wire)
 	$(run-recording)
@@ -112,13 +118,19 @@ trace:
 	LIBBROKER=$(LIBRARY) PLAYER=$(PLAYER) RECORDS=$(RECORDS) reference/trace
 	$(run-recording)
 
+# Rows of calls through broker_calls against the same calls one by one through the other exports.
+rows:
+	rt staticlib broker
+	LIBBROKER=$(LIBRARY) ROWS=$(ROWS) reference/rows
+
 # The library called as a maker would call it.
 examples:
 	rt staticlib broker
 	$(run-examples)
 
-# The time of every call beside a bare pass over the same words and beside broker.rs, of the trace player beside the same
-# calls through the library, and of the calls on bytes beside a plain decoder and encoder.
+# The time of every call beside a bare pass over the same words and beside broker.rs, of calls in rows beside both and a
+# plain counter, of the trace player beside the same calls through the library, and of the calls on bytes beside a plain
+# decoder and encoder.
 bench:
 	rt staticlib broker
 	rt check player

@@ -5,8 +5,8 @@
  * Every call but the last three takes the store as a pointer and its length in words; those three read and
  * write commands as bytes and take no store. Every call returns one number: value * 256 + number, where the
  * number is 0 when the call is done and else says why it was refused. A refused call has changed nothing of
- * what was lent. A refusal's value is 0, save that of BROKER_LIST_SHORT. The first refusal that applies, in
- * the order given at each call, is returned.
+ * what was lent. A refusal's value is 0, save those of BROKER_LIST_SHORT and BROKER_ANSWERS_SHORT. The first
+ * refusal that applies, in the order given at each call, is returned.
  *
  * Every call on a store but broker_open first checks that the words spell a state, and returns 1 if they do
  * not; it takes any words whatever. Words past BROKER_NEEDED(E) are never read or written.
@@ -15,9 +15,9 @@
  *
  * The caller's part:
  *  - A pointer is to as many words as the length says, aligned for uint64_t, or to as many bytes. With length 0
- *    it is never read or written through and may be NULL: an empty list, a store of no words, an empty input.
- *    One without a length is to as many words as it is declared with.
- *  - The slices of one call (the store, the list, bytes and words lent) do not overlap.
+ *    it is never read or written through and may be NULL: an empty list or script, no answers, a store of no
+ *    words, an empty input. One without a length is to as many words as it is declared with.
+ *  - The slices of one call (the store, the list, script and answers, bytes and words lent) do not overlap.
  *  - Nobody else writes a slice of a call during it, nor reads one that the call writes.
  * The library keeps nothing between calls: several stores may be used at once, each by one call at a time.
  */
@@ -59,7 +59,9 @@ extern "C" {
 #define BROKER_LIST_SHORT 15      /* more dispatches are due than the list holds; the value is how many */
 #define BROKER_NOT_WELL_FORMED 16 /* the bytes are no command, or what is lent or to be written is not fit */
 #define BROKER_OTHER_TYPE 17      /* a command of a type that this reader does not take */
-#define BROKER_NO_CALL 18         /* a record of a trace that is no call: the trace player prints it as bad */
+#define BROKER_NO_CALL 18         /* a record of a script or a trace is no call; the trace player prints bad */
+/* This library's own number, far from those of the customer's papers, which go from 1 on. */
+#define BROKER_ANSWERS_SHORT 64   /* a row has more calls than answers are lent; the value is how many */
 
 /* The limits. */
 #define BROKER_MAX_ENTRIES 4096
@@ -134,6 +136,85 @@ uint64_t broker_close(uint64_t *store, size_t n, uint64_t consumer);
  * behind the records written stay as they were. Refused by 1, 15. Value: the dispatches made; with 15 the
  * number due, for which the list needs that many records. */
 uint64_t broker_push(uint64_t *store, size_t n, uint64_t *list, size_t m);
+
+/* ---- A row of calls ----
+ *
+ * Every single call checks the whole store before it does anything; a row of calls checks it once. Whoever has
+ * several commands in hand, or a command and the push after it, makes them as one row.
+ *
+ * A script is records one after the other, up to its end: a word kind, a word count, at most
+ * BROKER_CALL_MOST_WORDS, and as many words. Kinds and words are those of a trace (broker_trace.h):
+ *
+ *   1  append     topic, ledger, entry, handle, batch
+ *   2  subscribe  consumer, kind, topic, subscription
+ *   3  flow       consumer, grant
+ *   4  ack        consumer, and the words of its list
+ *   5  seek       consumer, BROKER_START; or consumer, BROKER_ID, ledger, entry
+ *   6  redeliver  consumer, and the words of its list
+ *   7  close      consumer
+ *   8  push       no words
+ *
+ * A topic and a subscription are at most 255, a grant is at most 2^32 - 1, a subscribe's kind is BROKER_PLAIN or
+ * BROKER_SHARED. Every other word may be any number: it is the call that refuses a batch of 257 or a cut list.
+ */
+#define BROKER_CALL_KIND_APPEND 1
+#define BROKER_CALL_KIND_SUBSCRIBE 2
+#define BROKER_CALL_KIND_FLOW 3
+#define BROKER_CALL_KIND_ACK 4
+#define BROKER_CALL_KIND_SEEK 5
+#define BROKER_CALL_KIND_REDELIVER 6
+#define BROKER_CALL_KIND_CLOSE 7
+#define BROKER_CALL_KIND_PUSH 8
+
+#define BROKER_CALL_MOST_WORDS 1217 /* the most words after a count: a consumer and a list of 1,216 */
+
+/* The words that each call takes in a script, its kind and count among them. */
+#define BROKER_CALL_APPEND_WORDS 7
+#define BROKER_CALL_SUBSCRIBE_WORDS 6
+#define BROKER_CALL_FLOW_WORDS 4
+#define BROKER_CALL_ACK_WORDS(list_words) ((size_t)3 + (size_t)(list_words))
+#define BROKER_CALL_SEEK_START_WORDS 4
+#define BROKER_CALL_SEEK_ID_WORDS 6
+#define BROKER_CALL_REDELIVER_WORDS(list_words) ((size_t)3 + (size_t)(list_words))
+#define BROKER_CALL_CLOSE_WORDS 3
+#define BROKER_CALL_PUSH_WORDS 2
+
+/* The words of each call, for the initialiser of an array of uint64_t. The words of an ack's or a redeliver's
+ * list, as many as it is told, stand right behind it:
+ *
+ *     uint64_t script[] = {BROKER_CALL_ACK(7, 3), 1, 0, 0, BROKER_CALL_FLOW(7, 10), BROKER_CALL_PUSH};
+ */
+#define BROKER_CALL_APPEND(topic, ledger, entry, handle, batch) \
+    (uint64_t)BROKER_CALL_KIND_APPEND, (uint64_t)5, (uint64_t)(topic), (uint64_t)(ledger), (uint64_t)(entry), \
+    (uint64_t)(handle), (uint64_t)(batch)
+#define BROKER_CALL_SUBSCRIBE(consumer, kind, topic, subscription) \
+    (uint64_t)BROKER_CALL_KIND_SUBSCRIBE, (uint64_t)4, (uint64_t)(consumer), (uint64_t)(kind), (uint64_t)(topic), \
+    (uint64_t)(subscription)
+#define BROKER_CALL_FLOW(consumer, grant) \
+    (uint64_t)BROKER_CALL_KIND_FLOW, (uint64_t)2, (uint64_t)(consumer), (uint64_t)(grant)
+#define BROKER_CALL_ACK(consumer, list_words) \
+    (uint64_t)BROKER_CALL_KIND_ACK, (uint64_t)1 + (uint64_t)(list_words), (uint64_t)(consumer)
+#define BROKER_CALL_SEEK_START(consumer) \
+    (uint64_t)BROKER_CALL_KIND_SEEK, (uint64_t)2, (uint64_t)(consumer), (uint64_t)BROKER_START
+#define BROKER_CALL_SEEK_ID(consumer, ledger, entry) \
+    (uint64_t)BROKER_CALL_KIND_SEEK, (uint64_t)4, (uint64_t)(consumer), (uint64_t)BROKER_ID, (uint64_t)(ledger), \
+    (uint64_t)(entry)
+#define BROKER_CALL_REDELIVER(consumer, list_words) \
+    (uint64_t)BROKER_CALL_KIND_REDELIVER, (uint64_t)1 + (uint64_t)(list_words), (uint64_t)(consumer)
+#define BROKER_CALL_CLOSE(consumer) (uint64_t)BROKER_CALL_KIND_CLOSE, (uint64_t)1, (uint64_t)(consumer)
+#define BROKER_CALL_PUSH (uint64_t)BROKER_CALL_KIND_PUSH, (uint64_t)0
+
+/* Makes the calls of a script of s words in their order, each on the store as the one before has left it, and
+ * puts into the i-th of the a answers what the i-th call answers. A call that is refused has its own answer, has
+ * changed nothing, and the row goes on. A push is given what is left of the list of m words behind the records
+ * that the row has made so far; after one that is refused by 15 the next has that same rest. Words behind the
+ * last answer and behind the last record stay as they were. The four slices do not overlap.
+ * Refused by 1, 18 (a record is cut off, has a count over BROKER_CALL_MOST_WORDS, a kind that is none of the
+ * eight, too few or too many words for its kind, or a word that is not as above), 64 (more calls than answers;
+ * the value is how many calls there are). A refused row has made none of its calls and changed nothing.
+ * Value: the calls made, 0 for an empty script. */
+uint64_t broker_calls(uint64_t *store, size_t n, const uint64_t *script, size_t s, uint64_t *answers, size_t a,
+                      uint64_t *list, size_t m);
 
 /* ---- Commands as bytes ----
  *

@@ -17,8 +17,8 @@ mod sha256;
 
 const DEFAULT: &str = "../../shared/docs/src/crates/magnetar-differential/src/broker.rs";
 
-const OPERATIONS: [&str; 9] =
-    ["open", "append", "subscribe", "flow", "ack", "seek", "redeliver", "close", "push"];
+const EXPORTS: [&str; 10] =
+    ["open", "append", "subscribe", "flow", "ack", "seek", "redeliver", "close", "push", "calls"];
 
 fn main() {
     println!("cargo:rerun-if-changed=build.rs");
@@ -56,7 +56,8 @@ fn broker(root: &Path, out: &Path) {
 /// One cfg for each export found in the archive that LIBBROKER names.
 fn exports() {
     println!("cargo:rerun-if-env-changed=LIBBROKER");
-    for name in OPERATIONS {
+    println!("cargo:rustc-check-cfg=cfg(has_plain_flow)");
+    for name in EXPORTS {
         println!("cargo:rustc-check-cfg=cfg(has_broker_{name})");
     }
     let Ok(archive) = env::var("LIBBROKER") else { return };
@@ -70,11 +71,15 @@ fn exports() {
         .unwrap_or_else(|e| panic!("{tool}: {e}; set NM to a program that lists symbols"));
     let listing = String::from_utf8_lossy(&listing.stdout).into_owned();
     let mut found = false;
-    for name in OPERATIONS {
+    for name in EXPORTS {
         if defines(&listing, &format!("broker_{name}")) {
             println!("cargo:rustc-cfg=has_broker_{name}");
             found = true;
         }
+    }
+    // counter.c's, which `bench` puts into its copy of the archive.
+    if defines(&listing, "plain_flow") {
+        println!("cargo:rustc-cfg=has_plain_flow");
     }
     if found {
         println!("cargo:rustc-link-arg-bins={}", archive.display());

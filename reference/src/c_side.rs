@@ -38,6 +38,7 @@ export!(has_broker_seek seek broker_seek(u64, u64, u64, u64));
 export!(has_broker_redeliver redeliver broker_redeliver(u64, *const u64, usize));
 export!(has_broker_close close broker_close(u64));
 export!(has_broker_push push broker_push(*mut u64, usize));
+export!(has_broker_calls calls broker_calls(*const u64, usize, *mut u64, usize, *mut u64, usize));
 
 /// Which operations the archive exports.
 pub fn exported() -> Allowed {

@@ -1,8 +1,10 @@
 //! The case runner's input and the output that it has to give (crates/cases/stdin and stdout).
-//! The input is a script with headings; `push N` is a push with a list of N records, and
-//! `balance` asks for the balance check of each dispatcher. The answers are the model's, in document
-//! 01's order of records. Over the sequences of the fixed list broker.rs has to agree; bits come
-//! from broker.rs itself.
+//! The input is a script with headings; `push N` is a push with a list of N records, `row` makes a row
+//! of calls, and `balance` asks for the balance check of each dispatcher. The answers are the model's,
+//! in document 01's order of records. Over the sequences of the fixed list broker.rs has to agree; bits
+//! come from broker.rs itself.
+
+mod rows;
 
 use crate::broker::driver::{Reference, and_fresh, fresh};
 use crate::call::{Call, Group, Outcome, Side, Target};
@@ -86,7 +88,9 @@ fn listed(calls: &[Call]) -> String {
 
 /// The runner's input.
 pub fn script() -> Result<String, String> {
-    let mut text = run_readings();
+    let mut text = rows::before_open();
+    text += &run_readings();
+    text += &rows::script()?;
     text += &balance_readings();
     for (name, script) in OUTSIDE {
         text += &format!("# {name}\n{}balance\n", listed(&calls(script)?));
@@ -129,6 +133,9 @@ fn balances(model: &Model) -> String {
 fn answer(model: &mut Model, line: &str) -> Result<(Option<Call>, Outcome, String), String> {
     if line == "balance" {
         return Ok((None, Outcome::done(0), balances(model)));
+    }
+    if let Some(words) = line.strip_prefix("row ") {
+        return Ok((None, Outcome::done(0), rows::answer(model, words)?));
     }
     if let Some(room) = line.strip_prefix("push ") {
         let room = room.parse().map_err(|_| format!("expected a number of records: '{line}'"))?;

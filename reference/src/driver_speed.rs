@@ -8,7 +8,7 @@ use std::time::Instant;
 use super::super::*;
 use super::{Reference, frame_of};
 use crate::call::{Call, Outcome, Side};
-use crate::standins::magnetar_proto::Sent;
+use crate::standins::magnetar_proto::{Frame, Sent};
 
 /// A state of broker.rs.
 pub struct Kept(SessionState);
@@ -65,5 +65,26 @@ impl Reference {
         self.frame(&frame);
         let time = start.elapsed().as_nanos() as f64;
         (time, self.answer(call))
+    }
+    /// The nanoseconds of some calls one after the other on a kept state. Topics that are appended to
+    /// have to have entries there.
+    pub fn timed_row(&mut self, kept: &Kept, calls: &[Call]) -> f64 {
+        *self.state.lock() = copy(&kept.0);
+        self.forget();
+        let frames: Vec<Option<Frame>> = calls.iter().map(frame_of).collect();
+        let start = Instant::now();
+        for frame in &frames {
+            match frame {
+                Some(frame) => self.frame(frame),
+                None => push_pending(&self.state, &mut self.out, None, &self.deps),
+            }
+        }
+        start.elapsed().as_nanos() as f64
+    }
+
+    /// The answers to some calls one after the other on a kept state.
+    pub fn answers(&mut self, kept: &Kept, calls: &[Call]) -> Vec<u64> {
+        *self.state.lock() = copy(&kept.0);
+        calls.iter().map(|call| self.call(call).answer()).collect()
     }
 }

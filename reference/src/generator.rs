@@ -88,7 +88,7 @@ fn profile(rng: &mut Rng) -> Profile {
     }
 }
 
-fn entries(rng: &mut Rng) -> u64 {
+pub fn entries(rng: &mut Rng) -> u64 {
     match rng.below(100) {
         0..5 => 1,
         5..10 => 2,

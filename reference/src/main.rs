@@ -12,11 +12,13 @@ mod limits;
 mod model;
 mod play;
 mod rng;
+mod rows;
 mod script;
 #[cfg(test)]
 mod sha256;
 mod shrink;
 mod speed;
+mod speed_rows;
 // Fields that broker.rs fills and nothing here reads.
 #[allow(dead_code)]
 mod standins;
@@ -46,6 +48,7 @@ const USAGE: &str = "usage:
   reference vectors                      print the fixed list
   reference bench                        time the library's calls beside broker.rs's
   reference cases [--answers]            print the case runner's input, or its output
+  reference rows [--seed S] [--rows N]   the same calls in rows and one by one, on the C exports
   reference trace --player PATH [--records N] [--seed S]
                                          the same traces to the trace player and to the model
   reference trace --example              write document 02's example trace
@@ -227,7 +230,11 @@ fn main() {
             print!("{}", cases::answers().unwrap_or_else(|e| refuse(&e)))
         }
         ("vectors", []) => print!("{}", vectors::text()),
-        ("bench", []) => speed::bench(),
+        ("bench", []) => {
+            speed::bench();
+            speed_rows::bench();
+        }
+        ("rows", _) => rows::command(rest, USAGE),
         ("trace", [example]) if example == "--example" => trace::write_example(),
         ("trace", _) => trace::command(rest, USAGE),
         ("trace-bench", _) => trace::speed::bench(rest, USAGE),

@@ -16,11 +16,11 @@ use crate::call::{Call, Group, Kind, Side, Target, list};
 use crate::model::Model;
 use crate::words;
 
-const SIZES: [u64; 3] = [32, 256, 4096];
-const TOPICS: u8 = 8;
-const SUBSCRIPTION: u8 = 1;
+pub const SIZES: [u64; 3] = [32, 256, 4096];
+pub const TOPICS: u8 = 8;
+pub const SUBSCRIPTION: u8 = 1;
 /// A batch of the widest size, so that a mark with bits has four words.
-const BATCH: u64 = 256;
+pub const BATCH: u64 = 256;
 /// What an ack in part leaves of any batch: all but its first message.
 const PART: [u64; 4] = [u64::MAX - 1, u64::MAX, u64::MAX, u64::MAX];
 const RECORD: usize = 13;
@@ -32,44 +32,44 @@ const DISPATCH_GOAL: f64 = 20.0;
 const FASTER_FROM: u64 = 32;
 
 /// So often all is timed, one after the other, so that a busy second does not spoil a figure.
-const SWEEPS: usize = 8;
+pub const SWEEPS: usize = 8;
 
 /// The rounds of a sweep at a size.
-fn rounds(entries: u64) -> usize {
+pub fn rounds(entries: u64) -> usize {
     if entries < 1000 { 40 } else { 8 }
 }
 
 /// The same state on both sides.
-struct World {
-    model: Model,
+pub struct World {
+    pub model: Model,
     rust: Reference,
 }
 
 impl World {
-    fn open(entries: u64) -> Self {
+    pub fn open(entries: u64) -> Self {
         let mut world = World { model: Model::new(), rust: Reference::new() };
         world.call(Call::Open { entries, leak: 0, noop: 0 });
         world
     }
 
-    fn call(&mut self, call: Call) {
+    pub fn call(&mut self, call: Call) {
         let (ours, theirs) = (self.model.call(&call), self.rust.call(&call));
         assert_eq!((ours.number, ours.value), (0, theirs.value), "{call:?}");
     }
 
-    fn append(&mut self, topic: u8, count: u64, batch: u64) {
+    pub fn append(&mut self, topic: u8, count: u64, batch: u64) {
         for entry in 0..count {
             self.call(Call::Append { topic, ledger: 1, entry, handle: 500 + entry, batch });
         }
     }
 
-    fn subscribe(&mut self, consumer: u64, topic: u8) {
+    pub fn subscribe(&mut self, consumer: u64, topic: u8) {
         let (kind, subscription) = (Kind::Shared, SUBSCRIPTION);
         self.call(Call::Subscribe { consumer, kind, topic, subscription });
     }
 
     /// Grants for `count` dispatches of one cost, shared out by turns from the first in the ring.
-    fn flow(&mut self, ring: &[u64], count: u64, cost: u64) {
+    pub fn flow(&mut self, ring: &[u64], count: u64, cost: u64) {
         for (i, consumer) in (0..).zip(ring) {
             let turns = (count + ring.len() as u64 - 1 - i) / ring.len() as u64;
             if turns > 0 {
@@ -79,7 +79,7 @@ impl World {
     }
 
     /// The first of a dispatcher's ring acknowledges.
-    fn ack(&mut self, dispatcher: usize, groups: Vec<Group>) {
+    pub fn ack(&mut self, dispatcher: usize, groups: Vec<Group>) {
         let consumer = self.model.dispatchers[dispatcher].attached[0];
         for some in groups.chunks(64) {
             self.call(Call::Ack { consumer, groups: some.to_vec() });
@@ -87,7 +87,7 @@ impl World {
     }
 
     /// Every position held in a dispatcher that `wanted` takes goes to the queue.
-    fn redeliver(&mut self, dispatcher: usize, wanted: impl Fn(usize) -> bool) {
+    pub fn redeliver(&mut self, dispatcher: usize, wanted: impl Fn(usize) -> bool) {
         let held = self.model.dispatchers[dispatcher].in_flight.clone();
         for consumer in self.model.dispatchers[dispatcher].attached.clone() {
             let its = held.iter().filter(|(holder, p)| *holder == consumer && wanted(*p));
@@ -105,12 +105,12 @@ impl World {
     }
 }
 
-fn group(ledger: u64, entry: u64, words: &[u64]) -> Group {
+pub fn group(ledger: u64, entry: u64, words: &[u64]) -> Group {
     Group { ledger, entry, words: words.to_vec() }
 }
 
 /// The first `count` messages of a topic, each acknowledged in part.
-fn in_part(count: u64) -> Vec<Group> {
+pub fn in_part(count: u64) -> Vec<Group> {
     (0..count).map(|k| group(1, k, &PART)).collect()
 }
 
@@ -163,7 +163,7 @@ fn fill(
     world
 }
 
-fn filled(entries: u64, count: u64, consumers: u64, outside: u64) -> World {
+pub fn filled(entries: u64, count: u64, consumers: u64, outside: u64) -> World {
     fill(entries, count, consumers, outside, |_, _| ())
 }
 
@@ -252,16 +252,16 @@ pub fn perform(store: &mut [u64], call: &Call, lent: &mut [u64]) -> u64 {
 }
 
 /// A kept state on both sides, and the store that calls are made on.
-struct Bench {
-    words: Vec<u64>,
-    store: Vec<u64>,
-    list: Vec<u64>,
-    rust: Reference,
-    kept: Kept,
+pub struct Bench {
+    pub words: Vec<u64>,
+    pub store: Vec<u64>,
+    pub list: Vec<u64>,
+    pub rust: Reference,
+    pub kept: Kept,
 }
 
 impl Bench {
-    fn new(world: World) -> Self {
+    pub fn new(world: World) -> Self {
         let words = world.words();
         let kept = world.rust.keep();
         let room = RECORD * 8 * world.model.entries as usize;

@@ -16,6 +16,7 @@
 #define NOBODY UINT64_C(0x7e5707e5707e5707)
 #define TOP UINT64_MAX
 #define POWER(n) (UINT64_C(1) << (n))
+#define LENGTH(table) (sizeof(table) / sizeof *(table))
 /* Permits are stored as the number plus this. */
 #define EXCESS POWER(62)
 
@@ -129,6 +130,43 @@ extern unsigned long formed_lists, cut_lists;
 
 void list_lengths(void);
 void push_lists(void);
+
+/* ---- rows.c: rows of calls ---- */
+
+extern unsigned long rows_done, row_calls, rows_1, rows_18, rows_64;
+/* What a row is lent beside the store; `sent` is its list. */
+extern struct slice script, answers, sent;
+/* An answer in one word. */
+#define ANSWER(number, value) ((uint64_t)(value) * 256 + (number))
+#define MOST_SCRIPT ((size_t)70000)
+#define MOST_ANSWERS ((size_t)600)
+#define MOST_SENT ((size_t)16 * BROKER_RECORD_WORDS)
+
+/* A store opened for E entries per topic, no script yet, answers and list for any row of these tests. */
+void fresh(uint64_t entries);
+/* More words of the script; a record of a kind and a count with n words behind them. */
+void put_words(const uint64_t *words, size_t n);
+void put_record(uint64_t kind, uint64_t count, const uint64_t *words, size_t n);
+/* Makes the row in hand, which has to have this answer, and looks at all that was lent. */
+void row(unsigned number, size_t value);
+void check_row(int holds, const char *what);
+/* The same on the store that was kept. */
+void row_again(unsigned number, size_t value);
+/* The same, done with so many calls or else refused by 18. */
+void row_if(int is_row, size_t made);
+
+/* ---- row_records.c ---- */
+
+/* Records of every kind and count, each number at its limit and one past it. */
+void row_records(void);
+
+/* ---- row_scripts.c ---- */
+
+/* Scripts cut at every word, answers and lists of every length, refusals. */
+void row_scripts(void);
+void row_short_stores(void);
+void row_damaged_words(void);
+void null_rows(void);
 
 /* ---- nulls.c ---- */
 

@@ -9,6 +9,7 @@
  *  - words before and behind what was lent are never changed.
  *
  * Commands as bytes have no store: 16 and 17 are request A2's, and what is lent is looked at in the same way.
+ * Rows of calls are held against the same calls one by one; 18 and 64 are broker.h's.
  *
  *     faults [CALLS [SEED]]     CALLS random calls in the last part, 100,000 if not given
  *
@@ -93,6 +94,20 @@ int main(int argc, char **argv)
     outside_order();
     ended("ids out of order, or one of them twice");
 
+    begin("rows");
+    row_records();
+    row_scripts();
+    row_short_stores();
+    snprintf(text, sizeof text, "%lu rows done, %lu calls as one by one; %lu refused by 1, %lu by 18, %lu by 64",
+             rows_done, row_calls, rows_1, rows_18, rows_64);
+    ended(text);
+
+    begin("rows, damaged words");
+    row_damaged_words();
+    snprintf(text, sizeof text, "each word in turn: %lu damaged stores, %lu refused by 1, %lu other states",
+             damaged, unspelt, damaged - unspelt);
+    ended(text);
+
     begin("commands as bytes");
     wire_limits();
     ended("each number at its limit and one past it");
@@ -109,6 +124,6 @@ int main(int argc, char **argv)
              unspelt, damaged - unspelt);
     ended(text);
     counts();
-    printf("faults: %lu calls, all as document 01 and request A2 have them\n", calls);
+    printf("faults: %lu calls, all as document 01, request A2 and broker.h have them\n", calls);
     return 0;
 }

@@ -1,5 +1,6 @@
 /*
- * NULL with length 0, for the store and for every list: an empty slice, and nothing is read through it.
+ * NULL with length 0, for the store, for every list and for each slice of a row: an empty slice, and nothing is
+ * read through it.
  */
 #include "faults.h"
 
@@ -66,5 +67,6 @@ void null_slices(void)
     null_if_empty = 1;
     null_stores();
     null_lists();
+    null_rows();
     null_if_empty = 0;
 }

@@ -23,15 +23,20 @@ pub fn headed(kind: u8, count: u16) -> Vec<u8> {
     vec![kind, high, low]
 }
 
-/// The record of a call. An open has none: a trace starts with the store opened.
-pub fn written(call: &Call) -> Vec<u8> {
+/// The kind and the words of a call's record. An open has none: a trace starts with the store opened.
+pub fn parts(call: &Call) -> (u8, Vec<u64>) {
     let kind = call.operation() as u8;
     match call {
         Call::Open { .. } => panic!("a trace has no open"),
         // The words of the C export have an id beside the start too.
-        Call::Seek { consumer, target: Target::Start } => record(kind, &[*consumer, 0]),
-        _ => record(kind, &call.words()),
+        Call::Seek { consumer, target: Target::Start } => (kind, vec![*consumer, 0]),
+        _ => (kind, call.words()),
     }
+}
+
+pub fn written(call: &Call) -> Vec<u8> {
+    let (kind, words) = parts(call);
+    record(kind, &words)
 }
 
 /// The header and the records of the calls.
@@ -102,7 +107,7 @@ pub fn stated(bytes: &[u8]) -> usize {
 }
 
 /// What the words of a kind ask for, unless they fit no kind or one is too wide for its field.
-fn step(kind: u8, words: &[u64]) -> Option<Step> {
+pub fn step(kind: u8, words: &[u64]) -> Option<Step> {
     let call = match (kind, words) {
         (1, [topic, ledger, entry, handle, batch]) => Call::Append {
             topic: u8::try_from(*topic).ok()?,

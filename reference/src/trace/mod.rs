@@ -3,11 +3,11 @@
 //! same for the same bytes.
 
 mod blocks;
-mod bytes;
+pub mod bytes;
 mod limits;
 mod on_model;
 mod program;
-mod random;
+pub mod random;
 pub mod speed;
 
 use std::io::Write;

@@ -188,7 +188,7 @@ impl Drawn<'_> {
 }
 
 /// Words that are no list of groups, or of too many or too long ones.
-fn odd_words(rng: &mut Rng) -> Vec<u64> {
+pub fn odd_words(rng: &mut Rng) -> Vec<u64> {
     let group = |entry, n: usize| Group { ledger: 1, entry, words: vec![2; n] };
     match rng.below(5) {
         0 => (0..=rng.below(40)).map(|_| rng.next()).collect(),
