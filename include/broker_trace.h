@@ -2,9 +2,10 @@
  * Records calls of the dispatch part as bytes, so that they can be played again on another machine: one function for
  * the header of a trace, and one for each of the eight calls of broker.h that an open store is for; the calls of a
  * row are recorded one by one. It takes the caller's buffer and its room in bytes, then what that call takes after
- * the store, in the same order and of the same types; push's list is left out. It puts its bytes at the start of the buffer and answers how many they are; the caller sends them on or
- * keeps them. Where the room is too small it answers 0 and writes nothing. Nothing else is read or written, and
- * nothing is kept; nothing is needed of a C library or of libbroker.a.
+ * the store, in the same order and of the same types; push's list is left out. It puts its bytes at the start of the
+ * buffer and answers how many they are; the caller sends them on or keeps them. Where the room is too small it answers
+ * 0 and writes nothing. Nothing else is read or written, and nothing is kept; nothing is needed of a C library or of
+ * libbroker.a.
  *
  *     static uint8_t bytes[BROKER_TRACE_MOST_BYTES];
  *     keep(bytes, broker_trace_header(bytes, sizeof bytes));                   once, right after broker_open

@@ -8,7 +8,7 @@ ghost use mathlib.Core.Path.{_≡_};
 ghost use mathlib.Core.Bool.{cond};
 ghost use Prim.Native.Nat.{_<_, min};
 ghost use lib.Dec.{ltb};
-ghost use lib.ListN.{length, replicate};
+ghost use lib.ListN.{length, getD, replicate};
 ghost use Rattle.io.specs.Counts.{Counts};
 ghost use Rattle.cases_line.specs.Line.{with-digit, with-byte, numbers};
 ghost use Rattle.cases_line.specs.Words.{first-words};
@@ -95,4 +95,14 @@ fn with_digit(word: u64, d: u64) -> u64
         return 18446744073709551615;
     }
     word * 10 + d
+}
+
+// The word at a place of a slice, or 0 past its end.
+pub fn word_or_zero(words: &[u64], i: usize) -> u64
+    ensures { λ r. ⌜ r ≡ getD (now (words .entry)) i 0 ⌝ }
+{
+    if i < words.len() {
+        return words[i];
+    }
+    0
 }

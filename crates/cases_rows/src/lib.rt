@@ -3,16 +3,21 @@
 // printed as the call alone would be, with the records of a push under it.
 use broker::rows::broker_calls;
 use cases_line::name;
+use cases_line::word_or_zero;
 use cases_show::show_outcome;
 use cases_show::show_records;
 use libc::STDOUT_FILENO;
+ghost use mathlib.Core.Path.{_≡_};
 ghost use Prim.Native.Nat.{_≤_};
-ghost use lib.ListN.{length};
+ghost use lib.ListN.{length, take, replicate};
+ghost use Rattle.row.specs.Row.{words-left};
+ghost use Rattle.cases_rows.specs.Line.{at-most-64, row-line-after};
 
 // Makes the row of a line of `n` words and prints what it gave; 255 without the two numbers.
 pub fn replay_row(store: &mut [u64], words: &[u64], n: usize)
     requires { ⌜ 8 ≤ length (now words) ⌝ }
     requires { ⌜ n ≤ length (now words) ⌝ }
+    ensures { λ _. ⌜ now (store .exit) ≡ row-line-after (now (store .entry)) (now (words .entry)) n ⌝ }
 {
     if n < 3 {
         show_outcome(name::ROW, 255);
@@ -28,7 +33,7 @@ pub fn replay_row(store: &mut [u64], words: &[u64], n: usize)
 
 // A number, or 64 where it is larger.
 fn at_most_64(number: u64) -> usize
-    ensures { λ r. ⌜ r ≤ 64 ⌝ }
+    ensures { λ r. ⌜ (r ≡ at-most-64 number) × (r ≤ 64) ⌝ }
 {
     if number > 64 {
         return 64;
@@ -39,6 +44,7 @@ fn at_most_64(number: u64) -> usize
 // Makes the row of a script with `a` words for answers and `room` words of a list.
 fn replay_script(store: &mut [u64], script: &[u64], a: usize, room: usize)
     requires { ⌜ (a ≤ 64) × (room ≤ 832) ⌝ }
+    ensures { λ _. ⌜ now (store .exit) ≡ words-left (now (store .entry)) (now (script .entry)) (replicate a 0) (replicate room 0) ⌝ }
 {
     let mut answers = [0u64; 64];
     let mut list = [0u64; 832];
@@ -59,6 +65,8 @@ fn row_into(
     room: usize,
 ) -> u64
     requires { ⌜ (a ≤ length (now answers)) × (room ≤ length (now list)) ⌝ }
+    ensures { λ _. ⌜ now (store .exit) ≡ words-left (now (store .entry)) (now (script .entry)) (take a (now (answers .entry)))
+        (take room (now (list .entry))) ⌝ }
 {
     broker_calls(store, script, &mut answers[..a], &mut list[..room])
 }
@@ -114,14 +122,6 @@ fn next_record(script: &[u64], at: usize) -> usize
         return script.len();
     }
     at + 2 + count as usize
-}
-
-// The word at a place of a slice, or 0 past its end.
-fn word_or_zero(words: &[u64], at: usize) -> u64 {
-    if at < words.len() {
-        return words[at];
-    }
-    0
 }
 
 // The name of a call of a kind, as kinds are numbered in a script; 0 for any other number.

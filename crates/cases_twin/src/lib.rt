@@ -1,26 +1,17 @@
 // A push into records beside the flat push: the same answer, the same words left in the store and in the
 // flat list, and the same dispatches.
+use cases_line::word_or_zero;
 use push_records::listed::Listed;
 use push_records::listed::push_listed;
 use record::Dispatch;
 use record::write_record;
 ghost use mathlib.Core.Path.{_≡_};
 ghost use Prim.Native.Nat.{_≤_};
-ghost use lib.ListN.{length, getD};
+ghost use lib.ListN.{length};
 ghost use Rattle.layout.specs.Calls.{outcome, answer, after};
 ghost use Rattle.push_records.specs.Listed.{listed};
 ghost use Rattle.cases_line.specs.Words.{same-words, first-words};
 ghost use Rattle.cases_twin.specs.Twin.{written-back, told, pushed, lent-after, no-dispatches, as-flat};
-
-// The word at a place of a slice, or 0 past its end.
-fn word_or_zero(words: &[u64], i: usize) -> u64
-    ensures { λ r. ⌜ r ≡ getD (now (words .entry)) i 0 ⌝ }
-{
-    if i < words.len() {
-        return words[i];
-    }
-    0
-}
 
 // Copies words to the whole of another slice, 0 past their end.
 pub fn copy_words(from: &[u64], to: &mut [u64])

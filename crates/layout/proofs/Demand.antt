@@ -1,6 +1,6 @@
 -- Demand 3 over words, from demand 3 over states: a call on words is the rule on the state that they spell, and what the
 -- book is told by the answer and the lent list is what the outcome tells it.
-use Prim.Native.Nat.{ℕ, _^_, _≤_, _<_}
+use Prim.Native.Nat.{ℕ, _^_, _<_}
 use mathlib.Core.Path.{_≡_, refl, sym, ap, ap₂, _∙_, subst}
 use mathlib.Core.Bool.{Bool, true, false, cond, not, _&&_}
 use mathlib.Core.List.{List, [], _∷_, _++_, map}
@@ -16,7 +16,7 @@ use Rattle.rules.specs.Outcome.Value.{dispatches}
 use Rattle.rules.specs.Push.{push, push-pending, flat-records, records-read}
 use Rattle.rules.specs.Calls.{Call, opened, rule, fits, answer-word, number-in, value-in}
 use Rattle.rules.specs.Calls.Call.{Append, Subscribe, Flow, Ack, Seek, Redeliver, Close, Push}
-use Rattle.rules.specs.Book.{Book, Told, empty-book, enter-done, records-of, told, enter}
+use Rattle.rules.specs.Book.{Book, empty-book, enter-done, records-of, told, enter}
 use Rattle.rules.specs.Book.Told.{told-refused, told-done}
 use Rattle.rules.specs.Valid.{Valid}
 use Rattle.rules.specs.Demand as rules
@@ -26,8 +26,8 @@ use Rattle.rules.proofs.Kept.{records-ranged, settings-kept}
 use Rattle.rules.proofs.Answers.{Numbered, numbered, number-done, value-made, records-back}
 use Rattle.rules.proofs.Demand.{demand-3}
 use Rattle.layout.specs.Layout.{decode, spells}
-use Rattle.layout.specs.Calls.{outcome, answer, after, made-words, with-records, list-after, open-after}
-use Rattle.layout.specs.Demand.{Lent, can-be-given, told-by, Words-reached, at-opening, after-call, after-calls, replaces, never-replaces, Words-accounted, Demand-3-words}
+use Rattle.layout.specs.Calls.{answer, made-words, with-records, list-after}
+use Rattle.layout.specs.Demand.{Lent, can-be-given, told-by, Words-reached, at-opening, after-call, after-calls, replaces, never-replaces, Demand-3-words}
 use Rattle.layout.proofs.Store.{spells-valid}
 use Rattle.layout.proofs.Calls.{outcome-is, decode-after, spells-after, open-decode, open-spells}
 use Rattle.layout.proofs.FewDue.{few-due}
@@ -81,10 +81,8 @@ told-front b s (Push room) behind v =
 
 -- the list after a call has its records in front
 pub records-in-front : (list : List ℕ) (o : Outcome) → list-after list o ≡ made-words o ++ drop (length (made-words o)) list
-unfolding list-after made-words with-records
-records-in-front list (refused n) = refl
-records-in-front list (short n) = refl
-records-in-front list (done v t) = refl
+unfolding list-after with-records
+records-in-front list o = refl
 
 -- so it tells the book
 told-same : (b : Book) (s : State) (x : Call) (list : List ℕ) → Valid s

@@ -46,9 +46,7 @@ made-words (done v s) = flat-records (records-of v)
 
 -- push's lent list after an outcome
 unfoldable pub list-after : List ℕ → Outcome → List ℕ
-list-after list (refused n) = list
-list-after list (short n) = list
-list-after list (done v s) = with-records list (flat-records (records-of v))
+list-after list o = with-records list (made-words o)
 
 -- ---- opening
 

@@ -1,22 +1,20 @@
 -- What a push answers, and what it leaves in store and list: by whether the list has room for the records.
-use mathlib.Core.Path.{_≡_, refl, sym, ap, ap₂, _∙_}
-use mathlib.Core.Bool.{Bool, true, false, cond}
+use mathlib.Core.Path.{_≡_, refl, sym, ap, _∙_}
+use mathlib.Core.Bool.{true, cond}
 use mathlib.Core.List.{List}
-use Prim.Native.Nat.{ℕ, _+_, _*_, _/_, _%_, _^_, _≤_, _<_}
+use Prim.Native.Nat.{ℕ, _+_, _*_, _%_, _^_, _≤_, _<_}
 use native.Mathlib.Omega.{arith}
 use lib.Dec.{leb}
 use lib.ListN.{length}
 use borrow.Author.Tests.{le-leb, lt-leb}
-use Rattle.rules.specs.State.{State}
-use Rattle.rules.specs.Outcome.{Dispatch, Outcome}
 use Rattle.rules.specs.Outcome.Outcome.{short, done}
 use Rattle.rules.specs.Outcome.Value.{dispatches}
-use Rattle.rules.specs.Push.{Pushed, push-pending, push, flat-records}
+use Rattle.rules.specs.Push.{Pushed, push}
 use Rattle.rules.specs.Book.{records-of}
 use Rattle.rules.specs.Calls.{rule, value-number, answer-word}
 use Rattle.rules.specs.Calls.Call.{Push}
 use Rattle.layout.specs.Layout.{decode, put, spells}
-use Rattle.layout.specs.Calls.{outcome, words-after, answer, after, with-records, list-after}
+use Rattle.layout.specs.Calls.{outcome, words-after, answer, after, with-records, made-words, list-after}
 use Rattle.operation_laws.proofs.Frame.{valid-now}
 use Rattle.push_laws.specs.Whole.{local-push}
 use Rattle.push_laws.proofs.Whole.{push-same}
@@ -38,7 +36,7 @@ module _ (ws : List ℕ) (spelt : spells ws ≡ true) (room : ℕ) where
   module _ (n r : ℕ) (counted : n ≡ length (all .dispatched)) (answered : r ≡ n % 2 ^ 56 * 256) where
     -- more is due than the list holds
     pub answers-short : (list : List ℕ) → room < n → (r + 15 ≡ answer ws (Push room)) × (ws ≡ after ws (Push room)) × (list ≡ list-after list (outcome ws (Push room)))
-    unfolding answer after answer-word words-after list-after
+    unfolding answer after answer-word words-after made-words with-records list-after
     answers-short list h =
         let o : outcome ws (Push room) ≡ short (length (all .dispatched)) =
         outcome-is ∙ rw (lt-leb (length (all .dispatched)) room (rw (← counted) h)) in
@@ -48,7 +46,7 @@ module _ (ws : List ℕ) (spelt : spells ws ≡ true) (room : ℕ) where
     -- the list has room
     pub answers-done : {vs ns : List ℕ} (list : List ℕ) → n ≤ room → n * 13 ≤ length list → vs ≡ put ws (all .state) → ns ≡ filled list 0 (all .dispatched)
         → (r ≡ answer ws (Push room)) × (vs ≡ after ws (Push room)) × (ns ≡ list-after list (outcome ws (Push room)))
-    unfolding answer after answer-word words-after list-after value-number records-of
+    unfolding answer after answer-word words-after made-words list-after value-number records-of
     answers-done list h l v w =
         let o : outcome ws (Push room) ≡ done (dispatches (all .dispatched)) (all .state) =
         outcome-is ∙ rw (le-leb (length (all .dispatched)) room (rw (← counted) h)) in

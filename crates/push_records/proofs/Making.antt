@@ -2,7 +2,7 @@
 -- room for. And a flat list of which only the room was lent: what the push left there is what it would leave in the whole.
 use mathlib.Core.Path.{_≡_, refl, sym, ap, _∙_}
 use mathlib.Core.Bool.{Bool, true, false, cond}
-use mathlib.Core.List.{List, [], _∷_, _++_, append-assoc}
+use mathlib.Core.List.{List, _++_, append-assoc}
 use Prim.Native.Nat.{ℕ, _+_, _*_, _/_, _%_, _^_, _≤_, _<_}
 use native.Mathlib.Nat.{mod-eq-of-lt}
 use native.Mathlib.Omega.{arith}
@@ -19,7 +19,7 @@ use Rattle.rules.specs.Book.{records-of}
 use Rattle.rules.specs.Calls.{rule, value-number, answer-word}
 use Rattle.rules.specs.Calls.Call.{Push}
 use Rattle.layout.specs.Layout.{decode, spells}
-use Rattle.layout.specs.Calls.{outcome, answer, with-records, list-after}
+use Rattle.layout.specs.Calls.{outcome, answer, with-records, made-words, list-after}
 use Rattle.layout.proofs.FewDue.{few-due}
 use Rattle.operation_laws.proofs.Frame.{valid-now}
 use Rattle.rules.proofs.Answers.{flats-length}
@@ -95,7 +95,7 @@ drop-part m k l h g =
 
 part-by : (r : ℕ) (l : List ℕ) (o : Outcome) → made o ≤ r → r * 13 ≤ length l
     → list-after (take (r * 13) l) o ++ drop (r * 13) l ≡ list-after l o
-unfolding list-after dispatched with-records
+unfolding made-words list-after dispatched with-records
 part-by r l (refused n) h g = take-append-drop (r * 13) l
 part-by r l (short n) h g = take-append-drop (r * 13) l
 part-by r l (done v s) h g =
@@ -128,8 +128,8 @@ module _ (ws ys : List ℕ) (m : ℕ) {a k : ℕ} (answered : a ≡ answer ws (P
   pub made-records : k ≤ m
   made-records = omega (arith, made-is, made-within ws (room (length ys) m), room-records (length ys) m)
 
-  pub made-words : k * 13 ≤ length ys
-  made-words = omega (arith, made-is, made-within ws (room (length ys) m), room-words (length ys) m)
+  pub made-in-words : k * 13 ≤ length ys
+  made-in-words = omega (arith, made-is, made-within ws (room (length ys) m), room-words (length ys) m)
 
   -- and the list filled with so many records, from what the push left in the flat list, is the push's
   pub made-listed : (flat : List ℕ) (list : List declared.Dispatch) → flat ≡ list-after ys (outcome ws (Push (room (length ys) m)))

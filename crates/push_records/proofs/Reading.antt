@@ -1,15 +1,15 @@
 -- The flat words of dispatches, read as records, are the dispatches' own records.
-use mathlib.Core.Path.{_≡_, refl, sym, ap, _∙_}
+use mathlib.Core.Path.{_≡_, refl, ap, _∙_}
 use mathlib.Core.List.{List, [], _∷_, _++_, map, append-assoc}
 use Prim.Native.Nat.{ℕ, zero, suc, _+_, _*_}
 use native.Mathlib.Omega.{arith}
-use lib.ListN.{length, getD, drop}
+use lib.ListN.{length, drop}
 use lib.Seq.{getD-append-add}
 use Rattle.rules.specs.Outcome.{Dispatch, Outcome}
 use Rattle.rules.specs.Outcome.Outcome.{refused, short, done}
 use Rattle.rules.specs.Push.{flat, flat-records}
 use Rattle.rules.specs.Book.{records-of}
-use Rattle.layout.specs.Calls.{with-records, list-after}
+use Rattle.layout.specs.Calls.{with-records, made-words, list-after}
 use Rattle.record.specs.declared.Dispatch as declared
 use Rattle.push_records.specs.Listed.{word-of, record-at, records-in, record-for, dispatched}
 
@@ -65,7 +65,7 @@ read-all (x ∷ l) ws =
 
 -- what a push left in its flat list: its own dispatches
 pub read-made : (list : List ℕ) (o : Outcome) → records-in (list-after list o) (length (dispatched o)) ≡ map record-for (dispatched o)
-unfolding list-after dispatched with-records records-in
+unfolding made-words list-after dispatched with-records records-in
 read-made list (refused n) = refl
 read-made list (short n) = refl
 read-made list (done v s) = read-all (records-of v) (drop (length (flat-records (records-of v))) list)

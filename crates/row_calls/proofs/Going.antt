@@ -10,7 +10,7 @@ use lib.ListN.{length, getD, set, take, drop, length-append, length-drop, length
 use lib.Seq.{drop-at, drop-drop, getD-drop, length-take-le}
 use Rattle.words.specs.Act.{lay, store}
 use Rattle.words.proofs.Act.{lay-eq, lay-cons, lay-append, lay-none, lay-front}
-use Rattle.rules.specs.Table.{or-else}
+use Rattle.rules.specs.Table.{is-some, or-else}
 use Rattle.rules.specs.Outcome.{Outcome}
 use Rattle.rules.specs.Calls.{Call, fits, answer-word}
 use Rattle.rules.proofs.Valid.{says-valid}
@@ -21,7 +21,7 @@ use Rattle.layout.proofs.Calls.{outcome-is, length-after, spells-after}
 use Rattle.layout.proofs.Demand.{records-in-front}
 use Rattle.trace.specs.Calls.{kind-of}
 use Rattle.trace.proofs.Calls.{if-call, call-fits, call-kind}
-use Rattle.trace_call.specs.Made.{made, answer-of, words-made, list-made}
+use Rattle.trace_call.specs.Made.{made, answer-of, answered, words-made, list-made}
 use Rattle.row.specs.Script.{call-size, call-record, script-call, script-calls}
 use Rattle.row.specs.Row.{with-room, left-of, given, row-answers, row-records}
 use Rattle.row.specs.Promises.{Made-first, One-by-one}
@@ -91,11 +91,12 @@ module _ {script ws₀ answers₀ list₀ ws answers list : List ℕ} {at call f
   its-size = whole-call (drop at script) (the-first .size) (the-first .ends-there) .is-size ∙ ap call-size (getD-drop at script 1 0)
 
   pub stands : Call-there script at
+  unfolding is-some
   stands =
       let w = call-inside (drop at script) (the-first .size) (the-first .ends-there) in
       let e = its-size in
       let l = length-drop at script in
-      record { front = omega (arith, w .1); inside = omega (arith, w .1) }
+      record { front = omega (arith, w .1); inside = omega (arith, w .1); is-call = ap is-some (the-first .is-call) }
 
   -- what is left of the list, and the call as it is made with it
   abbrev rest : List ℕ
@@ -235,12 +236,12 @@ module _ {script ws₀ answers₀ list₀ ws answers list : List ℕ} {at call f
 
   -- what was made there is that call
   pub was-made : {ws' list' : List ℕ} {a : ℕ}
-      → (a ≡ answer-of (made ws (call-at script at rest)))
+      → (a ≡ answered ws (call-at script at rest))
       × ((ws' ≡ words-made ws (call-at script at rest)) × (list' ≡ take from list ++ list-made ws rest (call-at script at rest)))
       → (a ≡ answer ws as-made) × ((ws' ≡ after ws as-made) × (list' ≡ take from list ++ list-after rest (outcome ws as-made)))
-  unfolding made answer-of words-made list-made
+  unfolding answered answer-of made words-made list-made
   was-made e = (
-    e .0 ∙ ap (λ (o : Option Call). answer-of (made ws o)) is-made,
+    e .0 ∙ ap (answered ws) is-made,
     (
       e .1 .0 ∙ ap (words-made ws) is-made,
       e .1 .1 ∙ ap (λ (o : Option Call). take from list ++ list-made ws rest o) is-made,

@@ -6,21 +6,23 @@ use mathlib.Core.List.{List}
 use mathlib.Core.Option.{Option, some}
 use lib.Dec.{eqb}
 use lib.ListN.{length, getD, drop}
+use Rattle.rules.specs.Table.{is-some}
 use Rattle.rules.specs.Calls.{Call, number-in, value-in}
 use Rattle.layout.specs.Layout.{decode, spells}
 use Rattle.layout.specs.Calls.{run, with-records}
 use Rattle.trace.specs.Calls.{PUSH, call-of}
-use Rattle.row.specs.Script.{FRONT_WORDS, call-size, call-record, script-calls}
+use Rattle.row.specs.Script.{FRONT_WORDS, call-size, call-record, script-call, script-calls}
 use Rattle.row.specs.Row.{given, row-answers, row-records}
 
 -- how many words of its list a call filled, by its kind and its answer: 13 for each record of a push that was done
 unfoldable pub words-filled : ℕ → ℕ → ℕ
 words-filled kind answered = cond (eqb kind PUSH && eqb (number-in answered) 0) (value-in answered * 13) 0
 
--- a call stands whole at a place of a script
+-- a record that is a call stands whole at a place of a script
 pub record Call-there (script : List ℕ) (at : ℕ) : Type 0 where
   pub front : at + FRONT_WORDS ≤ length script
   pub inside : at + call-size (getD script (at + 1) 0) ≤ length script
+  pub is-call : is-some (script-call (call-record (drop at script))) ≡ true
 
 -- the call that stands there, whose push is given some list
 unfoldable pub call-at : List ℕ → ℕ → List ℕ → Option Call

@@ -7,18 +7,16 @@ use row_script::FRONT_WORDS;
 use row_script::count_calls;
 use store::answers::NUMBERS;
 use store::answers::value;
-use trace_call::Made;
-use trace_call::make_call;
+use trace_call::answer_call;
 use trace_kind::PUSH;
 ghost use mathlib.Core.Path.{_≡_};
 ghost use mathlib.Core.Bool.{true};
 ghost use mathlib.Core.List.{[], _++_};
-ghost use Prim.Native.Nat.{_/_, _≤_};
+ghost use Prim.Native.Nat.{_≤_};
 ghost use lib.ListN.{length, take, drop};
 ghost use Rattle.rules.specs.Table.{or-else};
 ghost use Rattle.layout.specs.Layout.{spells};
-ghost use Rattle.trace.specs.Calls.{call-of};
-ghost use Rattle.trace_call.specs.Made.{made, answer-of, words-made, list-made};
+ghost use Rattle.trace_call.specs.Made.{answered, words-made, list-made};
 ghost use Rattle.row.specs.Script.{script-calls};
 ghost use Rattle.row.specs.Row.{Row-left};
 ghost use Rattle.row_calls.specs.Rows.{words-filled, Call-there, call-at, Ready, Made-all};
@@ -28,21 +26,6 @@ const NO_CALL: u64 = 18;
 
 // The refusal of a row with more calls than words for their answers.
 const ANSWERS_SHORT: u64 = 64;
-
-// Makes the call of a kind and its words, and answers as its export does.
-fn answer_call(store: &mut [u64], kind: u64, words: &[u64], list: &mut [u64]) -> u64
-    requires { ⌜ spells (now store) ≡ true ⌝ }
-    ensures answer { λ r. ⌜ r ≡ answer-of (made (now (store .entry)) (call-of (length (now (list .entry)) / 13) kind (now (words .entry)))) ⌝ }
-    ensures words { λ _. ⌜ now (store .exit) ≡ words-made (now (store .entry)) (call-of (length (now (list .entry)) / 13) kind (now (words .entry))) ⌝ }
-    ensures records { λ _. ⌜ now (list .exit) ≡ list-made (now (store .entry)) (now (list .entry))
-        (call-of (length (now (list .entry)) / 13) kind (now (words .entry))) ⌝ }
-{
-    let made = make_call(store, kind, words, list);
-    match made {
-        Made::Answer(answer) => answer,
-        Made::NoCall => NO_CALL,
-    }
-}
 
 // How many words of its list a call filled, by its kind and its answer.
 fn words_filled(kind: u64, answer: u64) -> usize
@@ -60,7 +43,7 @@ fn words_filled(kind: u64, answer: u64) -> usize
 // Makes the call that stands at a place of a script; a push is given what is left of the list from a place on.
 fn call_at(store: &mut [u64], script: &[u64], at: usize, list: &mut [u64], from: usize) -> u64
     requires { ⌜ (spells (now store) ≡ true) × Call-there (now script) at × (from ≤ length (now list)) ⌝ }
-    ensures answer { λ r. ⌜ r ≡ answer-of (made (now (store .entry)) (call-at (now (script .entry)) at (drop from (now (list .entry))))) ⌝ }
+    ensures answer { λ r. ⌜ r ≡ answered (now (store .entry)) (call-at (now (script .entry)) at (drop from (now (list .entry)))) ⌝ }
     ensures words { λ _. ⌜ now (store .exit) ≡ words-made (now (store .entry)) (call-at (now (script .entry)) at (drop from (now (list .entry)))) ⌝ }
     ensures records { λ _. ⌜ now (list .exit) ≡ take from (now (list .entry)) ++ list-made (now (store .entry)) (drop from (now (list .entry)))
         (call-at (now (script .entry)) at (drop from (now (list .entry)))) ⌝ }

@@ -1,13 +1,12 @@
 -- What holds of every record that is a call: the call is of the record's kind, and its arguments have their widths; and what
 -- a kind and its words come to: no call where a test or a width fails, else the call.
-use Prim.Native.Nat.{ℕ, zero, suc}
+use Prim.Native.Nat.{ℕ}
 use mathlib.Core.Path.{_≡_, refl, sym, subst}
 use mathlib.Core.Bool.{Bool, true, false, cond}
 use mathlib.Core.List.{List}
 use mathlib.Core.Option.{Option, none, some, bind}
-use native.Mathlib.Omega.{arith}
-use lib.Dec.{eqb, leb}
-use borrow.Author.Tests.{eqb-true, eq-eqb, ne-eqb, lt-leb}
+use lib.Dec.{eqb}
+use borrow.Author.Tests.{eqb-true, eq-eqb, ne-eqb}
 use Rattle.rules.specs.Calls.{Call, fits}
 use Rattle.rules.specs.Calls.Call.{Append, Subscribe, Flow, Ack, Seek, Redeliver, Close, Push}
 use Rattle.rules.proofs.Answers.{is-push}
@@ -135,14 +134,6 @@ push-kind (Seek i target) = refl
 push-kind (Redeliver i list) = refl
 push-kind (Close i) = refl
 push-kind (Push room) = refl
-
--- ---- the words of a kind
-
--- a number that is neither 0 nor 1, as a subscribe's kind
-pub past-one : (n : ℕ) → (n ≡ 0 → ⊥) → (n ≡ 1 → ⊥) → leb n 1 ≡ false
-past-one zero h k = absurd (h refl)
-past-one (suc zero) h k = absurd (k refl)
-past-one (suc (suc n)) h k = lt-leb (suc (suc n)) 1 (omega arith)
 
 -- ---- a call, or none
 

@@ -1,6 +1,7 @@
 pub mod Readings
 pub mod Calls
 pub mod Widths
+pub mod Forms
 pub mod Records
 pub mod Format
 pub mod Steps

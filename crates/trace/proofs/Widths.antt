@@ -1,10 +1,15 @@
--- Which calls have arguments of their widths: of each kind that fits, and of each argument that is too wide.
+-- Which calls have arguments of their widths: of each kind that fits, of each argument that is too wide, and of each that is
+-- narrower than a word in a call that fits.
 use Prim.Native.Nat.{ℕ, _^_, _≤_, _<_}
 use mathlib.Core.Path.{_≡_}
 use mathlib.Core.Bool.{true, false, _&&_, and-false}
 use mathlib.Core.List.{List}
+use native.Mathlib.Omega.{arith}
+use lib.Dec.{ltb}
 use lib.ListN.{getD, drop}
 use lib.Seq.{getD-drop}
+use borrow.Author.Tests.{ltb-true}
+use Rattle.words.proofs.Check.{and-left, and-right}
 use Rattle.rules.specs.Table.{all}
 use Rattle.rules.specs.State.{Id, StoredMessage, Pair, Kind}
 use Rattle.rules.specs.Valid.{is-byte, is-word, valid-id}
@@ -12,6 +17,11 @@ use Rattle.rules.specs.Commands.Target.{start, to-id}
 use Rattle.rules.specs.Calls.{fits, target-fits}
 use Rattle.rules.specs.Calls.Call.{Append, Subscribe, Flow, Seek}
 use Rattle.layout.proofs.Slices.{byte-over, byte-fits, count-over, count-fits, word, all-words}
+
+-- a byte
+byte-in : (n : ℕ) → is-byte n ≡ true → n ≤ 255
+unfolding is-byte
+byte-in n h = let l = ltb-true n 256 h in omega arith
 
 -- ---- append
 
@@ -26,6 +36,15 @@ append-fits topic m t l e h b =
 pub append-wide : (topic : ℕ) (m : StoredMessage) → 255 < topic → fits (Append topic m) ≡ false
 unfolding fits
 append-wide topic m h = rw (byte-over topic h)
+
+-- its topic is a byte
+pub append-byte : (topic : ℕ) (m : StoredMessage) → fits (Append topic m) ≡ true → topic ≤ 255
+unfolding fits
+append-byte topic m h =
+    byte-in topic
+    (and-left (is-byte topic) (valid-id (m .id))
+    (and-left (is-byte topic && valid-id (m .id)) (is-word (m .handle))
+    (and-left (is-byte topic && valid-id (m .id) && is-word (m .handle)) (is-word (m .batch-size)) h)))
 
 -- ---- subscribe
 
@@ -45,6 +64,17 @@ module _ (i : ℕ) (kind : Kind) (p : Pair) where
   unfolding fits
   subscription-wide h = rw (byte-over (p .subscription) h, and-false (is-word i && is-byte (p .topic)))
 
+  -- its topic is a byte
+  pub topic-byte : fits (Subscribe i kind p) ≡ true → p .topic ≤ 255
+  unfolding fits
+  topic-byte h =
+      byte-in (p .topic) (and-right (is-word i) (is-byte (p .topic)) (and-left (is-word i && is-byte (p .topic)) (is-byte (p .subscription)) h))
+
+  -- so is its subscription
+  pub subscription-byte : fits (Subscribe i kind p) ≡ true → p .subscription ≤ 255
+  unfolding fits
+  subscription-byte h = byte-in (p .subscription) (and-right (is-word i && is-byte (p .topic)) (is-byte (p .subscription)) h)
+
 -- ---- flow
 
 -- with a word and 32 bits
@@ -56,6 +86,11 @@ flow-fits i grant h g = rw (word i h, count-fits grant g)
 pub grant-wide : (i grant : ℕ) → 0xffff_ffff < grant → fits (Flow i grant) ≡ false
 unfolding fits
 grant-wide i grant h = rw (count-over grant h, and-false (is-word i))
+
+-- its grant has 32 bits
+pub grant-count : (i grant : ℕ) → fits (Flow i grant) ≡ true → grant ≤ 0xffff_ffff
+unfolding fits
+grant-count i grant h = let l = ltb-true grant (2 ^ 32) (and-right (is-word i) (ltb grant (2 ^ 32)) h) in omega arith
 
 -- ---- seek
 

@@ -2,25 +2,26 @@
 -- list.
 use Prim.Native.Nat.{ℕ, _-_}
 use mathlib.Core.Path.{_≡_, refl, ap, _∙_}
-use mathlib.Core.Bool.{true, false}
+use mathlib.Core.Bool.{true, false, false≢true}
 use mathlib.Core.List.{List}
 use mathlib.Core.Option.{Option, none, some}
 use native.Mathlib.Omega.{arith}
 use lib.Dec.{eqb}
 use lib.ListN.{length, take, drop, length-drop}
 use lib.Seq.{take-all}
+use Rattle.rules.specs.Table.{is-some}
 use Rattle.rules.specs.Outcome.{Outcome}
 use Rattle.rules.specs.Outcome.Outcome.{refused, short, done}
 use Rattle.rules.specs.Push.{flat-records}
 use Rattle.rules.specs.Calls.{Call, rule}
 use Rattle.rules.proofs.Answers.{Without-records, is-push, without-records}
 use Rattle.layout.specs.Layout.{decode, spells}
-use Rattle.layout.specs.Calls.{outcome, answer, after, with-records, list-after}
+use Rattle.layout.specs.Calls.{outcome, answer, after, with-records, made-words, list-after}
 use Rattle.layout.proofs.Calls.{outcome-is}
 use Rattle.trace.specs.Calls.{PUSH, call-of, kind-of}
 use Rattle.trace.proofs.Calls.{If-call, call-kind, push-kind}
 use Rattle.trace_call.specs.declared.Made.the-variants as variants
-use Rattle.trace_call.specs.Made.{made, words-made, list-made}
+use Rattle.trace_call.specs.Made.{made, answer-of, answered, words-made, list-made}
 
 -- ---- the words of a kind
 
@@ -31,35 +32,36 @@ rest-part ws = let l = length-drop 1 ws in take-all (length ws - 1) (drop 1 ws) 
 -- ---- what is made
 
 module _ (ws : List ℕ) {o : Option Call} where
-  -- of no call: no answer, and every word stays
-  pub not-made : o ≡ none → (variants.NoCall ≡ made ws o) × (ws ≡ words-made ws o)
-  unfolding made words-made
-  not-made e = rw e (refl, refl)
-
-  -- of a call: its answer, and the words after it
-  pub is-made : {x : Call} {r : ℕ} {us : List ℕ} → o ≡ some x → (r ≡ answer ws x) × (us ≡ after ws x)
-      → (variants.Answer r ≡ made ws o) × (us ≡ words-made ws o)
-  unfolding made words-made
-  is-made e h = rw e (ap variants.Answer (h .0), h .1)
+  -- a call: its answer, and the words after it
+  pub is-answered : {x : Call} {r : ℕ} {us : List ℕ} → o ≡ some x → (r ≡ answer ws x) × (us ≡ after ws x)
+      → (r ≡ answered ws o) × (us ≡ words-made ws o)
+  unfolding answered answer-of made words-made
+  is-answered e h = rw e h
 
   module _ (list : List ℕ) where
-    -- of no call, with a list: it stays too
-    pub list-not-made : o ≡ none → (variants.NoCall ≡ made ws o) × ((ws ≡ words-made ws o) × (list ≡ list-made ws list o))
-    unfolding made words-made list-made
-    list-not-made e = rw e (refl, (refl, refl))
-
-    -- of a call, with a list: what it leaves there
-    pub list-is-made : {x : Call} {r : ℕ} {us ls : List ℕ} → o ≡ some x
+    -- with a list: what it leaves there
+    pub list-is-answered : {x : Call} {r : ℕ} {us ls : List ℕ} → o ≡ some x
         → (r ≡ answer ws x) × ((us ≡ after ws x) × (ls ≡ list-after list (outcome ws x)))
-        → (variants.Answer r ≡ made ws o) × ((us ≡ words-made ws o) × (ls ≡ list-made ws list o))
+        → (r ≡ answered ws o) × ((us ≡ words-made ws o) × (ls ≡ list-made ws list o))
+    unfolding answered answer-of made words-made list-made
+    list-is-answered e h = rw e h
+
+    -- no call: no answer, and every word stays
+    pub not-made : o ≡ none → (variants.NoCall ≡ made ws o) × ((ws ≡ words-made ws o) × (list ≡ list-made ws list o))
     unfolding made words-made list-made
-    list-is-made e h = rw e (ap variants.Answer (h .0), h .1)
+    not-made e = rw e (refl, (refl, refl))
+
+-- what was answered was made
+pub is-made : (ws : List ℕ) (o : Option Call) {r : ℕ} → is-some o ≡ true → r ≡ answered ws o → variants.Answer r ≡ made ws o
+unfolding is-some answered answer-of made
+is-made ws none h e = absurd (false≢true h)
+is-made ws (some x) h e = ap variants.Answer e
 
 -- ---- only a push changes the list
 
 -- what makes no records leaves the list
 none-listed : (list : List ℕ) (o : Outcome) → Without-records o → list ≡ list-after list o
-unfolding Without-records list-after with-records flat-records
+unfolding Without-records made-words list-after with-records flat-records
 none-listed list (refused n) h = refl
 none-listed list (short n) h = refl
 none-listed list (done v t) h = rw h

@@ -19,6 +19,10 @@ unfoldable pub answer-of : declared.Made → ℕ
 answer-of variants.NoCall = NO_CALL
 answer-of (variants.Answer a) = a
 
+-- what it answers: 18 where there is no call
+unfoldable pub answered : List ℕ → Option Call → ℕ
+answered ws o = answer-of (made ws o)
+
 -- the words after
 unfoldable pub words-made : List ℕ → Option Call → List ℕ
 words-made ws none = ws

@@ -20,7 +20,7 @@ use Rattle.rules.specs.Calls.Call.{Append, Subscribe, Flow, Ack, Seek, Redelive
 use Rattle.rules.specs.Book.{records-of}
 use Rattle.rules.proofs.Kept.{Ranged, records-ranged}
 use Rattle.rules.proofs.Answers.{Numbered, numbered, value-made, records-back, Without-records, without-records, is-push}
-use Rattle.layout.specs.Calls.{with-records, list-after}
+use Rattle.layout.specs.Calls.{with-records, made-words, list-after}
 use Rattle.trace.specs.Calls.{PUSH, kind-of, room-is}
 use Rattle.trace.specs.Text.{refusal, made, dispatch-lines, outcome-line, outcome-text}
 use Rattle.trace.specs.Played.{ROOM}
@@ -93,7 +93,7 @@ push-parts : (number : ℕ) (list : List ℕ) (l : List Dispatch) (t : State) (c
     → let o : Outcome = cond c (done (dispatches l) t) (short (length l)) in
     (dispatches-told PUSH (answer-word o) ≤ ROOM)
     × (text-told number PUSH (answer-word o) (list-after list o) ≡ outcome-text number (Push ROOM) o)
-unfolding dispatches-told list-after with-records made records-of refusal kind-of Numbered records-read
+unfolding dispatches-told made-words list-after with-records made records-of refusal kind-of Numbered records-read
 push-parts number list l t true e h =
     let o : Outcome = done (dispatches l) t in
     let few : length l ≤ ROOM = leb-true (length l) ROOM e in

@@ -1,4 +1,4 @@
--- The parts of the answers and of the list that are lent have as many words as was said.
+-- The parts of the answers and of the list that are lent have as many words as was said, and the store is left as the row leaves it.
 use native.Mathlib.Omega.{arith}
 use mathlib.Core.Path.{_≡_}
 use mathlib.Core.List.{List}

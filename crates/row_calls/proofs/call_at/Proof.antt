@@ -1,8 +1,18 @@
 -- `row_calls::call_at` meets its contract: its words and what is left of the list are parts of slices, and what is made of them is made there.
-use Rattle.row_calls.proofs.Parts.{made-there}
+use Rattle.row_calls.proofs.Parts.{are-call, made-there}
 use borrow.Author.Needs.{needs}
 use Rattle.row_calls.proofs.call_at.Statement.{statement}
 use Rattle.row_calls.proofs.call_at.Tie as tie
+
+-- the places: what stands before each, by name
+abbrev entry-before-arg3 : tie.After-answer-call-arg3 → tie.Start
+entry-before-arg3 c = c .before .before .before .before .before .before .before .before
+
+abbrev answer-call-before-slice-known4 : tie.After-slice-known4 → tie.After-answer-call
+answer-call-before-slice-known4 c = c .before .before .before .before
+
+abbrev entry-before-answer-call : tie.After-answer-call → tie.Start
+entry-before-answer-call c = entry-before-arg3 (c .before)
 
 mul-kind : tie.Need-mul-kind
 mul-kind c = search needs
@@ -50,7 +60,7 @@ part-answer-call-end-2 : tie.Need-part-answer-call-end-2
 part-answer-call-end-2 c = search needs
 
 answer-call-requires : tie.Need-answer-call-requires
-answer-call-requires c κs = search needs
+answer-call-requires c κs = let s = entry-before-arg3 c in (s .pre .0, are-call (s .args .script .now) (s .args .at) (s .pre .1 .is-call))
 
 same-length : tie.Need-same-length
 same-length c = search needs
@@ -59,7 +69,9 @@ same-length-2 : tie.Need-same-length-2
 same-length-2 c = search needs
 
 returns : tie.Need-returns
-returns c = made-there _ _ _ _ (c .before .before .before .before .before .before .before .before .before .before .before .before .before .pre .2) _ (c .before .before .before .before .answer-call .ensures)
+returns c =
+    let made = answer-call-before-slice-known4 c in
+    made-there _ _ (entry-before-answer-call made .pre .2) _ _ _ (made .answer-call .ensures)
 
 pub call-at-spec : {M : Type 1} → statement M
 call-at-spec =

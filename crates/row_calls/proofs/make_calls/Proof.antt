@@ -6,37 +6,67 @@ use native.Mathlib.Omega.{arith}
 use lib.ListN.{length, getD, set}
 use Rattle.rules.specs.Table.{or-else}
 use Rattle.row.specs.Script.{call-size}
+use Rattle.row_calls.specs.Rows.{Call-there}
 use Rattle.row_calls.proofs.Going.{Going, starts-going, stands, has-place, was-made, goes-on, all-made}
 use Rattle.row_calls.proofs.make_calls.Statement.{statement}
 use Rattle.row_calls.proofs.make_calls.Tie as tie
 
 abbrev Inv-loop : tie.InvT-loop
-Inv-loop store₀ script answers₀ list₀ at₀ call₀ from₀ store answers list at call from = Going script store₀ answers₀ list₀ store answers list at call from
+Inv-loop store₀ script answers₀ list₀ at₀ call₀ from₀ store answers list at call from =
+    Going script store₀ answers₀ list₀ store answers list at call from
 
 abbrev μ-loop : tie.MeasureT-loop
 μ-loop store₀ script answers₀ list₀ at₀ call₀ from₀ store answers list at call from = length script - at
 
+-- the places: what stands before each, by name
+abbrev entry-before-loop : tie.At-loop Inv-loop μ-loop → tie.Start Inv-loop μ-loop
+entry-before-loop c = c .before .before .before .before .before
+
+abbrev in-loop-before-call-at : tie.After-call-at Inv-loop μ-loop → tie.In-loop Inv-loop μ-loop
+in-loop-before-call-at c = c .before .before .before
+
+abbrev in-loop-before-slice-known5 : tie.After-slice-known5 Inv-loop μ-loop → tie.In-loop Inv-loop μ-loop
+in-loop-before-slice-known5 c = c .before .before .before .before .before .before .before
+
+abbrev call-at-before-words-filled : tie.After-words-filled Inv-loop μ-loop → tie.After-call-at Inv-loop μ-loop
+call-at-before-words-filled c = c .before .before .before .before .before .before
+
+abbrev in-loop-before-words-filled : tie.After-words-filled Inv-loop μ-loop → tie.In-loop Inv-loop μ-loop
+in-loop-before-words-filled c = in-loop-before-call-at (call-at-before-words-filled c)
+
+-- the row on the way in a turn, and that a call stands there
+going : (c : tie.In-loop Inv-loop μ-loop)
+    → let a = entry-before-loop (c .before) .args in
+    let l = c .before .loop in
+    Going (a .script .now) (a .store .now) (a .answers .now) (a .list .now) (l .store) (l .answers) (l .list) (l .at) (l .call) (l .from)
+going c = c .before .loop .inv
+
+there : (c : tie.In-loop Inv-loop μ-loop) → Call-there (entry-before-loop (c .before) .args .script .now) (c .before .loop .at)
+there c = stands (going c) (c .loop-test .taken)
+
+-- and after its call
+next : (c : tie.After-words-filled Inv-loop μ-loop)
+    → let a = entry-before-loop (in-loop-before-words-filled c .before) .args in
+    let l = in-loop-before-words-filled c .before .loop in
+    let made = call-at-before-words-filled c .call-at in
+    Going (a .script .now) (a .store .now) (a .answers .now) (a .list .now) (made .last .0) (set (l .answers) (l .call) (made .result)) (made .last .1 .1 .1 .0)
+    (l .at + call-size (getD (a .script .now) (l .at + 1) 0)) (l .call + 1) (l .from + c .words-filled .result)
+next c =
+    let i = in-loop-before-words-filled c in
+    let m = was-made (going i) (i .loop-test .taken) (call-at-before-words-filled c .call-at .ensures) in
+    goes-on (going i) (i .loop-test .taken) (m .1 .0) (m .0) refl (m .1 .1) refl (ap (λ (k : ℕ). i .before .loop .from + k) (c .words-filled .ensures))
+
 loop-holds : tie.Need-loop-holds Inv-loop μ-loop
-loop-holds c = starts-going _ _ _ _ (c .before .before .before .before .pre) (c .before .before .before .before .good .1 .1 .1 .0 .0)
+loop-holds c = let s = c .before .before .before .before in starts-going _ _ _ _ (s .pre) (s .good .1 .1 .1 .0 .0)
 
 call-at-requires : tie.Need-call-at-requires Inv-loop μ-loop
-call-at-requires c κs = let g = c .before .before .before .loop .inv in let more = c .before .before .loop-test .taken in (g .spelt, stands g more, let i = g .inside in omega arith)
-
--- the row on the way after the call
-next : (c : tie.After-words-filled Inv-loop μ-loop) → Going (c .before .before .before .before .before .before .before .before .before .before .before .before .before .before .before .args .script .now) (c .before .before .before .before .before .before .before .before .before .before .before .before .before .before .before .args .store .now) (c .before .before .before .before .before .before .before .before .before .before .before .before .before .before .before .args .answers .now) (c .before .before .before .before .before .before .before .before .before .before .before .before .before .before .before .args .list .now)
-    (c .before .before .before .before .before .before .call-at .last .0) (set (c .before .before .before .before .before .before .before .before .before .before .loop .answers) (c .before .before .before .before .before .before .before .before .before .before .loop .call) (c .before .before .before .before .before .before .call-at .result)) (c .before .before .before .before .before .before .call-at .last .1 .1 .1 .0)
-    (c .before .before .before .before .before .before .before .before .before .before .loop .at + call-size (getD (c .before .before .before .before .before .before .before .before .before .before .before .before .before .before .before .args .script .now) (c .before .before .before .before .before .before .before .before .before .before .loop .at + 1) 0)) (c .before .before .before .before .before .before .before .before .before .before .loop .call + 1) (c .before .before .before .before .before .before .before .before .before .before .loop .from + c .words-filled .result)
-next c =
-    let g = c .before .before .before .before .before .before .before .before .before .before .loop .inv in
-    let more = c .before .before .before .before .before .before .before .before .before .loop-test .taken in
-    let m = was-made g more (c .before .before .before .before .before .before .call-at .ensures) in
-    goes-on g more (m .1 .0) (m .0) refl (m .1 .1) refl (ap (λ (k : ℕ). c .before .before .before .before .before .before .before .before .before .before .loop .from + k) (c .words-filled .ensures))
+call-at-requires c κs = let i = c .before .before in let g = going i in (g .spelt, there i, omega (arith, g .inside))
 
 mul-answers : tie.Need-mul-answers Inv-loop μ-loop
 mul-answers c = search needs
 
 slice-write-answers : tie.Need-slice-write-answers Inv-loop μ-loop
-slice-write-answers c = has-place (c .before .before .before .before .before .before .before .before .loop .inv) (c .before .before .before .before .before .before .before .loop-test .taken)
+slice-write-answers c = let i = in-loop-before-slice-known5 c in has-place (going i) (i .loop-test .taken)
 
 mul-words-filled : tie.Need-mul-words-filled Inv-loop μ-loop
 mul-words-filled c = search needs
@@ -57,19 +87,19 @@ add-at : tie.Need-add-at Inv-loop μ-loop
 add-at c = search needs
 
 mul-at : tie.Need-mul-at Inv-loop μ-loop
-mul-at c = let t = stands (c .before .before .before .before .before .before .before .before .before .before .loop .inv) (c .before .before .before .before .before .before .before .before .before .loop-test .taken) in omega (arith, t .front)
+mul-at c = omega (arith, there (in-loop-before-words-filled c) .front)
 
 shared-slice-read-at : tie.Need-shared-slice-read-at Inv-loop μ-loop
-shared-slice-read-at c = let t = stands (c .before .before .before .before .before .before .before .before .before .before .before .loop .inv) (c .before .before .before .before .before .before .before .before .before .before .loop-test .taken) in omega (arith, t .front)
+shared-slice-read-at c = omega (arith, there (in-loop-before-words-filled (c .before)) .front)
 
 add-at-2 : tie.Need-add-at-2 Inv-loop μ-loop
-add-at-2 c = let t = stands (c .before .before .before .before .before .before .before .before .before .before .before .loop .inv) (c .before .before .before .before .before .before .before .before .before .before .loop-test .taken) in omega (arith, t .inside)
+add-at-2 c = omega (arith, there (in-loop-before-words-filled (c .before)) .inside)
 
 add-at-3 : tie.Need-add-at-3 Inv-loop μ-loop
-add-at-3 c = let t = stands (c .before .before .before .before .before .before .before .before .before .before .before .loop .inv) (c .before .before .before .before .before .before .before .before .before .before .loop-test .taken) in omega (arith, t .inside)
+add-at-3 c = omega (arith, there (in-loop-before-words-filled (c .before)) .inside)
 
 loop-less : tie.Need-loop-less Inv-loop μ-loop
-loop-less c = let t = stands (c .before .before .before .before .before .before .before .before .before .before .before .loop .inv) (c .before .before .before .before .before .before .before .before .before .before .loop-test .taken) in omega (arith, t .front)
+loop-less c = omega (arith, there (in-loop-before-words-filled (c .before)) .front)
 
 loop-again : tie.Need-loop-again Inv-loop μ-loop
 loop-again c = next (c .before)
@@ -86,8 +116,8 @@ same-length-3 c = c .before .loop .inv .as-long
 returns : tie.Need-returns Inv-loop μ-loop
 unfolding or-else
 returns c =
-    let r = c .before .before .before .before .before .before .pre in
-    all-made (c .before .loop .inv) (search needs) (rw (r .are) (r .enough))
+    let ready = entry-before-loop (c .before) .pre in
+    all-made (c .before .loop .inv) (search needs) (rw (ready .are) (ready .enough))
 
 pub make-calls-spec : {M : Type 1} → statement M
 make-calls-spec =

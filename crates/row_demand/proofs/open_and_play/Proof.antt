@@ -4,6 +4,16 @@ use borrow.Author.Needs.{needs}
 use Rattle.row_demand.proofs.open_and_play.Statement.{statement}
 use Rattle.row_demand.proofs.open_and_play.Tie as tie
 
+-- the places: what stands before each, by name
+abbrev broker-calls-before-exit : tie.After-slice-known7 → tie.After-broker-calls
+broker-calls-before-exit c = c .before .before .before .before .before .before
+
+abbrev broker-open-before-exit : tie.After-slice-known7 → tie.After-broker-open
+broker-open-before-exit c = c .before .before .before .before .before .before .before .before .before .before .before .before
+
+abbrev entry-before-exit : tie.After-slice-known7 → tie.Start
+entry-before-exit c = c .before .before .before .before .before .before .before .before .before .before .before .before .before .before .before .before .before .before
+
 broker-open-requires : tie.Need-broker-open-requires
 broker-open-requires c κs = search needs
 
@@ -21,9 +31,9 @@ same-length-3 c = search needs
 
 returns : tie.Need-returns
 returns c =
-    let is = c .before .before .before .before .before .before .before .before .before .before .before .before .broker-open .ensures .1 in
-    let left = c .before .before .before .before .before .before .broker-calls .ensures in
-    let small = c .before .before .before .before .before .before .before .before .before .before .before .before .before .before .before .before .before .before .good .1 .1 .1 .1 .1 .0 .0 in
+    let is = broker-open-before-exit c .broker-open .ensures .1 in
+    let left = broker-calls-before-exit c .broker-calls .ensures in
+    let small = entry-before-exit c .good .1 .1 .1 .1 .1 .0 .0 in
     (row-opened _ _ _ _ _ _ _ _ _ _ is left small, accounted-opened _ _ _ _ _ _ _ _ _ _ is left small)
 
 pub open-and-play-spec : {M : Type 1} → statement M

@@ -4,6 +4,13 @@ use borrow.Author.Needs.{needs}
 use Rattle.row_demand.proofs.play_on.Statement.{statement}
 use Rattle.row_demand.proofs.play_on.Tie as tie
 
+-- the places: what stands before each, by name
+abbrev broker-calls-before-exit : tie.After-slice-known6 → tie.After-broker-calls
+broker-calls-before-exit c = c .before .before .before .before .before .before
+
+abbrev entry-before-exit : tie.After-slice-known6 → tie.Start
+entry-before-exit c = c .before .before .before .before .before .before .before .before .before .before .before .before .before .before
+
 broker-calls-requires : tie.Need-broker-calls-requires
 broker-calls-requires c κs = search needs
 
@@ -18,8 +25,8 @@ same-length-3 c = search needs
 
 returns : tie.Need-returns
 returns c =
-    let left = c .before .before .before .before .before .before .broker-calls .ensures in
-    let small = c .before .before .before .before .before .before .before .before .before .before .before .before .before .before .good .1 .1 .1 .0 .0 in
+    let left = broker-calls-before-exit c .broker-calls .ensures in
+    let small = entry-before-exit c .good .1 .1 .1 .0 .0 in
     (left, (told-on left small, accounted-on left small))
 
 pub play-on-spec : {M : Type 1} → statement M

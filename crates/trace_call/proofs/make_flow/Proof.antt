@@ -1,36 +1,28 @@
 -- `trace_call::make_flow` meets its contract: two words, of which the second has 32 bits, are a flow.
+use native.Mathlib.Omega.{arith}
 use borrow.Author.Needs.{needs}
-use borrow.Author.Tests.{eq-eqb, ne-eqb}
 use Rattle.trace.specs.Calls.{flow-from}
-use Rattle.trace.proofs.Calls.{not-passed, too-wide, is-call}
-use Rattle.trace_call.proofs.Calls.{not-made, is-made}
-use Rattle.trace.proofs.Widths.{flow-fits, grant-wide}
+use Rattle.trace.proofs.Forms.{the-call, Flow-words, flow-words}
+use Rattle.trace_call.proofs.Calls.{is-answered}
 use Rattle.trace_call.proofs.make_flow.Statement.{statement}
 use Rattle.trace_call.proofs.make_flow.Tie as tie
 
--- the places: what stands before each, by name
-abbrev else2-before-slice-known2 : tie.After-slice-known2 → tie.Else2
-else2-before-slice-known2 c = c .before .before .before .before .before
+-- the place of the entry, as the exit sees it
+abbrev entry-before-exit : tie.After-slice-known2 → tie.Start
+entry-before-exit c = c .before .before .before .before .before .before .before .before
 
-abbrev else1-before-slice-known2 : tie.After-slice-known2 → tie.Else1
-else1-before-slice-known2 c = else2-before-slice-known2 c .before .before
-
-returns : tie.Need-returns
-unfolding flow-from
-returns c = not-made _ (not-passed _ (ne-eqb _ 2 (c .if1 .taken)))
-
-shared-slice-read-grant : tie.Need-shared-slice-read-grant
-shared-slice-read-grant c = search needs
-
-returns-2 : tie.Need-returns-2
-unfolding flow-from
-returns-2 c = not-made _ (too-wide _ _ (grant-wide _ _ (c .if2 .taken)))
+-- two words, of which the second has 32 bits
+its-words : (c : tie.Start) → Flow-words (c .args .words .now)
+its-words c = flow-words _ (c .pre .1)
 
 shared-slice-read-flow : tie.Need-shared-slice-read-flow
-shared-slice-read-flow c = search needs
+shared-slice-read-flow c = omega (arith, its-words (c .before .before .before .before) .two)
+
+shared-slice-read-flow-2 : tie.Need-shared-slice-read-flow-2
+shared-slice-read-flow-2 c = omega (arith, its-words (c .before .before .before .before .before) .two)
 
 cast-flow : tie.Need-cast-flow
-cast-flow c = search needs
+cast-flow c = omega (arith, its-words (c .before .before .before .before .before) .grant)
 
 flow-requires : tie.Need-flow-requires
 flow-requires c κs = search needs
@@ -38,23 +30,17 @@ flow-requires c κs = search needs
 same-length : tie.Need-same-length
 same-length c = search needs
 
-returns-3 : tie.Need-returns-3
+returns : tie.Need-returns
 unfolding flow-from
-returns-3 c =
-    let e = else1-before-slice-known2 c in
-    is-made _
-    (is-call (eq-eqb _ 2 (e .if1 .left)) (flow-fits _ _ (e .before .shared-slice-known .given 0 .fits) (else2-before-slice-known2 c .if2 .left)))
-    (c .before .before .flow .ensures)
+returns c = is-answered _ (the-call _ _ (entry-before-exit c .pre .1)) (c .before .before .flow .ensures)
 
 pub make-flow-spec : {M : Type 1} → statement M
 make-flow-spec =
     tie.close
     (tie.spec
-    returns
-    shared-slice-read-grant
-    returns-2
     shared-slice-read-flow
+    shared-slice-read-flow-2
     cast-flow
     flow-requires
     same-length
-    returns-3)
+    returns)

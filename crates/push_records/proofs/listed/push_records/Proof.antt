@@ -44,7 +44,7 @@ use Rattle.layout.specs.Calls.{outcome, answer, after, list-after}
 use Rattle.record.specs.declared.Dispatch.{Dispatch}
 use Rattle.record.proofs.Dispatch as D
 use Rattle.push_records.specs.Listed.{records-in, room, listed}
-use Rattle.push_records.proofs.Making.{told, made-records, made-words, made-listed}
+use Rattle.push_records.proofs.Making.{told, made-records, made-in-words, made-listed}
 use Rattle.push_records.proofs.Loans.{Lent, Shared, lends, shares-out, ends}
 use Rattle.push_records.proofs.listed.push_flat as push-flat
 use Rattle.push_records.proofs.listed.push_flat.Symbol as push-flat-def
@@ -231,7 +231,7 @@ module _ {M : Type 1} (𝓤 : URA M) (H : Heap 𝓤) (A : Atoms 𝓤) (W : Given
 
   -- what was made has room in the list, and its words in the flat list
   fits : {w : Val} {r k : ℕ} {us vs : List ℕ} → Pushed ws ys n w r us vs → k ≡ told r → (k ≤ length rs) × (k * 13 ≤ length vs)
-  fits p c = (made-records ws ys n (p .answered) c, omega (arith, made-words ws ys n (p .answered) c, p .vs-long))
+  fits p c = (made-records ws ys n (p .answered) c, omega (arith, made-in-words ws ys n (p .answered) c, p .vs-long))
 
   -- ---- the exit
   abbrev back₂ : List ℕ → Fml

@@ -1,11 +1,11 @@
--- `row_script::is_seek` meets its contract: a word and 0, or a word, 1 and two words, are a seek.
+-- `trace_form::is_seek` meets its contract: a word and 0, or a word, 1 and two words, are a seek.
 use borrow.Author.Tests.{ne-eqb}
 use Rattle.trace.specs.Calls.{seek-from}
 use Rattle.trace.proofs.Calls.{not-passed}
-use Rattle.row_script.proofs.Tested.{none-is, seek-of-two, seek-of-four}
+use Rattle.trace_form.proofs.Tested.{none-is, seek-of-two, seek-of-four}
 use borrow.Author.Needs.{needs}
-use Rattle.row_script.proofs.is_seek.Statement.{statement}
-use Rattle.row_script.proofs.is_seek.Tie as tie
+use Rattle.trace_form.proofs.is_seek.Statement.{statement}
+use Rattle.trace_form.proofs.is_seek.Tie as tie
 
 shared-slice-read-result : tie.Need-shared-slice-read-result
 shared-slice-read-result c = search needs

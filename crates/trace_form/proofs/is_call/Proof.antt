@@ -1,11 +1,18 @@
--- `row_script::is_call` meets its contract: each kind has its own test, and no other kind is a call.
+-- `trace_form::is_call` meets its contract: each kind has its own test, and no other kind is a call.
 use borrow.Author.Tests.{ne-eqb}
-use Rattle.trace.specs.Calls.{call-from, call-of}
+use Rattle.trace.specs.Calls.{PUSH, call-from, call-of}
 use Rattle.trace.proofs.Calls.{no-kind}
-use Rattle.row_script.proofs.Tested.{none-is, is-ack, is-redeliver, is-close, is-push-of-none}
+use Rattle.trace_form.proofs.Tested.{none-is, is-ack, is-redeliver, is-close, is-push-of-none}
 use borrow.Author.Needs.{needs}
-use Rattle.row_script.proofs.is_call.Statement.{statement}
-use Rattle.row_script.proofs.is_call.Tie as tie
+use Rattle.trace_form.proofs.is_call.Statement.{statement}
+use Rattle.trace_form.proofs.is_call.Tie as tie
+
+-- the places: what stands before each, by name
+abbrev else3-before-else6 : tie.Else6 → tie.Else3
+else3-before-else6 c = c .before .before .before
+
+abbrev else6-before-else8 : tie.Else8 → tie.Else6
+else6-before-else8 c = c .before .before
 
 is-flow-requires : tie.Need-is-flow-requires
 is-flow-requires c κs = search needs
@@ -53,9 +60,11 @@ returns-8 c = rw (c .if8 .taken) (is-close _ (λ k. c .before .before .before .b
 
 returns-9 : tie.Need-returns-9
 returns-9 c =
+    let e = else6-before-else8 c in
+    let d = else3-before-else6 e in
     none-is
-    (no-kind 0 _ _ (c .before .before .before .before .if4 .left) (c .before .before .before .if5 .left) (c .before .before .before .before .before .before .before .if1 .left) (c .before .before .before .before .before .before .if2 .left) (c .before .if7 .left) (c .before .before .if6 .left) (c .if8 .left)
-    (ne-eqb _ 8 (c .before .before .before .before .before .if3 .left)))
+    (no-kind 0 _ _ (e .before .before .if4 .left) (e .before .if5 .left) (d .before .before .if1 .left) (d .before .if2 .left) (c .before .if7 .left) (e .if6 .left) (c .if8 .left)
+    (ne-eqb _ PUSH (d .if3 .left)))
 
 pub is-call-spec : {M : Type 1} → statement M
 is-call-spec =

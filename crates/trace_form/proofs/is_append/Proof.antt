@@ -1,12 +1,12 @@
--- `row_script::is_append` meets its contract: five words, of which the first is a byte, are an append.
+-- `trace_form::is_append` meets its contract: five words, of which the first is a byte, are an append.
 use borrow.Author.Tests.{eq-eqb, ne-eqb}
 use Rattle.trace.specs.Calls.{append-from}
 use Rattle.trace.proofs.Calls.{not-passed, too-wide, is-call}
 use Rattle.trace.proofs.Widths.{append-fits, append-wide}
-use Rattle.row_script.proofs.Tested.{none-is, some-is}
+use Rattle.trace_form.proofs.Tested.{none-is, some-is}
 use borrow.Author.Needs.{needs}
-use Rattle.row_script.proofs.is_append.Statement.{statement}
-use Rattle.row_script.proofs.is_append.Tie as tie
+use Rattle.trace_form.proofs.is_append.Statement.{statement}
+use Rattle.trace_form.proofs.is_append.Tie as tie
 
 returns : tie.Need-returns
 unfolding append-from

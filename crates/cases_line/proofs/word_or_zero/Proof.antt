@@ -2,10 +2,8 @@
 use mathlib.Core.Path.{sym}
 use lib.ListN.{List·getD-eq-default}
 use borrow.Author.Needs.{needs}
-use Rattle.cases_twin.proofs.word_or_zero.Statement.{statement}
-use Rattle.cases_twin.proofs.word_or_zero.Tie as tie
-use Rattle.cases_twin.proofs.word_or_zero.Reads as reads
-use Rattle.cases_twin.proofs.word_or_zero.Lts as lts
+use Rattle.cases_line.proofs.word_or_zero.Statement.{statement}
+use Rattle.cases_line.proofs.word_or_zero.Tie as tie
 
 mul-result : tie.Need-mul-result
 mul-result c = search needs

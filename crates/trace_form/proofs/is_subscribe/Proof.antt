@@ -1,12 +1,12 @@
--- `row_script::is_subscribe` meets its contract: four words, of which the second is 0 or 1 and the last two are bytes, are a subscribe.
+-- `trace_form::is_subscribe` meets its contract: four words, of which the second is 0 or 1 and the last two are bytes, are a subscribe.
 use borrow.Author.Tests.{ne-eqb, le-leb, lt-leb}
 use Rattle.trace.specs.Calls.{subscribe-from}
 use Rattle.trace.proofs.Calls.{not-passed, too-wide, is-call}
 use Rattle.trace.proofs.Widths.{subscribe-fits, topic-wide, subscription-wide}
-use Rattle.row_script.proofs.Tested.{none-is, some-is}
+use Rattle.trace_form.proofs.Tested.{none-is, some-is}
 use borrow.Author.Needs.{needs}
-use Rattle.row_script.proofs.is_subscribe.Statement.{statement}
-use Rattle.row_script.proofs.is_subscribe.Tie as tie
+use Rattle.trace_form.proofs.is_subscribe.Statement.{statement}
+use Rattle.trace_form.proofs.is_subscribe.Tie as tie
 
 returns : tie.Need-returns
 unfolding subscribe-from

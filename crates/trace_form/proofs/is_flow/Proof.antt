@@ -1,12 +1,12 @@
--- `row_script::is_flow` meets its contract: two words, of which the second has 32 bits, are a flow.
+-- `trace_form::is_flow` meets its contract: two words, of which the second has 32 bits, are a flow.
 use borrow.Author.Tests.{eq-eqb, ne-eqb}
 use Rattle.trace.specs.Calls.{flow-from}
 use Rattle.trace.proofs.Calls.{not-passed, too-wide, is-call}
 use Rattle.trace.proofs.Widths.{flow-fits, grant-wide}
-use Rattle.row_script.proofs.Tested.{none-is, some-is}
+use Rattle.trace_form.proofs.Tested.{none-is, some-is}
 use borrow.Author.Needs.{needs}
-use Rattle.row_script.proofs.is_flow.Statement.{statement}
-use Rattle.row_script.proofs.is_flow.Tie as tie
+use Rattle.trace_form.proofs.is_flow.Statement.{statement}
+use Rattle.trace_form.proofs.is_flow.Tie as tie
 
 returns : tie.Need-returns
 unfolding flow-from
