@@ -10,7 +10,7 @@ use crate::model::Model;
 use crate::speed::{Bench, rounds, verdict};
 
 /// The flows of the two rows, and the calls of the two with pushes: half of them are pushes.
-const FLOWS: [usize; 2] = [16, 1024];
+const FLOWS: [usize; 2] = [16, 16_384];
 const PUSHES: [usize; 2] = [16, 64];
 /// The goal, as times of the plain counter.
 const GOAL: f64 = 3.0;
