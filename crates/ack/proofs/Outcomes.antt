@@ -129,7 +129,7 @@ module _ (s : State) (i id : ℕ) (list : List ℕ) (e : i ≡ slot by_id id s.c
 
 -- what holds of all places holds of those in flight
 in_flight_below : (n : ℕ) (l : List Held) (queue : List ℕ) → Every (λ (k : ℕ). k < n) (map (λ (h : Held). h.position) l ++ queue) → Every (λ (h : Held). h.position < n) l
-in_flight_below n [] queue f h m = absurd (Memᴰ.not_nil m)
+in_flight_below n [] queue f h m = absurd (Memᴰ.not-nil m)
 in_flight_below n (a ∷ l) queue f h m =
     ⊎_elim (λ (q : h ≡ a). subst (λ (x : Held). x.position < n) (sym q) (every_head f))
     (λ (k : Memᴰ h l). in_flight_below n l queue (every_tail f) h k)

@@ -1,4 +1,5 @@
 // Append: a message joins the ledger of a topic, which it makes if it is the first.
+#![tactic(auto)]
 mod entry;
 
 ghost use Rattle.std.specs.Prelude.{◌≡◌, true, ◌<◌};

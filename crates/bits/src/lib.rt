@@ -2,12 +2,13 @@
 // value, bit i % 64 of word i / 64 for message i, so that a batch of up to 256 fits. Each method
 // takes the bits and hands them back. The names are those of broker.rs; nothing here knows of a
 // broker.
+#![tactic(auto)]
 ghost use Rattle.std.specs.Prelude.{◌≡◌, ◌-◌, ◌%◌, ◌^◌, ◌≤◌, min, leb, get_or};
 ghost use Rattle.bits.specs.Bits.{fresh_unacked_bits, and_into, bits_empty, bits_cardinality, bits_below, count_ones};
 ghost use Rattle.bits.specs.Four.{four, words};
 ghost use Rattle.bits.specs.Masks.{mask};
 
-#[derive(Drop)]
+#[derive(Clone, Copy)]
 pub struct UnackedBits {
     pub w0: u64,
     pub w1: u64,

@@ -2,6 +2,7 @@
 // pointer and a length, and answers value × 256 + number, the number 0 when done. No export
 // requires anything; the contracts are one equation for the answer and one for every lent slice.
 // Every call here but opening first checks that the words spell a state, and answers 1 where they do not.
+#![tactic(auto)]
 pub mod commands;
 pub mod rows;
 

@@ -1,5 +1,6 @@
 // The case runner: readings of document 01 taken by running the code, a line each, then the calls of
 // the file `stdin`, held to the file `stdout`. What it prints is compared and not proved.
+#![tactic(auto)]
 mod balances;
 mod replay;
 

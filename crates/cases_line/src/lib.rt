@@ -1,6 +1,7 @@
 // The runner's input: lines of words with one blank between them, as reference/src/script.rs writes
 // calls. A word of digits is its number; a name is the number that its last eight letters spell in
 // base 256, so that names are compared as numbers.
+#![tactic(auto)]
 pub mod name;
 
 ghost use Rattle.std.specs.Prelude.{◌≡◌, cond, ◌<◌, min, ltb, length, get_or, replicate};

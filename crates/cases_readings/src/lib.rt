@@ -1,4 +1,5 @@
 // Readings of document 01 taken by running the code, a line each. What is printed is compared and not proved.
+#![tactic(auto)]
 use bits::UnackedBits;
 use libc::STDOUT_FILENO;
 

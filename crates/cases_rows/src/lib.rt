@@ -1,6 +1,7 @@
 // A row of calls as a line of the runner's input: `row`, how many words are lent for answers, how many
 // records the list holds, then the words of the script. Where the row is done, each of its calls is
 // printed as the call alone would be, with the records of a push under it.
+#![tactic(auto)]
 ghost use Rattle.std.specs.Prelude.{◌≡◌, ◌≤◌, length, take, replicate};
 ghost use Rattle.row.specs.Row.{words_left};
 ghost use Rattle.cases_rows.specs.Line.{at_most_64, row_line_after};

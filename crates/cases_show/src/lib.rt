@@ -1,4 +1,5 @@
 // What the runner prints of a call: the same words as reference/src/play.rs.
+#![tactic(auto)]
 ghost use Rattle.std.specs.Prelude.{◌+◌, ◌≤◌, length};
 
 use cases_line::name::{ACK, CLOSE, FLOW, PUSH, ROW, SEEK};

@@ -36,7 +36,7 @@ module _ (i : ℕ) where
   -- an id of the ring has a slot there
   in_slot : (l : List ℕ) → Memᴰ i l → slot by_value i l < length l
   unfolding slot
-  in_slot [] m = absurd (Memᴰ.not_nil m)
+  in_slot [] m = absurd (Memᴰ.not-nil m)
   in_slot (a ∷ l) m =
       by_test (eqb i a) (λ t. rw t (omega arith))
       (λ t. ⊎_elim (λ (e : i ≡ a). absurd (eqb-false i a t e))

@@ -10,7 +10,7 @@ use super::table::consumer_count;
 use store::offsets::{CONSUMER_WORDS, CONSUMERS_AT};
 
 // Where a consumer stands, or that it is not live.
-#[derive(Drop)]
+#[derive(Clone, Copy)]
 pub enum Lookup {
     Live(usize),
     Missing,

@@ -1,6 +1,7 @@
 // Numbers as text, written into a lent buffer of bytes: decimal digits in ASCII, a minus before a negative number. Each
 // writer lays its bytes from a place on and answers the place after them. The digits are counted first, and then laid from
 // the last to the first.
+#![tactic(auto)]
 ghost use Rattle.std.specs.Prelude.{◌≡◌, ◌+◌, ◌≤◌, length};
 ghost use Rattle.std.proofs.Math.IntN.{sub_ℕ};
 ghost use Rattle.words.specs.Wrote.{Wrote};

@@ -21,7 +21,7 @@ pub fn flight_count(store: &[u64], e: usize, d: usize) -> usize
 }
 
 // An entry in flight by value.
-#[derive(Drop)]
+#[derive(Clone, Copy)]
 pub struct Held {
     pub holder: u64,
     pub position: usize,

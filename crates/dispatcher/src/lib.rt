@@ -1,4 +1,5 @@
 // The dispatcher of a shared subscription in a store.
+#![tactic(auto)]
 pub mod completion;
 pub mod flight;
 pub mod make;

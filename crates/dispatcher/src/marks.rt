@@ -16,7 +16,7 @@ use store::offsets::{
 use store::stretch::word;
 
 // A mark by value: whether its entry is complete, its redelivery count, its stored bits.
-#[derive(Drop)]
+#[derive(Clone, Copy)]
 pub struct Mark {
     pub complete: bool,
     pub redelivery_count: u64,

@@ -2,10 +2,11 @@
 // available permits. Each move is one function of the whole record, by value; a thin function makes
 // the same move on a record that is lent; and above that stands one with plain parameters, for
 // callers that hold the record by value. Nothing here knows of a store.
+#![tactic(auto)]
 ghost use Rattle.std.specs.Prelude.{◌≡◌, ◌≤◌};
 ghost use Rattle.head.specs.Moves.{dispatched, advanced};
 
-#[derive(Drop)]
+#[derive(Clone, Copy)]
 pub struct Head {
     pub next: usize,
     pub cursor: usize,

@@ -23,7 +23,7 @@ record Without (n : ℕ) (l : List ℕ) : Type 0 where
 
 without : (n : ℕ) (l : List ℕ) → Distinct eqb l → Without n l
 unfolding Distinct
-without n [] h = record { rest = []; most = zero-le; apart = tt; among = λ b m. m; other = λ b m. absurd (Memᴰ.not_nil m) }
+without n [] h = record { rest = []; most = zero-le; apart = tt; among = λ b m. m; other = λ b m. absurd (Memᴰ.not-nil m) }
 without n (a ∷ l) h = step (eqb n a) refl (without n l h.1)
   where
     step : (t : Bool) → eqb n a ≡ t → Without n l → Without n (a ∷ l)

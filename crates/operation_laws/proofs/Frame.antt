@@ -240,7 +240,7 @@ module _ (s : State) (d : ℕ) (p : Pair) (e : d ≡ slot by_pair p s.dispatcher
       by_test (ltb d (length s.dispatchers)) (λ t. ltb-true d (length s.dispatchers) t)
       (λ t. let m : Memᴰ c.id (dispatcher s p).attached = subst (λ (j : Pair). Memᴰ c.id (dispatcher s j).attached) q (v.shared_in_ring k) in
       let n : (dispatcher s p).attached ≡ [] = ap (λ (x : Dispatcher). x.attached) (dispatcher_missing (ltb-false d (length s.dispatchers) t)) in
-      absurd (mathlib.Core.List.Memᴰ.not_nil (subst (λ (l : List ℕ). Memᴰ c.id l) n m)))
+      absurd (mathlib.Core.List.Memᴰ.not-nil (subst (λ (l : List ℕ). Memᴰ c.id l) n m)))
 
 -- ---- tests
 

@@ -2,6 +2,7 @@
 // bytes that it holds, prints what that gave, and reads again; it holds no more than a record and a block of 65,536 bytes. The
 // steps are those of `trace_step`, on a store of E = 32 with both switches off; what is read and written is tested and not
 // proved. A read that fails counts as the end of the input; where a write fails, the player stops.
+#![tactic(auto)]
 mod input;
 mod place;
 

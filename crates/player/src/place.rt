@@ -2,7 +2,7 @@
 
 // The bytes held, from a place to a place; the number of the record at their front, 0 for the header; and how many bytes of
 // text are not printed yet.
-#[derive(Drop)]
+#[derive(Clone, Copy)]
 pub(crate) struct Place {
     pub(crate) from: usize,
     pub(crate) to: usize,
@@ -11,7 +11,7 @@ pub(crate) struct Place {
 }
 
 // The player goes on from a place, or is done.
-#[derive(Drop)]
+#[derive(Clone, Copy)]
 pub(crate) enum Turn {
     On(Place),
     Over,

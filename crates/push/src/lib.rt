@@ -1,6 +1,7 @@
 // Push: the shared part and the plain part are written, if the list has room for their records. It surely
 // has if it has room for all entries that wait; else the number due is counted first, on local numbers,
 // and 15 is answered with it before the first write if the list has no room for as many.
+#![tactic(auto)]
 mod bound;
 
 ghost use Rattle.std.specs.Prelude.{◌≡◌, true, ◌*◌, ◌/◌, ◌≤◌, length};

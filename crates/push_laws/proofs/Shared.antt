@@ -132,7 +132,7 @@ module _ (s : State) (P : List ℕ) (done : List Dispatcher) (d : Dispatcher) (r
 
 -- a mapped element stands in the mapped list
 mem_map : {A B : Type 0} (f : A → B) (l : List A) (x : A) → Memᴰ x l → Memᴰ (f x) (map f l)
-mem_map f [] x m = absurd (Memᴰ.not_nil m)
+mem_map f [] x m = absurd (Memᴰ.not-nil m)
 mem_map f (y ∷ l) x m = ⊎_elim (λ e. Memᴰ.head (ap f e)) (λ k. Memᴰ.tail (mem_map f l x k)) (Memᴰ.cases_cons m)
 
 -- a service keeps the number of permits
@@ -186,4 +186,4 @@ shared_same s a u =
     ap (λ (l : List Consumer). serve_each serve_dispatcher (map (λ (d : Dispatcher). d.pair) s.dispatchers) (with_tables s s.topics l s.dispatchers))
     (sym (each_own s.consumers))
     ∙ serve_all s [] s.dispatchers (map (λ (c : Consumer). c.permits) s.consumers) a
-    (length-map s.consumers (λ (c : Consumer). c.permits)) (λ d m x n. absurd (Memᴰ.not_nil n)) u
+    (length-map s.consumers (λ (c : Consumer). c.permits)) (λ d m x n. absurd (Memᴰ.not-nil n)) u

@@ -64,7 +64,7 @@ plain_part s a =
     let cs : List Consumer = with_each s.consumers ps in
     let ds : List Dispatcher = map (served_dispatcher s) (services_of s) in
     ap (λ (ids : List ℕ). serve_each serve_plain ids (with_tables s s.topics cs ds)) (sym (ids_each s.consumers ps))
-    ∙ plain_all (with_tables s s.topics cs ds) [] cs (λ x m y n. absurd (Memᴰ.not_nil n)) (ascending_each s.consumers ps a)
+    ∙ plain_all (with_tables s s.topics cs ds) [] cs (λ x m y n. absurd (Memᴰ.not-nil n)) (ascending_each s.consumers ps a)
     ∙ ap₂ {A = List Dispatch} {B = List Consumer} (λ r l. record { dispatched = r; state = with_tables s s.topics l ds })
     (records_stay s cs ds cs) (served_stay s cs ds cs)
 

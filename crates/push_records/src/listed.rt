@@ -59,7 +59,7 @@ fn push_records(store: &mut [u64], flat: &mut [u64], list: &mut [Dispatch]) -> u
 }
 
 // A push's answer and its dispatches, by value.
-#[derive(Drop)]
+#[derive(Clone, Copy)]
 pub struct Listed {
     pub answer: u64,
     pub list: [Dispatch; 64],

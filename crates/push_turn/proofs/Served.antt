@@ -38,7 +38,7 @@ module _ (s : State) (topic : ℕ) where
       by_test (ltb (slot by_number topic s.topics) (length s.topics))
       (λ t. let h = ltb-true (slot by_number topic s.topics) (length s.topics) t in
       rw (ledger_at s topic h) (λ m k. ((every_nth s.topics (slot by_number topic s.topics) zero_topic v h).each_message m k).batch_range))
-      (λ t. rw (ledger_none s topic (ltb-false (slot by_number topic s.topics) (length s.topics) t)) (λ m k. absurd (Memᴰ.not_nil k)))
+      (λ t. rw (ledger_none s topic (ltb-false (slot by_number topic s.topics) (length s.topics) t)) (λ m k. absurd (Memᴰ.not-nil k)))
 
 module _ {e d : ℕ} {ws : List ℕ} (here : DispatcherIn e ws d) (v : ValidDispatcher (decode ws) (dispatcher_nth (decode ws) d)) where
   -- a dispatcher that obeys the rules can be served

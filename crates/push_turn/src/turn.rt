@@ -12,7 +12,7 @@ use head::{Head, dispatch_from};
 use store::permits::ZERO_PERMITS;
 
 // One dispatch: the consumer's slot, the entry's position, its cost, the consumer's permits after it.
-#[derive(Drop)]
+#[derive(Clone, Copy)]
 pub struct Step {
     pub consumer: usize,
     pub position: usize,
@@ -22,7 +22,7 @@ pub struct Step {
 
 // What a turn comes to: nothing more to hand out, or one dispatch; each with the dispatcher's numbers
 // and how many were taken off the queue.
-#[derive(Drop)]
+#[derive(Clone, Copy)]
 pub enum Turn {
     Stop(Head, usize),
     Move(Step, Head, usize),

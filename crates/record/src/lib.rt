@@ -1,4 +1,5 @@
 // A dispatch by value, and its 13 words in a lent list.
+#![tactic(auto)]
 ghost use Rattle.std.specs.Prelude.{◌≡◌, ◌+◌, ◌-◌, ◌*◌, ◌%◌, ◌^◌, ◌≤◌, length};
 ghost use Rattle.words.specs.Act.{lay};
 ghost use Rattle.record.specs.Flat.{record_words};
@@ -7,7 +8,7 @@ use bits::UnackedBits;
 
 // A dispatch as push records it: its numbers are the words of its flat record, in their order. The permits
 // after it are in two's complement.
-#[derive(Drop)]
+#[derive(Clone, Copy)]
 pub struct Dispatch {
     pub consumer: u64,
     pub ledger: u64,

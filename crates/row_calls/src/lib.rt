@@ -1,6 +1,7 @@
 // A row of calls: the script is read whole before the first call is made, so that a row that is refused changes nothing; then
 // its calls are made one after the other. The store is not checked: the caller knows that it spells a state, and every call
 // leaves it so.
+#![tactic(auto)]
 ghost use Rattle.std.specs.Prelude.{◌≡◌, true, [], ◌++◌, ◌≤◌, length, take, drop};
 ghost use Rattle.rules.specs.Table.{or_else};
 ghost use Rattle.layout.specs.Layout.{spells};

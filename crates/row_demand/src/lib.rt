@@ -2,6 +2,7 @@
 // here is code that opens a store and plays any script on it, with a contract that says what demand 3 promises of the words it
 // leaves, the book told by script, answers and list alone; and code that plays one more. Both are proved from the exports'
 // contracts and the theorems over rows alone. Nothing depends on this crate.
+#![tactic(auto)]
 ghost use Rattle.std.specs.Prelude.{◌≡◌, true, ℕ, ◌≤◌, length};
 ghost use Rattle.rules.specs.Calls.{needed};
 ghost use Rattle.rules.specs.Book.{Book, empty_book};

@@ -1,5 +1,6 @@
 // A script read before any call of it is made: whether every record of it is a call, and how many there are. No call is made
 // here, and the store is not needed.
+#![tactic(auto)]
 ghost use Rattle.std.specs.Prelude.{◌≡◌, ◌<◌, length, drop};
 ghost use Rattle.row.specs.Script.{call_reach, script_calls};
 ghost use Rattle.row_script.specs.Counted.{call_end, counted};
@@ -8,14 +9,14 @@ use trace_form::is_call;
 use trace_read::MOST_WORDS;
 
 // Where a call of a script ends, or that what stands there is none.
-#[derive(Drop)]
+#[derive(Clone, Copy)]
 pub enum End {
     At(usize),
     NoCall,
 }
 
 // How many calls a script has, or that it has a record that is none.
-#[derive(Drop)]
+#[derive(Clone, Copy)]
 pub enum Counted {
     Calls(usize),
     Bad,

@@ -74,7 +74,7 @@ every_insert_id i (j ∷ l) p h =
 -- ids ascend after an insert of a new one
 pub ascending_insert_id : (i : Id) (l : List Id) → AscendingIds l → Every (λ (j : Id). same_id i j ≡ false) l → AscendingIds (insert_id i l)
 unfolding AscendingIds insert_id
-ascending_insert_id i [] h new = ((λ a m. absurd (Memᴰ.not_nil m)), tt)
+ascending_insert_id i [] h new = ((λ a m. absurd (Memᴰ.not-nil m)), tt)
 ascending_insert_id i (j ∷ l) h new =
     by_test (after_id j i)
     (λ t. rw t (every_cons {P = λ (x : Id). after_id x i ≡ true} t (λ x m. after_trans x j i (h.0 x m) t), h))

@@ -57,13 +57,13 @@ opened_sound e leak noop =
     record {
       topic_count = omega arith;
       topics_distinct = tt;
-      each_topic = λ a m. absurd (Memᴰ.not_nil m);
+      each_topic = λ a m. absurd (Memᴰ.not-nil m);
       consumer_count = omega arith;
       consumers_ascending = tt;
-      each_consumer = λ a m. absurd (Memᴰ.not_nil m);
+      each_consumer = λ a m. absurd (Memᴰ.not-nil m);
       dispatcher_count = omega arith;
       pairs_distinct = tt;
-      each_dispatcher = λ a m. absurd (Memᴰ.not_nil m);
+      each_dispatcher = λ a m. absurd (Memᴰ.not-nil m);
     }
 
 -- and is valid

@@ -5,7 +5,7 @@ use mathlib.Core.Logic.{◌↔◌}
 use mathlib.Core.Bool.{true}
 use native.Mathlib.Omega.{arith}
 use lib.Dec.{ltb}
-use lib.IntN.{ℤ, sub_ℕ, ◌+ℤ◌, ◌-ℤ◌, +ℤ_neg_ℤ_cancel, pos-ne-negsuc}
+use lib.IntN.{ℤ, sub_ℕ, ◌+ℤ◌, ◌-ℤ◌, +ℤ-neg_ℤ_cancel, pos-ne-negsuc}
 use lib.IntN.ℤ.{pos, negsuc}
 use borrow.Author.Tests.{ltb-true, ltb-false, lt-ltb, le-ltb}
 use Rattle.rules.specs.Permits.{zero_permits, reading, above_zero, less}
@@ -40,7 +40,7 @@ difference_add a b n =
 pub difference_sub : (a b n : ℕ) → n ≤ a → sub_ℕ (a - n) b ≡ sub_ℕ a b -ℤ pos n
 difference_sub a b n h =
     let e : a - n + n ≡ a = omega arith in
-    sym (+ℤ_neg_ℤ_cancel (sub_ℕ (a - n) b) (pos n))
+    sym (+ℤ-neg_ℤ_cancel (sub_ℕ (a - n) b) (pos n))
     ∙ ap (λ (x : ℤ). x -ℤ pos n) (sym (difference_add (a - n) b n) ∙ ap (λ (x : ℕ). sub_ℕ x b) e)
 
 -- two differences from one number add up
@@ -103,7 +103,7 @@ above_zero_lt p h = ltb-true zero_permits p h
 pub reading_less : (total p : ℕ) → p ≤ total + zero_permits → reading (less total p) ≡ reading total -ℤ reading p
 unfolding reading less
 reading_less total p h =
-    sym (+ℤ_neg_ℤ_cancel (sub_ℕ (total + zero_permits - p) zero_permits) (sub_ℕ p zero_permits))
+    sym (+ℤ-neg_ℤ_cancel (sub_ℕ (total + zero_permits - p) zero_permits) (sub_ℕ p zero_permits))
     ∙ ap (λ (x : ℤ). x -ℤ sub_ℕ p zero_permits) (difference_sum (total + zero_permits - p) p total zero_permits (omega arith))
 
 -- a total that the grants and the costs make is the one less the other

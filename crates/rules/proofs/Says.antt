@@ -67,7 +67,7 @@ module _ {A : Type 0} where
 
   pub says_all : {p : A → Bool} {P : A → Type 0} → ((a : A) → Says (p a) (P a)) → (l : List A) → Says (all p l) (Every P l)
   unfolding all
-  says_all f [] = record { gives = λ e a m. absurd (Memᴰ.not_nil m); given = λ h. refl }
+  says_all f [] = record { gives = λ e a m. absurd (Memᴰ.not-nil m); given = λ h. refl }
   says_all {p} f (x ∷ l) =
       says_as (λ k. every_cons k.0 k.1) (λ h. (every_head h, every_tail h))
       (says_and (p x) (all p l) (f x) (says_all f l))
@@ -75,7 +75,7 @@ module _ {A : Type 0} where
   -- that no element passes a test
   pub says_none : (p : A → Bool) (l : List A) → Says (not (any p l)) (Every (λ (a : A). p a ≡ false) l)
   unfolding any
-  says_none p [] = record { gives = λ e a m. absurd (Memᴰ.not_nil m); given = λ h. refl }
+  says_none p [] = record { gives = λ e a m. absurd (Memᴰ.not-nil m); given = λ h. refl }
   says_none p (x ∷ l) = step (p x) refl (says_none p l)
     where
       step :
@@ -98,7 +98,7 @@ module _ {A : Type 0} where
 -- a number among others
 pub says_member : (n : ℕ) (l : List ℕ) → Says (member n l) (Memᴰ n l)
 unfolding member any
-says_member n [] = record { gives = λ e. absurd (false≢true e); given = λ m. absurd (Memᴰ.not_nil m) }
+says_member n [] = record { gives = λ e. absurd (false≢true e); given = λ m. absurd (Memᴰ.not-nil m) }
 says_member n (m ∷ l) =
     says_as (⊎_elim Memᴰ.head Memᴰ.tail) Memᴰ.cases_cons
     (says_or (eqb n m) (member n l) (says_eqb n m) (says_member n l))

@@ -139,7 +139,7 @@ module _ {A K : Type 0} (k : Key A K) where
     -- where keys stand once, each row is found by its key
     pub once_found : (a : A) (l : List A) → Once l → Memᴰ a l → find k (k.key a) l ≡ some a
     unfolding Once find
-    once_found a [] h m = absurd (Memᴰ.not_nil m)
+    once_found a [] h m = absurd (Memᴰ.not-nil m)
     once_found a (b ∷ l) h m =
         ⊎_elim (λ (e : a ≡ b). rw (e, w.self (k.key b)))
         (λ (n : Memᴰ a l). by_test (k.same (k.key a) (k.key b))

@@ -1,14 +1,14 @@
 // The subscribe command.
 
 // How a consumer receives: alone, or as one of a ring.
-#[derive(Drop)]
+#[derive(Clone, Copy)]
 pub enum Kind {
     Plain,
     Shared,
 }
 
 // The command: a consumer, its kind, and the pair it subscribes to.
-#[derive(Drop)]
+#[derive(Clone, Copy)]
 pub struct Subscribe {
     pub consumer: u64,
     pub kind: Kind,

@@ -9,7 +9,7 @@ use store::offsets::{
     BATCH_IN, ENTRY_IN, FIRST_BATCH_IN, HANDLE_IN, MESSAGE_IN, MESSAGE_WORDS, topic_at,
 };
 
-#[derive(Drop)]
+#[derive(Clone, Copy)]
 pub struct StoredMessage {
     pub ledger: u64,
     pub entry: u64,

@@ -1,6 +1,7 @@
 // A call made from a kind and its words, as a record of a trace or of a script has them. What fits no kind or has a word too
 // wide for its field is no call, and changes nothing. The store is not checked: the caller knows that it spells a state, and
 // every call leaves it so.
+#![tactic(auto)]
 ghost use Rattle.std.specs.Prelude.{◌≡◌, true, false, ◌/◌, eqb, length};
 ghost use Rattle.std.proofs.Math.Option.{bind};
 ghost use Rattle.rules.specs.Table.{is_some};
@@ -23,7 +24,7 @@ use trace_form::is_call;
 use trace_kind::{ACK, APPEND, FLOW, PUSH, REDELIVER, SEEK, SUBSCRIBE};
 
 // What became of a kind and its words: the answer of their call, or they are none.
-#[derive(Drop)]
+#[derive(Clone, Copy)]
 pub enum Made {
     Answer(u64),
     NoCall,

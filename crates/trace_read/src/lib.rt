@@ -1,5 +1,6 @@
 // The bytes of a trace read, all numbers high byte first: how far a header or a record reaches from the front of some bytes, and
 // the words of a record that is whole. Nothing is taken out before it is known to be there.
+#![tactic(auto)]
 ghost use Rattle.std.specs.Prelude.{◌≡◌, ◌+◌, ◌≤◌, length, take, drop};
 ghost use Rattle.words.specs.Wrote.{Wrote};
 ghost use Rattle.trace.specs.Format.{MOST_WORDS as most_words, number, header_reach, record_reach, record_in};
@@ -8,7 +9,7 @@ ghost use Rattle.trace_read.specs.Reached.{reached};
 
 // How far something reaches from the front of some bytes: to a place in them; it is cut off, there are too few to tell; or it
 // is wrong, whatever follows.
-#[derive(Drop)]
+#[derive(Clone, Copy)]
 pub enum Reach {
     Ends(usize),
     CutOff,

@@ -1,6 +1,7 @@
 // The player's step: what stands at the front of the bytes held is found whole, cut off or wrong; a whole record is read as a
 // call, the call is made on the store, and its lines are written into a lent buffer. The store spells a state before and after,
 // so it is never checked.
+#![tactic(auto)]
 ghost use Rattle.std.specs.Prelude.{◌≡◌, true, ◌*◌, ◌≤◌, length};
 ghost use Rattle.words.specs.Act.{lay};
 ghost use Rattle.layout.specs.Layout.{decode, spells};
@@ -19,7 +20,7 @@ use trace_read::{MOST_WORDS, Reach, header_reach, kind_of, read_words, record_re
 
 // What a step did: nothing, since what is held is cut off; it wrote a bad line of so many bytes, and is the last; or it took
 // so many bytes of what is held and wrote so many.
-#[derive(Drop)]
+#[derive(Clone, Copy)]
 pub enum Did {
     Waits,
     Bad(usize),

@@ -132,10 +132,10 @@ In m f = (f.start ≤ f.next) × (f.next ≤ length m)
 -- every field from a place on lies inside
 from_lie : (k : ℕ) (m : List ℕ) (at : ℕ) → Gives (Every (In m)) (fields_from k m at)
 unfolding fields_from
-from_lie zero m at = gives_cond (Every (In m)) (leb (length m) at) (some []) none (gives_some _ [] (λ a h. absurd (Memᴰ.not_nil h))) (gives_none _)
+from_lie zero m at = gives_cond (Every (In m)) (leb (length m) at) (some []) none (gives_some _ [] (λ a h. absurd (Memᴰ.not-nil h))) (gives_none _)
 from_lie (suc k) m at =
     gives_cond (Every (In m)) (leb (length m) at) (some []) _
-    (gives_some _ [] (λ a h. absurd (Memᴰ.not_nil h)))
+    (gives_some _ [] (λ a h. absurd (Memᴰ.not-nil h)))
     (gives_bind (Every (In m)) (field m at) _
     (λ f e l g.
     let p = (map-eq-some_iff (λ (r : List Field). f ∷ r) (fields_from k m f.next)).0 g in

@@ -52,7 +52,7 @@ group_short m =
 groups_short : (m : List ℕ) (fs : List Field) (ids : List Group) → groups_of m fs ≡ some ids → (length ids ≡ length fs) × Every Short ids
 unfolding groups_of
 groups_short m [] ids e =
-    subst (λ (l : List Group). (length l ≡ 0) × Every Short l) (some-injective [] ids e) (refl, λ g h. absurd (Memᴰ.not_nil h))
+    subst (λ (l : List Group). (length l ≡ 0) × Every Short l) (some-injective [] ids e) (refl, λ g h. absurd (Memᴰ.not-nil h))
 groups_short m (f ∷ fs) ids e =
     let p = (bind-eq-some_iff (group_of (bytes_of m f)) _).0 e in
     let q = (map-eq-some_iff (λ (l : List Group). p.0 ∷ l) (groups_of m fs)).0 p.2 in

@@ -83,7 +83,7 @@ messages_fit = fits
 
 -- a list of one word has only words like it
 same_words : (n w : ℕ) → w < 2 ^ 64 → Words (replicate n w)
-same_words zero w h = λ a i. absurd (Memᴰ.not_nil i)
+same_words zero w h = λ a i. absurd (Memᴰ.not-nil i)
 same_words (suc n) w h = every_cons h (same_words n w h)
 
 -- the largest takes all of them

@@ -1,14 +1,14 @@
 // A command with what was read of it.
 
 // A part of the input: where it starts, and how many bytes it has.
-#[derive(Drop)]
+#[derive(Clone, Copy)]
 pub struct Name {
     pub start: u64,
     pub size: u64,
 }
 
 // Kind is 0 for plain and 1 for shared.
-#[derive(Drop)]
+#[derive(Clone, Copy)]
 pub struct Subscribe {
     pub consumer: u64,
     pub request: u64,
@@ -18,14 +18,14 @@ pub struct Subscribe {
 }
 
 // Where a seek goes: kind is 0 for the start, and 1 for an id, of this ledger and entry.
-#[derive(Drop)]
+#[derive(Clone, Copy)]
 pub struct Target {
     pub kind: u64,
     pub ledger: u64,
     pub entry: u64,
 }
 
-#[derive(Drop)]
+#[derive(Clone, Copy)]
 pub struct Seek {
     pub consumer: u64,
     pub request: u64,
@@ -34,7 +34,7 @@ pub struct Seek {
 
 // The consumer comes first. Flow has the permits, Close the request; Ack and Redeliver have how many words their ids take in a
 // lent list.
-#[derive(Drop)]
+#[derive(Clone, Copy)]
 pub enum Command {
     Subscribe(Subscribe),
     Flow(u64, u64),
@@ -45,7 +45,7 @@ pub enum Command {
 }
 
 // A command; or its message is not right.
-#[derive(Drop)]
+#[derive(Clone, Copy)]
 pub enum Content {
     Is(Command),
     Bad,

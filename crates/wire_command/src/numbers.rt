@@ -10,7 +10,7 @@ use wire_fields::pick::{Picked, pick};
 use wire_fields::select::{Number, required_uint32, required_uint64};
 
 // Two numbers; or one of them is not right.
-#[derive(Drop)]
+#[derive(Clone, Copy)]
 pub enum Two {
     Are(u64, u64),
     Bad,

@@ -19,7 +19,7 @@ const ENTRY_ID: u64 = 2;
 const MESSAGE_ID: u64 = 3 * WIRE_TYPES + DELIMITED;
 
 // Where a seek goes; or its id is not right.
-#[derive(Drop)]
+#[derive(Clone, Copy)]
 pub enum TargetRead {
     Is(Target),
     Bad,

@@ -18,7 +18,7 @@ pub const NOTHING: u64 = 0;
 const TYPES_END: u64 = 0x1_0000_0000;
 
 // The type and where its message stands; or the bytes are no BaseCommand.
-#[derive(Drop)]
+#[derive(Clone, Copy)]
 pub enum Base {
     Of(u64, Place),
     Bad,

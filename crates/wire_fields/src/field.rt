@@ -7,7 +7,7 @@ use super::varint::{MORE, Varint, varint_at, wide};
 
 // A field as the wire has it: its number and wire type, the number of a varint, and the places where its content begins and where
 // the next field does.
-#[derive(Drop)]
+#[derive(Clone, Copy)]
 pub struct Field {
     pub number: u64,
     pub wire: u64,
@@ -17,7 +17,7 @@ pub struct Field {
 }
 
 // A field; or none is there.
-#[derive(Drop)]
+#[derive(Clone, Copy)]
 pub enum FieldAt {
     Is(Field),
     Bad,

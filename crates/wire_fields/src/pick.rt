@@ -8,7 +8,7 @@ use super::varint::wide;
 
 // What was seen under a number: how many fields, MANY where one had another wire type; and of the last its number or where its
 // bytes begin, and where it ends.
-#[derive(Drop)]
+#[derive(Clone, Copy)]
 pub struct Seen {
     pub count: u64,
     pub first: u64,
@@ -19,7 +19,7 @@ pub struct Seen {
 const MANY: u64 = 65;
 
 // What was seen under three numbers of a message; or it is not well formed.
-#[derive(Drop)]
+#[derive(Clone, Copy)]
 pub enum Picked {
     Fields(Seen, Seen, Seen),
     Bad,

@@ -7,14 +7,14 @@ ghost use Rattle.wire_fields.specs.Selected.{is_one, number, optional_number, pl
 use super::pick::Seen;
 
 // A number; or there is none that is right.
-#[derive(Drop)]
+#[derive(Clone, Copy)]
 pub enum Number {
     Is(u64),
     Bad,
 }
 
 // Where a part begins and ends; or there is none that is right.
-#[derive(Drop)]
+#[derive(Clone, Copy)]
 pub enum Place {
     Is(usize, usize),
     Bad,

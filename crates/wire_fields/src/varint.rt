@@ -3,7 +3,7 @@ ghost use Rattle.std.specs.Prelude.{◌≡◌, ◌≤◌, length};
 ghost use Rattle.wire_fields.specs.Found.{varint_at, Partway};
 
 // A varint's number and the place after it; or none is there.
-#[derive(Drop)]
+#[derive(Clone, Copy)]
 pub enum Varint {
     Read(u64, usize),
     Bad,

@@ -21,7 +21,7 @@ const TOO_MANY_WORDS: u64 = 17;
 
 // How many ledgers, entries and words there were. Each number stops where it is too many, and a field of another wire type
 // takes it there.
-#[derive(Drop)]
+#[derive(Clone, Copy)]
 pub struct Parts {
     pub ledgers: u64,
     pub entries: u64,

@@ -16,14 +16,14 @@ const MOST_WORDS: u64 = 16;
 pub const HEAD_WORDS: u64 = 3;
 
 // How many ids may follow, and the words of those before.
-#[derive(Drop)]
+#[derive(Clone, Copy)]
 pub struct Tally {
     pub left: u64,
     pub words: u64,
 }
 
 // A tally; or an id is not right, or one too many.
-#[derive(Drop)]
+#[derive(Clone, Copy)]
 pub enum Tallied {
     Is(Tally),
     Bad,

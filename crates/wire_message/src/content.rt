@@ -13,7 +13,7 @@ use wire_fields::select::{
 };
 
 // An id with its batch size.
-#[derive(Drop)]
+#[derive(Clone, Copy)]
 pub struct BatchId {
     pub ledger: u64,
     pub entry: u64,
@@ -21,14 +21,14 @@ pub struct BatchId {
 }
 
 // An id; or there is none that is right.
-#[derive(Drop)]
+#[derive(Clone, Copy)]
 pub enum IdRead {
     Is(BatchId),
     Bad,
 }
 
 // A Message's numbers, and how many ack words it has.
-#[derive(Drop)]
+#[derive(Clone, Copy)]
 pub struct Head {
     pub consumer: u64,
     pub id: BatchId,
@@ -37,7 +37,7 @@ pub struct Head {
 }
 
 // A Message's content; or it is not right.
-#[derive(Drop)]
+#[derive(Clone, Copy)]
 pub enum Content {
     Is(Head),
     Bad,

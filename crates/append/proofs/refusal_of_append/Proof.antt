@@ -12,113 +12,66 @@ use Rattle.append.proofs.Appends.{refusal_5, refusal_new, refusal_7, refusal_6, 
 use Rattle.append.proofs.refusal_of_append.Statement.{statement}
 use Rattle.append.proofs.refusal_of_append.Tie as tie
 
--- the places: what stands before each, by name
-abbrev entry_before_else1 : tie.Else1 → tie.Start
-entry_before_else1 c = c.before.before.before
-
-abbrev entry_before_then2 : tie.Then2 → tie.Start
-entry_before_then2 c = c.before.before.before.before
-
-abbrev entry_before_else2 : tie.Else2 → tie.Start
-entry_before_else2 c = c.before.before.before.before
-
-abbrev entry_before_message_count : tie.After-message-count → tie.Start
-entry_before_message_count c = entry_before_else1 c.before
-
-abbrev else1_before_then3 : tie.Then3 → tie.Else1
-else1_before_then3 c = c.before.before.before
-
-abbrev entry_before_then3 : tie.Then3 → tie.Start
-entry_before_then3 c = entry_before_else1 (else1_before_then3 c)
-
-abbrev message_count_before_then4 : tie.Then4 → tie.After-message-count
-message_count_before_then4 c = c.before.before.before
-
-abbrev else1_before_then4 : tie.Then4 → tie.Else1
-else1_before_then4 c = (message_count_before_then4 c).before
-
-abbrev entry_before_then4 : tie.Then4 → tie.Start
-entry_before_then4 c = entry_before_message_count (message_count_before_then4 c)
-
-abbrev message_count_before_else4 : tie.Else4 → tie.After-message-count
-message_count_before_else4 c = c.before.before.before
-
-abbrev else1_before_else4 : tie.Else4 → tie.Else1
-else1_before_else4 c = (message_count_before_else4 c).before
-
-abbrev entry_before_else4 : tie.Else4 → tie.Start
-entry_before_else4 c = entry_before_message_count (message_count_before_else4 c)
-
 -- the count is the number of topics
-counted : (c : tie.After-topic-count) → c.topic_count.result ≡ length (decode c.before.before.args.store.now).topics
-counted c = c.topic_count.ensures
+counted : (c : tie.After-topic_count-topics) → c.topic_count-topics.result ≡ length (decode c.args.store.now).topics
+counted c = c.topic_count-topics.ensures
 
 -- past the first test the topic is there
-there : (c : tie.Else1) → (entry_before_else1 c).args.t < length (decode (entry_before_else1 c).args.store.now).topics
-there c = let n = counted c.before in let l = c.if1.false in omega arith
+there : (c : tie.Else-topics-t) → c.args.t < length (decode c.args.store.now).topics
+there c = let n = counted c.before in let l = c.if-topics-t.false in omega arith
 
-topic_count_requires : tie.Need-topic-count-requires
+topic_count_requires : tie.Need-topic_count-topics-requires
 topic_count_requires c κs = search rules
 
-returns : tie.Need-returns
+returns : tie.Need-returns-then-topics-ge-MOST_TOPICS
 returns c =
-    let a = (entry_before_then2 c).args in
+    let a = c.args in
     let n = counted c.before.before in
-    let t = c.before.if1.true in
-    let k = c.if2.true in
+    let t = c.if-topics-t.true in
+    let k = c.if-topics-ge-MOST_TOPICS.true in
     refusal_5 (decode a.store.now) a.t (id_of a.ledger a.entry) (omega arith) (omega arith)
 
-returns_2 : tie.Need-returns-2
+returns_2 : tie.Need-returns-else-topics-ge-MOST_TOPICS
 returns_2 c =
-    let a = (entry_before_else2 c).args in
+    let a = c.args in
     let n = counted c.before.before in
-    let t = c.before.if1.true in
-    let k = c.if2.false in
+    let t = c.if-topics-t.true in
+    let k = c.if-topics-ge-MOST_TOPICS.false in
     refusal_new (decode a.store.now) a.t (id_of a.ledger a.entry) (omega arith) (omega arith)
 
-message_count_requires : tie.Need-message-count-requires
-message_count_requires c κs = topic_in (entry_before_else1 c).requires (entry_before_else1 c).args.t (there c)
+message_count_requires : tie.Need-message_count-n-requires
+message_count_requires c κs = topic_in c.requires c.args.t (there c)
 
-position_of_requires : tie.Need-position-of-requires
-position_of_requires c κs = topic_in (entry_before_message_count c).requires (entry_before_message_count c).args.t (there c.before)
+position_of_requires : tie.Need-position_of-requires
+position_of_requires c κs = topic_in c.requires c.args.t (there c.before)
 
-returns_3 : tie.Need-returns-3
+returns_3 : tie.Need-returns-then-position_of-n
 returns_3 c =
-    let a = (entry_before_then3 c).args in
-    let m = c.before.before.message_count.ensures in
-    let p = c.before.position_of.ensures in
-    let k = c.if3.true in
-    refusal_7 (decode a.store.now) a.t (id_of a.ledger a.entry) (there (else1_before_then3 c)) (omega arith)
+    let a = c.args in
+    let m = c.message_count-n.ensures in
+    let p = c.position_of.ensures in
+    let k = c.if-position_of-n.true in
+    refusal_7 (decode a.store.now) a.t (id_of a.ledger a.entry) (there c.before.before.before) (omega arith)
 
-returns_4 : tie.Need-returns-4
+returns_4 : tie.Need-returns-then-e-n
 returns_4 c =
-    let a = (entry_before_then4 c).args in
-    let E = canon_entries (entry_before_then4 c).requires in
-    let m = (message_count_before_then4 c).message_count.ensures in
-    let p = c.before.before.position_of.ensures in
-    let k = c.before.if3.false in
-    let l = c.if4.true in
-    refusal_6 (decode a.store.now) a.t (id_of a.ledger a.entry) (there (else1_before_then4 c)) (omega arith) (omega arith)
+    let a = c.args in
+    let E = canon_entries c.requires in
+    let m = c.message_count-n.ensures in
+    let p = c.position_of.ensures in
+    let k = c.if-position_of-n.false in
+    let l = c.if-e-n.true in
+    refusal_6 (decode a.store.now) a.t (id_of a.ledger a.entry) (there c.before.before.before.before) (omega arith) (omega arith)
 
-returns_5 : tie.Need-returns-5
+returns_5 : tie.Need-returns-else-e-n
 returns_5 c =
-    let a = (entry_before_else4 c).args in
-    let E = canon_entries (entry_before_else4 c).requires in
-    let m = (message_count_before_else4 c).message_count.ensures in
-    let p = c.before.before.position_of.ensures in
-    let k = c.before.if3.false in
-    let l = c.if4.false in
-    refusal_none (decode a.store.now) a.t (id_of a.ledger a.entry) (there (else1_before_else4 c)) (omega arith) (omega arith)
+    let a = c.args in
+    let E = canon_entries c.requires in
+    let m = c.message_count-n.ensures in
+    let p = c.position_of.ensures in
+    let k = c.if-position_of-n.false in
+    let l = c.if-e-n.false in
+    refusal_none (decode a.store.now) a.t (id_of a.ledger a.entry) (there c.before.before.before.before) (omega arith) (omega arith)
 
 pub refusal_of_append_spec : {M : Type 1} → statement M
-refusal_of_append_spec =
-    tie.close
-    (tie.spec
-    topic_count_requires
-    returns
-    returns_2
-    message_count_requires
-    position_of_requires
-    returns_3
-    returns_4
-    returns_5)
+refusal_of_append_spec = tie.close (tie.spec topic_count_requires returns returns_2 message_count_requires position_of_requires returns_3 returns_4 returns_5)

@@ -23,103 +23,63 @@ use Rattle.balance.proofs.is_under.Reads as is_under_reads
 use Rattle.consumer.proofs.lookup.find_consumer.Reads as find_consumer_reads
 use Rattle.consumer.proofs.fields.permits.Reads as permits_reads
 
--- the places: what stands before each, by name
-abbrev entry_before_i : tie.After-i → tie.Start
-entry_before_i c = c.before.before.before.before
-
-abbrev entry_before_enum_told : tie.After-enum-told → tie.Start
-entry_before_enum_told c = c.before.before.before.before
-
-abbrev entry_before_known_told : tie.After-known-told → tie.Start
-entry_before_known_told c = entry_before_i c.before
-
-abbrev i_before_then1 : tie.Then1 → tie.After-i
-i_before_then1 c = c.before.before.before
-
-abbrev entry_before_then1 : tie.Then1 → tie.Start
-entry_before_then1 c = entry_before_i (i_before_then1 c)
-
-abbrev i_before_else1 : tie.Else1 → tie.After-i
-i_before_else1 c = c.before.before.before
-
-abbrev is_under_before_permits : tie.After-permits → tie.After-is-under
-is_under_before_permits c = c.before.before
-
-abbrev i_before_permits : tie.After-permits → tie.After-i
-i_before_permits c = i_before_else1 c.before
-
-abbrev entry_before_permits : tie.After-permits → tie.Start
-entry_before_permits c = entry_before_i (i_before_permits c)
-
-find_consumer_requires : tie.Need-find-consumer-requires
+find_consumer_requires : tie.Need-find_consumer-requires
 find_consumer_requires c κs = search rules
 
-enum_known_i : tie.Need-enum-known-i
+enum_known_i : tie.Need-enum_known-i
 enum_known_i c = search rules
 
-enum_told : tie.Need-enum-told
+enum_told : tie.Need-enum_told-1
 enum_told c = search rules
 
-returns : tie.Need-returns
+returns : tie.Need-returns-in_default
 returns c =
-    let ws = (entry_before_enum_told c).args.store.now in
-    let id = (entry_before_enum_told c).args.id in
-    adds_none (dispatcher_nth (decode ws) (entry_before_enum_told c).args.d).pair (entry_before_enum_told c).args.sum
-    (consumer_missing (decode ws) (slot by_id id (decode ws).consumers) id refl (found_missing id (decode ws).consumers (sym c.enum_told.given.1 ∙ c.before.before.find_consumer.ensures.0)))
+    let ws = c.args.store.now in
+    let id = c.args.id in
+    adds_none (dispatcher_nth (decode ws) c.args.d).pair c.args.sum
+    (consumer_missing (decode ws) (slot by_id id (decode ws).consumers) id refl (found_missing id (decode ws).consumers (sym c.in_default.is ∙ c.find_consumer.ensures.0)))
 
 -- the consumer that was found
-found : (c : tie.After-i) → (c.i.given.0.0 ≡ slot by_id (entry_before_i c).args.id (decode (entry_before_i c).args.store.now).consumers) × (c.i.given.0.0 < length (decode (entry_before_i c).args.store.now).consumers)
-found c = found_live (entry_before_i c).args.id (decode (entry_before_i c).args.store.now).consumers c.i.given.0.0 (sym c.i.given.1 ∙ c.before.before.find_consumer.ensures.0)
+found : (c : tie.In-Live) → (c.in-Live.i ≡ slot by_id c.args.id (decode c.args.store.now).consumers) × (c.in-Live.i < length (decode c.args.store.now).consumers)
+found c = found_live c.args.id (decode c.args.store.now).consumers c.in-Live.i (sym c.in-Live.is ∙ c.find_consumer.ensures.0)
 
 -- it is there
-there : (c : tie.After-i) → ConsumerIn (entry_before_i c).args.e (entry_before_i c).args.store.now c.i.given.0.0
-there c = consumer_in (entry_before_i c).requires.0.canon c.i.given.0.0 (found c).1
+there : (c : tie.In-Live) → ConsumerIn c.args.e c.args.store.now c.in-Live.i
+there c = consumer_in c.requires.0.canon c.in-Live.i (found c).1
 
-is_under_requires : tie.Need-is-under-requires
-is_under_requires c κs = ((entry_before_known_told c).requires.0, there c.before)
+is_under_requires : tie.Need-is_under-requires
+is_under_requires c κs = (c.requires.0, there c)
 
-returns_2 : tie.Need-returns-2
+returns_2 : tie.Need-returns-then-not-is_under
 returns_2 c =
-    let ws = (entry_before_then1 c).args.store.now in
-    let f = found (i_before_then1 c) in
-    adds_nothing (dispatcher_nth (decode ws) (entry_before_then1 c).args.d).pair (entry_before_then1 c).args.sum
-    (consumer_found (decode ws) (i_before_then1 c).i.given.0.0 (entry_before_then1 c).args.id f.0 f.1) (answered_no c.before.is_under.ensures c.if1.true)
+    let ws = c.args.store.now in
+    let f = found c.before.before in
+    adds_nothing (dispatcher_nth (decode ws) c.args.d).pair c.args.sum
+    (consumer_found (decode ws) c.in-Live.i c.args.id f.0 f.1) (answered_no c.is_under.ensures c.if-not-is_under.true)
 
 permits_requires : tie.Need-permits-requires
-permits_requires c κs = there (i_before_else1 c)
+permits_requires c κs = there c.before.before
 
 -- what is added is in range
 ranged : (c : tie.After-permits) → (least_permits ≤ c.permits.result) × (c.permits.result ≤ most_permits)
 ranged c =
-    let ws = (entry_before_permits c).args.store.now in
-    let f = found (i_before_permits c) in
-    rw c.permits.ensures (found_range (decode ws) (entry_before_permits c).args.id (consumer_nth (decode ws) (i_before_permits c).i.given.0.0) (valid_now ws (entry_before_permits c).requires.1)
-    (consumer_found (decode ws) (i_before_permits c).i.given.0.0 (entry_before_permits c).args.id f.0 f.1))
+    let ws = c.args.store.now in
+    let f = found c.before.before.before in
+    rw c.permits.ensures (found_range (decode ws) c.args.id (consumer_nth (decode ws) c.in-Live.i) (valid_now ws c.requires.1)
+    (consumer_found (decode ws) c.in-Live.i c.args.id f.0 f.1))
 
-add_result : tie.Need-overflow-add-result
-add_result c = let r = ranged c in let h = (entry_before_permits c).requires.3 in let y = r.1 in omega arith
+add_result : tie.Need-overflow_add-result
+add_result c = let r = ranged c in let h = c.requires.3 in let y = r.1 in omega arith
 
-sub_result : tie.Need-overflow-sub-result
-sub_result c = let r = ranged c in let h = (entry_before_permits c).requires.2 in let x = r.0 in omega arith
+sub_result : tie.Need-overflow_sub-result
+sub_result c = let r = ranged c in let h = c.requires.2 in let x = r.0 in omega arith
 
-returns_3 : tie.Need-returns-3
+returns_3 : tie.Need-returns
 returns_3 c =
-    let ws = (entry_before_permits c).args.store.now in
-    let f = found (i_before_permits c) in
-    adds_permits (dispatcher_nth (decode ws) (entry_before_permits c).args.d).pair (entry_before_permits c).args.sum
-    (consumer_found (decode ws) (i_before_permits c).i.given.0.0 (entry_before_permits c).args.id f.0 f.1) (answered_yes (is_under_before_permits c).is_under.ensures c.before.if1.false) c.permits.ensures
+    let ws = c.args.store.now in
+    let f = found c.before.before.before in
+    adds_permits (dispatcher_nth (decode ws) c.args.d).pair c.args.sum
+    (consumer_found (decode ws) c.in-Live.i c.args.id f.0 f.1) (answered_yes c.is_under.ensures c.if-not-is_under.false) c.permits.ensures
 
 pub add_permits_spec : {M : Type 1} → statement M
-add_permits_spec =
-    tie.close
-    (tie.spec
-    find_consumer_requires
-    enum_known_i
-    enum_told
-    returns
-    is_under_requires
-    returns_2
-    permits_requires
-    add_result
-    sub_result
-    returns_3)
+add_permits_spec = tie.close (tie.spec find_consumer_requires enum_known_i enum_told returns is_under_requires returns_2 permits_requires add_result sub_result returns_3)

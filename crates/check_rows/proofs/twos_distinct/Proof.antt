@@ -16,147 +16,103 @@ use Rattle.check_rows.proofs.RowOrder.{most_new, most_raised, most_kept}
 use Rattle.check_rows.proofs.twos_distinct.Statement.{statement}
 use Rattle.check_rows.proofs.twos_distinct.Tie as tie
 
-abbrev invariant_loop : tie.invariant-loop
+abbrev invariant_loop : tie.invariant-loop-i
 invariant_loop store first width n x₀ y₀ i₀ x y i =
     (i ≤ n) × (twos_distinct store first width i ≡ true)
     × ((j : ℕ) → j < i → pair_above (row store first width j) (row_second store first width j) x y ≡ false)
 
-abbrev decreases_loop : tie.decreases-loop
+abbrev decreases_loop : tie.decreases-loop-i
 decreases_loop store first width n x₀ y₀ i₀ x y i = n - i
 
--- the places: what stands before each, by name
-abbrev entry_before_in_loop : tie.In-loop invariant_loop decreases_loop → tie.Start invariant_loop decreases_loop
-entry_before_in_loop c = c.before.before.before
-
-abbrev entry_before_after_loop : tie.After-loop invariant_loop decreases_loop → tie.Start invariant_loop decreases_loop
-entry_before_after_loop c = c.before.before.before
-
-abbrev in_loop_before_else1 : tie.Else1 invariant_loop decreases_loop → tie.In-loop invariant_loop decreases_loop
-in_loop_before_else1 c = c.before.before.before.before
-
-abbrev at_loop_before_joined1 : tie.Joined1 invariant_loop decreases_loop → tie.At-loop invariant_loop decreases_loop
-at_loop_before_joined1 c = c.before.before.before.before.before
-
-abbrev entry_before_joined1 : tie.Joined1 invariant_loop decreases_loop → tie.Start invariant_loop decreases_loop
-entry_before_joined1 c = (at_loop_before_joined1 c).before.before
-
-abbrev in_loop_before_then2 : tie.Then2 invariant_loop decreases_loop → tie.In-loop invariant_loop decreases_loop
-in_loop_before_then2 c = in_loop_before_else1 c.before.before
-
-abbrev at_loop_before_then2 : tie.Then2 invariant_loop decreases_loop → tie.At-loop invariant_loop decreases_loop
-at_loop_before_then2 c = (in_loop_before_then2 c).before
-
-abbrev entry_before_then2 : tie.Then2 invariant_loop decreases_loop → tie.Start invariant_loop decreases_loop
-entry_before_then2 c = entry_before_in_loop (in_loop_before_then2 c)
-
 -- the row of a turn lies in the store
-inside : (c : tie.In-loop invariant_loop decreases_loop)
-    → (entry_before_in_loop c).args.first + (c.before.loop.i * (entry_before_in_loop c).args.width + (entry_before_in_loop c).args.width) ≤ length (entry_before_in_loop c).args.store.now
+inside : (c : tie.In-loop-i invariant_loop decreases_loop)
+    → c.args.first + (c.loop-i.i * c.args.width + c.args.width) ≤ length c.args.store.now
 inside c =
-    row_ends (entry_before_in_loop c).args.first (entry_before_in_loop c).args.width (entry_before_in_loop c).args.n c.before.loop.i (length (entry_before_in_loop c).args.store.now) c.loop_test.true (entry_before_in_loop c).requires.1
+    row_ends c.args.first c.args.width c.args.n c.loop-i.i (length c.args.store.now) c.loop-i-test.true c.requires.1
 
 -- it differs from those before it
-new : (c : tie.Joined1 invariant_loop decreases_loop) → two_differs (entry_before_joined1 c).args.store.now (entry_before_joined1 c).args.first (entry_before_joined1 c).args.width (at_loop_before_joined1 c).loop.i ≡ true
+new : (c : tie.Joined-is_above invariant_loop decreases_loop) → two_differs c.args.store.now c.args.first c.args.width c.loop-i.i ≡ true
 new c =
-    let a = (entry_before_joined1 c).args in
-    let l = (at_loop_before_joined1 c).loop in
+    let a = c.args in
+    let l = c.loop-i in
     ⊎_elim
     (λ w. ap not (most_new a.store.now a.first a.width l.i l.x l.y l.inv.2 (row a.store.now a.first a.width l.i)
-    (row_second a.store.now a.first a.width l.i) (sym c.before.is_above.ensures ∙ w.0.taken)))
+    (row_second a.store.now a.first a.width l.i) (sym c.is_above.ensures ∙ w.0.taken)))
     (λ w. upheld w.1.ensures w.2.left)
-    c.if1.branch
+    c.if-is_above.branch
 
 -- and none up to it is above the two words that are kept
-most : (c : tie.Joined1 invariant_loop decreases_loop) (j : ℕ) → j < (at_loop_before_joined1 c).loop.i + 1
-    → pair_above (row (entry_before_joined1 c).args.store.now (entry_before_joined1 c).args.first (entry_before_joined1 c).args.width j) (row_second (entry_before_joined1 c).args.store.now (entry_before_joined1 c).args.first (entry_before_joined1 c).args.width j) c.if1.x c.if1.y ≡ false
+most : (c : tie.Joined-is_above invariant_loop decreases_loop) (j : ℕ) → j < c.loop-i.i + 1
+    → pair_above (row c.args.store.now c.args.first c.args.width j) (row_second c.args.store.now c.args.first c.args.width j) c.if-is_above.x c.if-is_above.y ≡ false
 most c j h =
-    let a = (entry_before_joined1 c).args in
-    let l = (at_loop_before_joined1 c).loop in
+    let a = c.args in
+    let l = c.loop-i in
     ⊎_elim
     (λ w. rw (w.1, w.2, entry_before_joined1)
-    (most_raised a.store.now a.first a.width l.i l.x l.y l.inv.2 (sym c.before.is_above.ensures ∙ w.0.taken) j h))
+    (most_raised a.store.now a.first a.width l.i l.x l.y l.inv.2 (sym c.is_above.ensures ∙ w.0.taken) j h))
     (λ w. rw (w.3, w.4, entry_before_joined1)
-    (most_kept a.store.now a.first a.width l.i l.x l.y l.inv.2 (sym c.before.is_above.ensures ∙ w.0.left) j h))
-    c.if1.branch
+    (most_kept a.store.now a.first a.width l.i l.x l.y l.inv.2 (sym c.is_above.ensures ∙ w.0.left) j h))
+    c.if-is_above.branch
 
-loop_holds : tie.Need-loop-init invariant_loop decreases_loop
+loop_holds : tie.Need-loop-i-init invariant_loop decreases_loop
 unfolding twos_distinct each_below
 loop_holds c = (search rules, refl, λ j h. absurd (not-suc-le-zero h))
 
-mul_at : tie.Need-overflow-mul-at invariant_loop decreases_loop
+mul_at : tie.Need-overflow_mul-at invariant_loop decreases_loop
 mul_at c = let k = inside c in search rules
 
-add_at : tie.Need-overflow-add-at invariant_loop decreases_loop
+add_at : tie.Need-overflow_add-at invariant_loop decreases_loop
 add_at c = let k = inside c in search rules
 
-mul_a : tie.Need-overflow-mul-a invariant_loop decreases_loop
+mul_a : tie.Need-offset_bounds-store-at invariant_loop decreases_loop
 mul_a c = let k = inside c in search rules
 
-shared_slice_read_a : tie.Need-shared-slice-read-a invariant_loop decreases_loop
+shared_slice_read_a : tie.Need-bounds-store-at invariant_loop decreases_loop
 shared_slice_read_a c = let k = inside c.before in search rules
 
-add_b : tie.Need-overflow-add-b invariant_loop decreases_loop
+add_b : tie.Need-overflow_add-b invariant_loop decreases_loop
 add_b c = let k = inside c.before in search rules
 
-mul_b : tie.Need-overflow-mul-b invariant_loop decreases_loop
+mul_b : tie.Need-offset_bounds-store-at-in-loop-i invariant_loop decreases_loop
 mul_b c = let k = inside c.before in search rules
 
-shared_slice_read_b : tie.Need-shared-slice-read-b invariant_loop decreases_loop
+shared_slice_read_b : tie.Need-bounds-store-at-in-loop-i invariant_loop decreases_loop
 shared_slice_read_b c = let k = inside c.before.before in search rules
 
-is_above_requires : tie.Need-is-above-requires invariant_loop decreases_loop
+is_above_requires : tie.Need-is_above-requires invariant_loop decreases_loop
 is_above_requires c κs = search rules
 
-two_among_requires : tie.Need-two-among-requires invariant_loop decreases_loop
-two_among_requires c κs = let k = inside (in_loop_before_else1 c) in (search rules, omega arith)
+two_among_requires : tie.Need-two_among-requires invariant_loop decreases_loop
+two_among_requires c κs = let k = inside c.before.before.before.before in (search rules, omega arith)
 
-returns : tie.Need-returns invariant_loop decreases_loop
+returns : tie.Need-returns-then-two_among invariant_loop decreases_loop
 unfolding twos_distinct
 returns c =
-    let a = (entry_before_then2 c).args in
-    each_stop (two_differs a.store.now a.first a.width) a.n (at_loop_before_then2 c).loop.i (in_loop_before_then2 c).loop_test.true
-    (refuted c.before.two_among.ensures c.if2.true)
+    let a = c.args in
+    each_stop (two_differs a.store.now a.first a.width) a.n c.loop-i.i c.loop-i-test.true
+    (refuted c.two_among.ensures c.if-two_among.true)
 
-add_i : tie.Need-overflow-add-i invariant_loop decreases_loop
+add_i : tie.Need-overflow_add-i invariant_loop decreases_loop
 add_i c = search rules
 
-loop_less : tie.Need-loop-smaller invariant_loop decreases_loop
+loop_less : tie.Need-loop-i-smaller invariant_loop decreases_loop
 loop_less c = search rules
 
-loop_again : tie.Need-loop-preserved invariant_loop decreases_loop
+loop_again : tie.Need-loop-i-preserved invariant_loop decreases_loop
 unfolding twos_distinct
 loop_again c =
-    let a = (entry_before_joined1 c).args in (
+    let a = c.args in (
       search rules,
-      each_turn (two_differs a.store.now a.first a.width) (at_loop_before_joined1 c).loop.i (at_loop_before_joined1 c).loop.invariant.1 (new c),
+      each_turn (two_differs a.store.now a.first a.width) c.loop-i.i c.loop-i.invariant.1 (new c),
       most c,
     )
 
-returns_2 : tie.Need-returns-2 invariant_loop decreases_loop
+returns_2 : tie.Need-returns invariant_loop decreases_loop
 unfolding twos_distinct
 returns_2 c =
-    let a = (entry_before_after_loop c).args in
+    let a = c.args in
     each_end (two_differs a.store.now a.first a.width) a.n
-    c.before.loop.i c.before.loop.invariant.0 c.loop_test.false c.before.loop.invariant.1
+    c.loop-i.i c.loop-i.invariant.0 c.loop-i-test.false c.loop-i.invariant.1
 
 pub twos_distinct_spec : {M : Type 1} → statement M
-twos_distinct_spec =
-    tie.close
-    (tie.spec
-    invariant_loop
-    decreases_loop
-    loop_holds
-    mul_at
-    add_at
-    mul_a
-    shared_slice_read_a
-    add_b
-    mul_b
-    shared_slice_read_b
-    is_above_requires
-    two_among_requires
-    returns
-    add_i
-    loop_less
-    loop_again
-    returns_2)
+twos_distinct_spec = tie.close (tie.spec invariant_loop decreases_loop loop_holds mul_at add_at mul_a shared_slice_read_a add_b mul_b shared_slice_read_b is_above_requires two_among_requires returns add_i loop_less loop_again returns_2)

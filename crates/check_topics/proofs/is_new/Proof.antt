@@ -25,33 +25,14 @@ use Rattle.check_topics.proofs.is_new.Reads as reads
 use Rattle.check_topics.proofs.is_new.Lts as lts
 use Rattle.check_topics.proofs.is_other.Reads as is_other_reads
 
-abbrev invariant_loop : tie.invariant-loop
+abbrev invariant_loop : tie.invariant-loop-j
 invariant_loop store e t m ledger entry first j₀ j =
     (j ≤ m)
     × Passed (λ l. not (any (same_id (record { ledger = ledger; entry = entry })) (map (λ (x : StoredMessage). x.id) l)))
     (take m (topic_nth (decode store) t).messages) j
 
-abbrev decreases_loop : tie.decreases-loop
+abbrev decreases_loop : tie.decreases-loop-j
 decreases_loop store e t m ledger entry first j₀ j = m - j
-
--- the places: what stands before each, by name
-abbrev entry_before_in_loop : tie.In-loop invariant_loop decreases_loop → tie.Start invariant_loop decreases_loop
-entry_before_in_loop c = c.before.before.before
-
-abbrev entry_before_after_loop : tie.After-loop invariant_loop decreases_loop → tie.Start invariant_loop decreases_loop
-entry_before_after_loop c = c.before.before.before
-
-abbrev at_loop_before_then1 : tie.Then1 invariant_loop decreases_loop → tie.At-loop invariant_loop decreases_loop
-at_loop_before_then1 c = c.before.before.before
-
-abbrev entry_before_then1 : tie.Then1 invariant_loop decreases_loop → tie.Start invariant_loop decreases_loop
-entry_before_then1 c = entry_before_in_loop c.before.before
-
-abbrev at_loop_before_else1 : tie.Else1 invariant_loop decreases_loop → tie.At-loop invariant_loop decreases_loop
-at_loop_before_else1 c = c.before.before.before
-
-abbrev entry_before_else1 : tie.Else1 invariant_loop decreases_loop → tie.Start invariant_loop decreases_loop
-entry_before_else1 c = entry_before_in_loop c.before.before
 
 -- the id that is sought
 abbrev wanted : tie.Start invariant_loop decreases_loop → Id
@@ -67,100 +48,83 @@ steps : (i : Id)
 steps i = map_steps (λ (x : StoredMessage). x.id) (none_steps (same_id i))
 
 -- the place of a turn is among them
-here : (c : tie.In-loop invariant_loop decreases_loop) → c.before.loop.j < length (before (entry_before_in_loop c))
+here : (c : tie.In-loop-j invariant_loop decreases_loop) → c.loop-j.j < length (before c.before.before.before)
 here c =
-    let n = length-take-le (entry_before_in_loop c).args.m (topic_nth (decode (entry_before_in_loop c).args.store.now) (entry_before_in_loop c).args.t).messages (entry_before_in_loop c).requires.2 in
+    let n = length-take-le c.args.m (topic_nth (decode c.args.store.now) c.args.t).messages c.requires.2 in
     omega arith
 
 -- and in the store
-inside : (c : tie.In-loop invariant_loop decreases_loop)
-    → 2326 + (entry_before_in_loop c).args.t * (4 + 4 * (entry_before_in_loop c).args.e) + c.before.loop.j * 4 + 4 ≤ length (entry_before_in_loop c).args.store.now
+inside : (c : tie.In-loop-j invariant_loop decreases_loop)
+    → 2326 + c.args.t * (4 + 4 * c.args.e) + c.loop-j.j * 4 + 4 ≤ length c.args.store.now
 inside c =
-    let k = topic_inside (entry_before_in_loop c).requires.0 (entry_before_in_loop c).args.t (entry_before_in_loop c).requires.1 in
-    let f = messages_short (entry_before_in_loop c).requires.0 (entry_before_in_loop c).args.t (entry_before_in_loop c).requires.1 in
-    let l : c.before.loop.j < (entry_before_in_loop c).args.m = c.loop_test.true in
-    let b : (entry_before_in_loop c).args.m ≤ length (topic_nth (decode (entry_before_in_loop c).args.store.now) (entry_before_in_loop c).args.t).messages = (entry_before_in_loop c).requires.2 in
+    let k = topic_inside c.requires.0 c.args.t c.requires.1 in
+    let f = messages_short c.requires.0 c.args.t c.requires.1 in
+    let l : c.loop-j.j < c.args.m = c.loop-j-test.true in
+    let b : c.args.m ≤ length (topic_nth (decode c.args.store.now) c.args.t).messages = c.requires.2 in
     omega arith
 
 -- the test of the words there is that of the message
-read : (c : tie.In-loop invariant_loop decreases_loop)
-    → not (same_id (wanted (entry_before_in_loop c)) (record { ledger = get_or (entry_before_in_loop c).args.store.now (2326 + (entry_before_in_loop c).args.t * (4 + 4 * (entry_before_in_loop c).args.e) + c.before.loop.j * 4) 0; entry = get_or (entry_before_in_loop c).args.store.now (2326 + (entry_before_in_loop c).args.t * (4 + 4 * (entry_before_in_loop c).args.e) + c.before.loop.j * 4 + 1) 0 }))
-    ≡ not (same_id (wanted (entry_before_in_loop c)) (get_or (before (entry_before_in_loop c)) c.before.loop.j no_message).id)
+read : (c : tie.In-loop-j invariant_loop decreases_loop)
+    → not (same_id (wanted c.before.before.before) (record { ledger = get_or c.args.store.now (2326 + c.args.t * (4 + 4 * c.args.e) + c.loop-j.j * 4) 0; entry = get_or c.args.store.now (2326 + c.args.t * (4 + 4 * c.args.e) + c.loop-j.j * 4 + 1) 0 }))
+    ≡ not (same_id (wanted c.before.before.before) (get_or (before c.before.before.before) c.loop-j.j no_message).id)
 read c =
-    let a = (entry_before_in_loop c).args in
-    let j = c.before.loop.j in
+    let a = c.args in
+    let j = c.loop-j.j in
     let l = (topic_nth (decode a.store.now) a.t).messages in
-    let h : j < length l = omega (arith, c.loop_test.true, (entry_before_in_loop c).requires.2) in
+    let h : j < length l = omega (arith, c.loop-j-test.true, c.requires.2) in
     let n : 2326 + a.t * (4 + 4 * a.e) + j * 4 ≡ topic_at a.e a.t + message_in j = omega arith in
-    let x = ap (λ (k : ℕ). get_or a.store.now k 0) n ∙ read_message_ledger (entry_before_in_loop c).requires.0 a.t (entry_before_in_loop c).requires.1 j h in
-    let y = ap (λ (k : ℕ). get_or a.store.now (k + 1) 0) n ∙ read_message_entry (entry_before_in_loop c).requires.0 a.t (entry_before_in_loop c).requires.1 j h in
-    ap (λ (i : Id). not (same_id (wanted (entry_before_in_loop c)) i))
-    (id_read (get_or l j no_message).id x y ∙ ap (λ (z : StoredMessage). z.id) (sym (get_or-take a.m l j no_message c.loop_test.true)))
+    let x = ap (λ (k : ℕ). get_or a.store.now k 0) n ∙ read_message_ledger c.requires.0 a.t c.requires.1 j h in
+    let y = ap (λ (k : ℕ). get_or a.store.now (k + 1) 0) n ∙ read_message_entry c.requires.0 a.t c.requires.1 j h in
+    ap (λ (i : Id). not (same_id (wanted c.before.before.before) i))
+    (id_read (get_or l j no_message).id x y ∙ ap (λ (z : StoredMessage). z.id) (sym (get_or-take a.m l j no_message c.loop-j-test.true)))
 
-mul_first : tie.Need-overflow-mul-first invariant_loop decreases_loop
+mul_first : tie.Need-overflow_mul-first invariant_loop decreases_loop
 mul_first c = search rules
 
-add_first : tie.Need-overflow-add-first invariant_loop decreases_loop
+add_first : tie.Need-overflow_add-first invariant_loop decreases_loop
 add_first c = search rules
 
-mul_first_2 : tie.Need-overflow-mul-first-2 invariant_loop decreases_loop
-mul_first_2 c = let k = topic_inside c.before.requires.0 c.before.args.t c.before.requires.1 in search rules
+mul_first_2 : tie.Need-overflow_mul-first-2 invariant_loop decreases_loop
+mul_first_2 c = let k = topic_inside c.requires.0 c.args.t c.requires.1 in search rules
 
-add_first_2 : tie.Need-overflow-add-first-2 invariant_loop decreases_loop
-add_first_2 c = let k = topic_inside c.before.requires.0 c.before.args.t c.before.requires.1 in search rules
+add_first_2 : tie.Need-overflow_add-first-2 invariant_loop decreases_loop
+add_first_2 c = let k = topic_inside c.requires.0 c.args.t c.requires.1 in search rules
 
-loop_holds : tie.Need-loop-init invariant_loop decreases_loop
+loop_holds : tie.Need-loop-j-init invariant_loop decreases_loop
 loop_holds c = (search rules, passed_start (steps (wanted c.before)) (before c.before))
 
-mul_is_other : tie.Need-overflow-mul-is-other invariant_loop decreases_loop
+mul_is_other : tie.Need-overflow_mul-j invariant_loop decreases_loop
 mul_is_other c = let k = inside c in search rules
 
-add_is_other : tie.Need-overflow-add-is-other invariant_loop decreases_loop
+add_is_other : tie.Need-overflow_add-first-in-loop-j invariant_loop decreases_loop
 add_is_other c = let k = inside c in search rules
 
-is_other_requires : tie.Need-is-other-requires invariant_loop decreases_loop
+is_other_requires : tie.Need-is_other-requires invariant_loop decreases_loop
 is_other_requires c κs = let k = inside c in omega arith
 
-returns : tie.Need-returns invariant_loop decreases_loop
+returns : tie.Need-returns-then-not-is_other invariant_loop decreases_loop
 returns c =
-    passed_stop (steps (wanted (entry_before_then1 c))) (before (entry_before_then1 c)) (at_loop_before_then1 c).loop.j no_message (here c.before.before) (at_loop_before_then1 c).loop.invariant.1
-    (sym (read c.before.before) ∙ answered_no c.before.is_other.ensures c.if1.true)
+    passed_stop (steps (wanted c.before.before.before.before.before)) (before c.before.before.before.before.before) c.loop-j.j no_message (here c.before.before) c.loop-j.invariant.1
+    (sym (read c.before.before) ∙ answered_no c.is_other.ensures c.if-not-is_other.true)
 
-add_j : tie.Need-overflow-add-j invariant_loop decreases_loop
+add_j : tie.Need-overflow_add-j invariant_loop decreases_loop
 add_j c = search rules
 
-loop_less : tie.Need-loop-smaller invariant_loop decreases_loop
+loop_less : tie.Need-loop-j-smaller invariant_loop decreases_loop
 loop_less c = search rules
 
-loop_again : tie.Need-loop-preserved invariant_loop decreases_loop
+loop_again : tie.Need-loop-j-preserved invariant_loop decreases_loop
 loop_again c = (
   search rules,
-  passed_turn (steps (wanted (entry_before_else1 c))) (before (entry_before_else1 c)) (at_loop_before_else1 c).loop.j no_message (here c.before.before) (at_loop_before_else1 c).loop.invariant.1
-      (sym (read c.before.before) ∙ answered_yes c.before.is_other.ensures c.if1.false),
+  passed_turn (steps (wanted c.before.before.before.before.before)) (before c.before.before.before.before.before) c.loop-j.j no_message (here c.before.before) c.loop-j.invariant.1
+      (sym (read c.before.before) ∙ answered_yes c.is_other.ensures c.if-not-is_other.false),
 )
 
-returns_2 : tie.Need-returns-2 invariant_loop decreases_loop
+returns_2 : tie.Need-returns invariant_loop decreases_loop
 returns_2 c =
-    let n = length-take-le (entry_before_after_loop c).args.m (topic_nth (decode (entry_before_after_loop c).args.store.now) (entry_before_after_loop c).args.t).messages (entry_before_after_loop c).requires.2 in
-    let l : length (before (entry_before_after_loop c)) ≤ c.before.loop.j = omega arith in
-    passed_end (steps (wanted (entry_before_after_loop c))) (before (entry_before_after_loop c)) c.before.loop.j l c.before.loop.invariant.1
+    let n = length-take-le c.args.m (topic_nth (decode c.args.store.now) c.args.t).messages c.requires.2 in
+    let l : length (before c.before.before.before) ≤ c.loop-j.j = omega arith in
+    passed_end (steps (wanted c.before.before.before)) (before c.before.before.before) c.loop-j.j l c.loop-j.invariant.1
 
 pub is_new_spec : {M : Type 1} → statement M
-is_new_spec =
-    tie.close
-    (tie.spec
-    invariant_loop
-    decreases_loop
-    mul_first
-    add_first
-    mul_first_2
-    add_first_2
-    loop_holds
-    mul_is_other
-    add_is_other
-    is_other_requires
-    returns
-    add_j
-    loop_less
-    loop_again
-    returns_2)
+is_new_spec = tie.close (tie.spec invariant_loop decreases_loop mul_first add_first mul_first_2 add_first_2 loop_holds mul_is_other add_is_other is_other_requires returns add_j loop_less loop_again returns_2)

@@ -18,232 +18,161 @@ use Rattle.check_rows.proofs.RowOrder.{above_first, above_second, ascend_turn, a
 use Rattle.check_topics.proofs.messages_ascend.Statement.{statement}
 use Rattle.check_topics.proofs.messages_ascend.Tie as tie
 
-abbrev invariant_loop : tie.invariant-loop
+abbrev invariant_loop : tie.invariant-loop-m
 invariant_loop store first n ledger₀ entry₀ m₀ ledger entry m =
     (1 ≤ m) × (m ≤ n) × (ledger ≡ row store first 4 (m - 1)) × (entry ≡ row_second store first 4 (m - 1))
     × (each_below (batch_right store first) m ≡ true) × (each_below (two_ascends store first 4) (m - 1) ≡ true)
 
-abbrev decreases_loop : tie.decreases-loop
+abbrev decreases_loop : tie.decreases-loop-m
 decreases_loop store first n ledger₀ entry₀ m₀ ledger entry m = n - m
 
--- the places: what stands before each, by name
-abbrev shared_slice_known_before_shared_slice_known3 : tie.After-shared-slice-known3 invariant_loop decreases_loop → tie.After-shared-slice-known invariant_loop decreases_loop
-shared_slice_known_before_shared_slice_known3 c = c.before.before.before
-
-abbrev entry_before_shared_slice_known3 : tie.After-shared-slice-known3 invariant_loop decreases_loop → tie.Start invariant_loop decreases_loop
-entry_before_shared_slice_known3 c = (shared_slice_known_before_shared_slice_known3 c).before
-
-abbrev entry_before_in_loop : tie.In-loop invariant_loop decreases_loop → tie.Start invariant_loop decreases_loop
-entry_before_in_loop c = entry_before_shared_slice_known3 c.before.before
-
-abbrev entry_before_after_loop : tie.After-loop invariant_loop decreases_loop → tie.Start invariant_loop decreases_loop
-entry_before_after_loop c = entry_before_shared_slice_known3 c.before.before
-
-abbrev at_loop_before_then2 : tie.Then2 invariant_loop decreases_loop → tie.At-loop invariant_loop decreases_loop
-at_loop_before_then2 c = c.before.before.before
-
-abbrev entry_before_then2 : tie.Then2 invariant_loop decreases_loop → tie.Start invariant_loop decreases_loop
-entry_before_then2 c = entry_before_in_loop c.before.before
-
-abbrev else2_before_joined3 : tie.Joined3 invariant_loop decreases_loop → tie.Else2 invariant_loop decreases_loop
-else2_before_joined3 c = c.before.before.before
-
-abbrev at_loop_before_joined3 : tie.Joined3 invariant_loop decreases_loop → tie.At-loop invariant_loop decreases_loop
-at_loop_before_joined3 c = (else2_before_joined3 c).before.before.before
-
-abbrev entry_before_joined3 : tie.Joined3 invariant_loop decreases_loop → tie.Start invariant_loop decreases_loop
-entry_before_joined3 c = entry_before_shared_slice_known3 (at_loop_before_joined3 c).before
-
-abbrev in_loop_before_then4 : tie.Then4 invariant_loop decreases_loop → tie.In-loop invariant_loop decreases_loop
-in_loop_before_then4 c = c.before.before.before.before.before.before
-
-abbrev in_loop_before_then5 : tie.Then5 invariant_loop decreases_loop → tie.In-loop invariant_loop decreases_loop
-in_loop_before_then5 c = c.before.before.before.before.before.before
-
-abbrev at_loop_before_then5 : tie.Then5 invariant_loop decreases_loop → tie.At-loop invariant_loop decreases_loop
-at_loop_before_then5 c = (in_loop_before_then5 c).before
-
-abbrev entry_before_then5 : tie.Then5 invariant_loop decreases_loop → tie.Start invariant_loop decreases_loop
-entry_before_then5 c = entry_before_in_loop (in_loop_before_then5 c)
-
 -- the first size
-first_size : (c : tie.After-shared-slice-known invariant_loop decreases_loop) → batch_right c.before.args.store.now c.before.args.first 0 ≡ leb (get_or c.before.args.store.now (c.before.args.first + 3) 0) 256
-first_size c = let e : c.before.args.first + 0 * 4 + 3 ≡ c.before.args.first + 3 = omega arith in ap (λ (k : ℕ). leb (get_or c.before.args.store.now k 0) 256) e
+first_size : (c : tie.After-shared_slice_known-1 invariant_loop decreases_loop) → batch_right c.args.store.now c.args.first 0 ≡ leb (get_or c.args.store.now (c.args.first + 3) 0) 256
+first_size c = let e : c.args.first + 0 * 4 + 3 ≡ c.args.first + 3 = omega arith in ap (λ (k : ℕ). leb (get_or c.args.store.now k 0) 256) e
 
-add_if1 : tie.Need-overflow-add-if1 invariant_loop decreases_loop
+add_if1 : tie.Need-overflow_add-first invariant_loop decreases_loop
 add_if1 c = search rules
 
-mul_if1 : tie.Need-overflow-mul-if1 invariant_loop decreases_loop
+mul_if1 : tie.Need-offset_bounds-store-first invariant_loop decreases_loop
 mul_if1 c = search rules
 
-shared_slice_read_if1 : tie.Need-shared-slice-read-if1 invariant_loop decreases_loop
+shared_slice_read_if1 : tie.Need-bounds-store-first invariant_loop decreases_loop
 shared_slice_read_if1 c = search rules
 
-returns : tie.Need-returns invariant_loop decreases_loop
+returns : tie.Need-returns-then-store-first-gt-MOST_BATCH invariant_loop decreases_loop
 unfolding messages_ascend
 returns c =
-    let a = c.before.before.args in
-    fails _ (sym (each_stop (batch_right a.store.now a.first) a.n 0 c.before.before.requires.0 (first_size c.before ∙ lt-leb _ 256 c.if1.true)))
+    let a = c.args in
+    fails _ (sym (each_stop (batch_right a.store.now a.first) a.n 0 c.requires.0 (first_size c.before ∙ lt-leb _ 256 c.if-store-first-gt-MOST_BATCH.true)))
 
-mul_ledger : tie.Need-overflow-mul-ledger invariant_loop decreases_loop
+mul_ledger : tie.Need-offset_bounds-store-first-2 invariant_loop decreases_loop
 mul_ledger c = search rules
 
-shared_slice_read_ledger : tie.Need-shared-slice-read-ledger invariant_loop decreases_loop
+shared_slice_read_ledger : tie.Need-bounds-store-first-2 invariant_loop decreases_loop
 shared_slice_read_ledger c = search rules
 
-add_entry : tie.Need-overflow-add-entry invariant_loop decreases_loop
+add_entry : tie.Need-overflow_add-entry invariant_loop decreases_loop
 add_entry c = search rules
 
-mul_entry : tie.Need-overflow-mul-entry invariant_loop decreases_loop
+mul_entry : tie.Need-offset_bounds-store-first-3 invariant_loop decreases_loop
 mul_entry c = search rules
 
-shared_slice_read_entry : tie.Need-shared-slice-read-entry invariant_loop decreases_loop
+shared_slice_read_entry : tie.Need-bounds-store-first-3 invariant_loop decreases_loop
 shared_slice_read_entry c = search rules
 
-loop_holds : tie.Need-loop-init invariant_loop decreases_loop
+loop_holds : tie.Need-loop-m-init invariant_loop decreases_loop
 unfolding each_below
 loop_holds c =
-    let x = (entry_before_shared_slice_known3 c).args in (
+    let x = c.args in (
       omega arith,
-      (entry_before_shared_slice_known3 c).requires.0,
+      c.requires.0,
       row_none x.store.now x.first 4,
       second_none x.store.now x.first 4,
-      first_size (shared_slice_known_before_shared_slice_known3 c) ∙ le-leb _ 256 c.before.before.if1.false,
+      first_size c.before.before.before ∙ le-leb _ 256 c.if-store-first-gt-MOST_BATCH.false,
       refl,
     )
 
-mul_at : tie.Need-overflow-mul-at invariant_loop decreases_loop
+mul_at : tie.Need-overflow_mul-at invariant_loop decreases_loop
 mul_at c = search rules
 
-add_at : tie.Need-overflow-add-at invariant_loop decreases_loop
+add_at : tie.Need-overflow_add-at invariant_loop decreases_loop
 add_at c = search rules
 
-add_if2 : tie.Need-overflow-add-if2 invariant_loop decreases_loop
+add_if2 : tie.Need-overflow_add-at-in-loop-m invariant_loop decreases_loop
 add_if2 c = search rules
 
-mul_if2 : tie.Need-overflow-mul-if2 invariant_loop decreases_loop
+mul_if2 : tie.Need-offset_bounds-store-at invariant_loop decreases_loop
 mul_if2 c = search rules
 
-shared_slice_read_if2 : tie.Need-shared-slice-read-if2 invariant_loop decreases_loop
+shared_slice_read_if2 : tie.Need-bounds-store-at invariant_loop decreases_loop
 shared_slice_read_if2 c = search rules
 
-returns_2 : tie.Need-returns-2 invariant_loop decreases_loop
+returns_2 : tie.Need-returns-then-store-at-gt-MOST_BATCH invariant_loop decreases_loop
 unfolding messages_ascend
 returns_2 c =
-    let a = (entry_before_then2 c).args in
-    fails _ (sym (each_stop (batch_right a.store.now a.first) a.n (at_loop_before_then2 c).loop.m c.before.before.loop_test.true (lt-leb _ 256 c.if2.true)))
+    let a = c.args in
+    fails _ (sym (each_stop (batch_right a.store.now a.first) a.n c.loop-m.m c.loop-m-test.true (lt-leb _ 256 c.if-store-at-gt-MOST_BATCH.true)))
 
-mul_x : tie.Need-overflow-mul-x invariant_loop decreases_loop
+mul_x : tie.Need-offset_bounds-store-at-in-loop-m invariant_loop decreases_loop
 mul_x c = search rules
 
-shared_slice_read_x : tie.Need-shared-slice-read-x invariant_loop decreases_loop
+shared_slice_read_x : tie.Need-bounds-store-at-in-loop-m invariant_loop decreases_loop
 shared_slice_read_x c = search rules
 
-add_y : tie.Need-overflow-add-y invariant_loop decreases_loop
+add_y : tie.Need-overflow_add-y invariant_loop decreases_loop
 add_y c = search rules
 
-mul_y : tie.Need-overflow-mul-y invariant_loop decreases_loop
+mul_y : tie.Need-offset_bounds-store-at-in-loop-m-2 invariant_loop decreases_loop
 mul_y c = search rules
 
-shared_slice_read_y : tie.Need-shared-slice-read-y invariant_loop decreases_loop
+shared_slice_read_y : tie.Need-bounds-store-at-in-loop-m-2 invariant_loop decreases_loop
 shared_slice_read_y c = search rules
 
 -- an id that is not above the one before it
-refused : (c : tie.In-loop invariant_loop decreases_loop)
-    → pair_above (row (entry_before_in_loop c).args.store.now (entry_before_in_loop c).args.first 4 c.before.loop.m) (row_second (entry_before_in_loop c).args.store.now (entry_before_in_loop c).args.first 4 c.before.loop.m) c.before.loop.ledger c.before.loop.entry ≡ false
-    → false ≡ messages_ascend (entry_before_in_loop c).args.store.now (entry_before_in_loop c).args.first (entry_before_in_loop c).args.n
+refused : (c : tie.In-loop-m invariant_loop decreases_loop)
+    → pair_above (row c.args.store.now c.args.first 4 c.loop-m.m) (row_second c.args.store.now c.args.first 4 c.loop-m.m) c.loop-m.ledger c.loop-m.entry ≡ false
+    → false ≡ messages_ascend c.args.store.now c.args.first c.args.n
 unfolding messages_ascend twos_ascend
 refused c f =
-    let x = (entry_before_in_loop c).args in
-    let l = c.before.loop in
+    let x = c.args in
+    let l = c.loop-m in
     let h : 1 ≤ l.m = l.invariant.0 in
-    let k = c.loop_test.true in
+    let k = c.loop-m-test.true in
     let no : each_below (two_ascends x.store.now x.first 4) (x.n - 1) ≡ false =
     sym (each_stop (two_ascends x.store.now x.first 4) (x.n - 1) (l.m - 1) (omega arith)
     (ascend_turn x.store.now x.first 4 l.m l.ledger l.entry h l.invariant.2 l.invariant.3 f)) in
     sym (ap (λ (t : Bool). each_below (batch_right x.store.now x.first) x.n && t) no ∙ and-false (each_below (batch_right x.store.now x.first) x.n))
 
-returns_3 : tie.Need-returns-3 invariant_loop decreases_loop
-returns_3 c = refused (in_loop_before_then4 c) (sym (above_second _ _ _ _ c.before.if3.true) ∙ le-ltb _ _ c.if4.true)
+returns_3 : tie.Need-returns-then-y-entry invariant_loop decreases_loop
+returns_3 c = refused c.before.before.before.before.before.before (sym (above_second _ _ _ _ c.if-x-ledger.true) ∙ le-ltb _ _ c.if-y-entry.true)
 
-returns_4 : tie.Need-returns-4 invariant_loop decreases_loop
+returns_4 : tie.Need-returns-then-x-ledger-2 invariant_loop decreases_loop
 returns_4 c =
-    let a = (entry_before_then5 c).args in
-    let h = c.if5.true in
-    refused (in_loop_before_then5 c) (sym (above_first _ _ _ _ c.before.if3.false) ∙ le-ltb (at_loop_before_then5 c).loop.ledger (row a.store.now a.first 4 (at_loop_before_then5 c).loop.m) (omega arith))
+    let a = c.args in
+    let h = c.if-x-ledger-2.true in
+    refused c.before.before.before.before.before.before (sym (above_first _ _ _ _ c.if-x-ledger.false) ∙ le-ltb c.loop-m.ledger (row a.store.now a.first 4 c.loop-m.m) (omega arith))
 
 -- past the tests the id is above the one before it, and is kept
-above : (c : tie.Joined3 invariant_loop decreases_loop)
-    → (pair_above (row (entry_before_joined3 c).args.store.now (entry_before_joined3 c).args.first 4 (at_loop_before_joined3 c).loop.m) (row_second (entry_before_joined3 c).args.store.now (entry_before_joined3 c).args.first 4 (at_loop_before_joined3 c).loop.m) (at_loop_before_joined3 c).loop.ledger (at_loop_before_joined3 c).loop.entry ≡ true)
-    × (c.if3.ledger ≡ row (entry_before_joined3 c).args.store.now (entry_before_joined3 c).args.first 4 (at_loop_before_joined3 c).loop.m)
+above : (c : tie.Joined-x-ledger invariant_loop decreases_loop)
+    → (pair_above (row c.args.store.now c.args.first 4 c.loop-m.m) (row_second c.args.store.now c.args.first 4 c.loop-m.m) c.loop-m.ledger c.loop-m.entry ≡ true)
+    × (c.if-x-ledger.ledger ≡ row c.args.store.now c.args.first 4 c.loop-m.m)
 above c =
-    let a = (entry_before_joined3 c).args in
-    let x : ℕ = row a.store.now a.first 4 (at_loop_before_joined3 c).loop.m in
+    let a = c.args in
+    let x : ℕ = row a.store.now a.first 4 c.loop-m.m in
     ⊎_elim
     (λ w. (sym (above_second _ _ _ _ w.0.taken) ∙ lt-ltb _ _ w.1.left, w.2 ∙ sym w.0.taken))
-    (λ w. (sym (above_first _ _ _ _ w.0.left) ∙ lt-ltb (at_loop_before_joined3 c).loop.ledger x (omega (arith, w.0.left, w.1.left)), w.2))
-    c.if3.branch
+    (λ w. (sym (above_first _ _ _ _ w.0.left) ∙ lt-ltb c.loop-m.ledger x (omega (arith, w.0.left, w.1.left)), w.2))
+    c.if-x-ledger.branch
 
-add_m : tie.Need-overflow-add-m invariant_loop decreases_loop
+add_m : tie.Need-overflow_add-m invariant_loop decreases_loop
 add_m c = search rules
 
-loop_less : tie.Need-loop-smaller invariant_loop decreases_loop
+loop_less : tie.Need-loop-m-smaller invariant_loop decreases_loop
 loop_less c = search rules
 
-loop_again : tie.Need-loop-preserved invariant_loop decreases_loop
+loop_again : tie.Need-loop-m-preserved invariant_loop decreases_loop
 loop_again c =
-    let x = (entry_before_joined3 c).args in
-    let l = (at_loop_before_joined3 c).loop in
+    let x = c.args in
+    let l = c.loop-m in
     let e : l.m + 1 - 1 ≡ l.m = omega arith in (
       omega arith,
       omega arith,
       rw e (above c).1,
       rw e,
-      each_turn (batch_right x.store.now x.first) l.m l.inv.4 (le-leb _ 256 (else2_before_joined3 c).if2.false),
+      each_turn (batch_right x.store.now x.first) l.m l.inv.4 (le-leb _ 256 c.if-store-at-gt-MOST_BATCH.false),
       rw e
           (ascend_next x.store.now x.first 4 l.m l.inv.0 l.inv.5
           (ascend_turn x.store.now x.first 4 l.m l.ledger l.entry l.inv.0 l.inv.2 l.inv.3 (above c).0)),
     )
 
-returns_5 : tie.Need-returns-5 invariant_loop decreases_loop
+returns_5 : tie.Need-returns invariant_loop decreases_loop
 unfolding messages_ascend twos_ascend
 returns_5 c =
-    let x = (entry_before_after_loop c).args in
-    let l = c.before.loop in
-    let k = c.loop_test.false in
+    let x = c.args in
+    let l = c.loop-m in
+    let k = c.loop-m-test.false in
     passes (sym (each_end (batch_right x.store.now x.first) x.n l.m l.invariant.1 k l.invariant.4))
     (each_end (two_ascends x.store.now x.first 4) (x.n - 1) (l.m - 1) (omega arith) (omega arith) l.invariant.5)
 
 pub messages_ascend_spec : {M : Type 1} → statement M
-messages_ascend_spec =
-    tie.close
-    (tie.spec
-    invariant_loop
-    decreases_loop
-    add_if1
-    mul_if1
-    shared_slice_read_if1
-    returns
-    mul_ledger
-    shared_slice_read_ledger
-    add_entry
-    mul_entry
-    shared_slice_read_entry
-    loop_holds
-    mul_at
-    add_at
-    add_if2
-    mul_if2
-    shared_slice_read_if2
-    returns_2
-    mul_x
-    shared_slice_read_x
-    add_y
-    mul_y
-    shared_slice_read_y
-    returns_3
-    returns_4
-    add_m
-    loop_less
-    loop_again
-    returns_5)
+messages_ascend_spec = tie.close (tie.spec invariant_loop decreases_loop add_if1 mul_if1 shared_slice_read_if1 returns mul_ledger shared_slice_read_ledger add_entry mul_entry shared_slice_read_entry loop_holds mul_at add_at add_if2 mul_if2 shared_slice_read_if2 returns_2 mul_x shared_slice_read_x add_y mul_y shared_slice_read_y returns_3 returns_4 add_m loop_less loop_again returns_5)

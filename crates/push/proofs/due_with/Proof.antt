@@ -16,57 +16,36 @@ use borrow.Author.Rules.{rules}
 use Rattle.push.proofs.due_with.Statement.{statement}
 use Rattle.push.proofs.due_with.Tie as tie
 
--- the places: what stands before each, by name
-abbrev entry_before_load_permits_arg : tie.After-load-permits-arg → tie.Start
-entry_before_load_permits_arg c = c.before.before.before
-
-abbrev due_shared_before_due_plain : tie.After-due-plain → tie.After-due-shared
-due_shared_before_due_plain c = c.before.before.before.before
-
-abbrev load_permits_before_due_plain : tie.After-due-plain → tie.After-load-permits
-load_permits_before_due_plain c = (due_shared_before_due_plain c).before.before.before.before
-
-abbrev entry_before_due_plain : tie.After-due-plain → tie.Start
-entry_before_due_plain c = entry_before_load_permits_arg (load_permits_before_due_plain c).before
-
 -- the sum is the number due
-counted : (c : tie.After-due-plain) → (due_shared_before_due_plain c).due_shared.result + c.due_plain.result ≡ length (local_push (decode (entry_before_due_plain c).args.store.now)).dispatched
+counted : (c : tie.After-due_plain) → c.due_shared-shared.result + c.due_plain.result ≡ length (local_push (decode c.args.store.now)).dispatched
 counted c =
-    let s = decode (entry_before_due_plain c).args.store.now in
-    let p = (load_permits_before_due_plain c).load_permits.ensures in
-    let a = (due_shared_before_due_plain c).due_shared.ensures.0 ∙ ap (λ (q : List ℕ). length (all_service_records s (services s s.dispatchers q))) p in
-    let l = (due_shared_before_due_plain c).due_shared.ensures.1 ∙ ap (λ (q : List ℕ). permits_left q (services s s.dispatchers q)) p in
+    let s = decode c.args.store.now in
+    let p = c.load_permits.ensures in
+    let a = c.due_shared-shared.ensures.0 ∙ ap (λ (q : List ℕ). length (all_service_records s (services s s.dispatchers q))) p in
+    let l = c.due_shared-shared.ensures.1 ∙ ap (λ (q : List ℕ). permits_left q (services s s.dispatchers q)) p in
     let b = c.due_plain.ensures ∙ ap (λ (q : List ℕ). length (all_plain_records s (with_each s.consumers q))) l in
     ap₂ {A = ℕ} {B = ℕ} {C = ℕ} ◌+◌ a b ∙ all_counted s
 
-load_permits_requires : tie.Need-load-permits-requires
-load_permits_requires c κs = (canon_of (entry_before_load_permits_arg c).args.e (entry_before_load_permits_arg c).args.store.now (entry_before_load_permits_arg c).requires.0 (entry_before_load_permits_arg c).requires.1, (entry_before_load_permits_arg c).requires.2)
+load_permits_requires : tie.Need-load_permits-requires
+load_permits_requires c κs = (canon_of c.args.e c.args.store.now c.requires.0 c.requires.1, c.requires.2)
 
-due_shared_requires : tie.Need-due-shared-requires
+due_shared_requires : tie.Need-due_shared-shared-requires
 due_shared_requires c κs = search rules
 
-due_plain_requires : tie.Need-due-plain-requires
+due_plain_requires : tie.Need-due_plain-requires
 due_plain_requires c κs = search rules
 
-add_result : tie.Need-overflow-add-result
+add_result : tie.Need-overflow_add-result
 add_result c =
     let n = counted c in
-    let f = due_small (decode (entry_before_due_plain c).args.store.now) (canon_of (entry_before_due_plain c).args.e (entry_before_due_plain c).args.store.now (entry_before_due_plain c).requires.0 (entry_before_due_plain c).requires.1).shaped in
+    let f = due_small (decode c.args.store.now) (canon_of c.args.e c.args.store.now c.requires.0 c.requires.1).shaped in
     omega (arith, n, f)
 
-same_length : tie.Need-same-length
+same_length : tie.Need-shape_of-permits
 same_length c = search rules
 
 returns : tie.Need-returns
 returns c = counted c
 
 pub due_with_spec : {M : Type 1} → statement M
-due_with_spec =
-    tie.close
-    (tie.spec
-    load_permits_requires
-    due_shared_requires
-    due_plain_requires
-    add_result
-    same_length
-    returns)
+due_with_spec = tie.close (tie.spec load_permits_requires due_shared_requires due_plain_requires add_result same_length returns)

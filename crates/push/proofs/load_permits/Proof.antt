@@ -14,81 +14,58 @@ use borrow.Author.Rules.{rules}
 use Rattle.push.proofs.load_permits.Statement.{statement}
 use Rattle.push.proofs.load_permits.Tie as tie
 
-abbrev invariant_loop : tie.invariant-loop
+abbrev invariant_loop : tie.invariant-loop-i
 invariant_loop store e list₀ i₀ list i = (length list ≡ length list₀) × (list ≡ take i (permits_now (decode store)) ++ drop i list₀)
 
-abbrev decreases_loop : tie.decreases-loop
+abbrev decreases_loop : tie.decreases-loop-i
 decreases_loop store e list₀ i₀ list i = length list₀ - i
 
--- the places: what stands before each, by name
-abbrev entry_before_in_loop : tie.In-loop invariant_loop decreases_loop → tie.Start invariant_loop decreases_loop
-entry_before_in_loop c = c.before.before.before.before
-
-abbrev entry_before_after_loop : tie.After-loop invariant_loop decreases_loop → tie.Start invariant_loop decreases_loop
-entry_before_after_loop c = c.before.before.before.before
-
-abbrev entry_before_permits : tie.After-permits invariant_loop decreases_loop → tie.Start invariant_loop decreases_loop
-entry_before_permits c = entry_before_in_loop c.before
-
 -- the consumer of a turn is there
-here : (c : tie.In-loop invariant_loop decreases_loop) → c.before.loop.i < length (decode (entry_before_in_loop c).args.store.now).consumers
-here c = let a = c.loop_test.true in let b = c.before.loop.invariant.0 in let p = (entry_before_in_loop c).requires.1 in omega (arith, a, b, p)
+here : (c : tie.In-loop-i invariant_loop decreases_loop) → c.loop-i.i < length (decode c.args.store.now).consumers
+here c = let a = c.loop-i-test.true in let b = c.loop-i.invariant.0 in let p = c.requires.1 in omega (arith, a, b, p)
 
-loop_holds : tie.Need-loop-init invariant_loop decreases_loop
+loop_holds : tie.Need-loop-i-init invariant_loop decreases_loop
 loop_holds c = (refl, refl)
 
 permits_requires : tie.Need-permits-requires invariant_loop decreases_loop
-permits_requires c κs = consumer_in (entry_before_in_loop c).requires.0 c.before.loop.i (here c)
+permits_requires c κs = consumer_in c.requires.0 c.loop-i.i (here c)
 
-mul_list : tie.Need-overflow-mul-list invariant_loop decreases_loop
-mul_list c = let l = here c.before in let f = (entry_before_permits c).requires.0.shaped.consumers_fit in omega (arith, l, f)
+mul_list : tie.Need-offset_bounds-list-i invariant_loop decreases_loop
+mul_list c = let l = here c.before in let f = c.requires.0.shaped.consumers_fit in omega (arith, l, f)
 
-slice_write_list : tie.Need-slice-write-list invariant_loop decreases_loop
+slice_write_list : tie.Need-bounds-list-i invariant_loop decreases_loop
 slice_write_list c = search rules
 
-add_i : tie.Need-overflow-add-i invariant_loop decreases_loop
-add_i c = let l = here c.before in let f = (entry_before_permits c).requires.0.shaped.consumers_fit in omega (arith, l, f)
+add_i : tie.Need-overflow_add-i invariant_loop decreases_loop
+add_i c = let l = here c.before in let f = c.requires.0.shaped.consumers_fit in omega (arith, l, f)
 
-loop_less : tie.Need-loop-smaller invariant_loop decreases_loop
-loop_less c = let a = c.before.loop_test.true in let b = c.before.before.loop.invariant.0 in omega (arith, a, b)
+loop_less : tie.Need-loop-i-smaller invariant_loop decreases_loop
+loop_less c = let a = c.loop-i-test.true in let b = c.loop-i.invariant.0 in omega (arith, a, b)
 
-loop_again : tie.Need-loop-preserved invariant_loop decreases_loop
+loop_again : tie.Need-loop-i-preserved invariant_loop decreases_loop
 loop_again c =
-    let s = decode (entry_before_permits c).args.store.now in
-    let list = (entry_before_permits c).args.list.now in
-    let i = c.before.before.loop.i in
-    let n : length (permits_now s) ≡ length list = length_permits s ∙ sym (entry_before_permits c).requires.1 in
-    let l : i < length list = rw (entry_before_permits c).requires.1 (here c.before) in (
-      length-set c.before.before.loop.list i c.permits.result ∙ c.before.before.loop.invariant.0,
-      ap₂ {A = List ℕ} {B = ℕ} {C = List ℕ} (λ r v. set r i v) c.before.before.loop.invariant.1 (c.permits.ensures ∙ sym (permits_nth s i (here c.before)))
+    let s = decode c.args.store.now in
+    let list = c.args.list.now in
+    let i = c.loop-i.i in
+    let n : length (permits_now s) ≡ length list = length_permits s ∙ sym c.requires.1 in
+    let l : i < length list = rw c.requires.1 (here c.before) in (
+      length-set c.loop-i.list i c.permits.result ∙ c.loop-i.invariant.0,
+      ap₂ {A = List ℕ} {B = ℕ} {C = List ℕ} (λ r v. set r i v) c.loop-i.invariant.1 (c.permits.ensures ∙ sym (permits_nth s i (here c.before)))
           ∙ over_set (permits_now s) list i 0 n l
           ∙ ap (λ (k : ℕ). take k (permits_now s) ++ drop k list) (sym (add-one i)),
     )
 
-same_length : tie.Need-same-length invariant_loop decreases_loop
-same_length c = c.before.loop.invariant.0
+same_length : tie.Need-shape_of-list invariant_loop decreases_loop
+same_length c = c.loop-i.invariant.0
 
 returns : tie.Need-returns invariant_loop decreases_loop
 returns c =
-    let s = decode (entry_before_after_loop c).args.store.now in
-    let list = (entry_before_after_loop c).args.list.now in
-    let n : length (permits_now s) ≡ length list = length_permits s ∙ sym (entry_before_after_loop c).requires.1 in
-    let a = c.loop_test.false in
-    let b = c.before.loop.invariant.0 in
-    c.before.loop.invariant.1 ∙ over_all (permits_now s) list c.before.loop.i n (omega (arith, a, b))
+    let s = decode c.args.store.now in
+    let list = c.args.list.now in
+    let n : length (permits_now s) ≡ length list = length_permits s ∙ sym c.requires.1 in
+    let a = c.loop-i-test.false in
+    let b = c.loop-i.invariant.0 in
+    c.loop-i.invariant.1 ∙ over_all (permits_now s) list c.loop-i.i n (omega (arith, a, b))
 
 pub load_permits_spec : {M : Type 1} → statement M
-load_permits_spec =
-    tie.close
-    (tie.spec
-    invariant_loop
-    decreases_loop
-    loop_holds
-    permits_requires
-    mul_list
-    slice_write_list
-    add_i
-    loop_less
-    loop_again
-    same_length
-    returns)
+load_permits_spec = tie.close (tie.spec invariant_loop decreases_loop loop_holds permits_requires mul_list slice_write_list add_i loop_less loop_again same_length returns)

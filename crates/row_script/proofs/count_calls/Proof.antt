@@ -12,69 +12,59 @@ use Rattle.row_script.proofs.Counting.{ACallMore, counted_more, counted_bad, cou
 use Rattle.row_script.proofs.count_calls.Statement.{statement}
 use Rattle.row_script.proofs.count_calls.Tie as tie
 
-abbrev invariant_loop : tie.invariant-loop
+abbrev invariant_loop : tie.invariant-loop-at
 invariant_loop script at₀ calls₀ at calls =
     (at ≤ length script) × (calls ≤ at) × (counted calls (script_calls (drop at script)) ≡ counted 0 (script_calls script))
 
-abbrev decreases_loop : tie.decreases-loop
+abbrev decreases_loop : tie.decreases-loop-at
 decreases_loop script at₀ calls₀ at calls = length script - at
 
--- the places: what stands before each, by name
-abbrev entry_before_loop : tie.At-loop invariant_loop decreases_loop → tie.Start invariant_loop decreases_loop
-entry_before_loop c = c.before.before
+abbrev script_of : tie.At-loop-at invariant_loop decreases_loop → List ℕ
+script_of c = c.args.script.now
 
-abbrev call_end_before_known : tie.After-known-told invariant_loop decreases_loop → tie.After-call-end invariant_loop decreases_loop
-call_end_before_known c = c.before.before.before
-
-abbrev loop_before_known : tie.After-known-told invariant_loop decreases_loop → tie.At-loop invariant_loop decreases_loop
-loop_before_known c = (call_end_before_known c).before.before
-
-abbrev script_of : tie.At-loop invariant_loop decreases_loop → List ℕ
-script_of c = (entry_before_loop c).args.script.now
-
-abbrev next_of : tie.After-known-told invariant_loop decreases_loop → ℕ
-next_of c = c.before.next.given.0.0
+abbrev next_of : tie.In-At invariant_loop decreases_loop → ℕ
+next_of c = c.in-At.next
 
 -- the call that was found, and where it ends
-more : (c : tie.After-known-told invariant_loop decreases_loop)
-    → let l = (loop_before_known c).loop in ACallMore l.calls (drop l.at (script_of (loop_before_known c))) l.at (next_of c)
-more c = counted_more _ _ _ _ (sym c.before.next.given.1 ∙ (call_end_before_known c).call_end.ensures)
+more : (c : tie.In-At invariant_loop decreases_loop)
+    → let l = c.loop-at in ACallMore l.calls (drop l.at (script_of c.before.before.before)) l.at (next_of c)
+more c = counted_more _ _ _ _ (sym c.in-At.is ∙ c.call_end.ensures)
 
-within_script : (c : tie.After-known-told invariant_loop decreases_loop) → next_of c ≤ length (script_of (loop_before_known c))
-within_script c = let l = length-drop (loop_before_known c).loop.at (script_of (loop_before_known c)) in omega (arith, (more c).within)
+within_script : (c : tie.In-At invariant_loop decreases_loop) → next_of c ≤ length (script_of c.before.before.before)
+within_script c = let l = length-drop c.loop-at.at (script_of c.before.before.before) in omega (arith, (more c).within)
 
-loop_holds : tie.Need-loop-init invariant_loop decreases_loop
+loop_holds : tie.Need-loop-at-init invariant_loop decreases_loop
 loop_holds c = (search rules, search rules, refl)
 
-call_end_requires : tie.Need-call-end-requires invariant_loop decreases_loop
+call_end_requires : tie.Need-call_end-requires invariant_loop decreases_loop
 call_end_requires c κs = search rules
 
-enum_known_next : tie.Need-enum-known-next invariant_loop decreases_loop
+enum_known_next : tie.Need-enum_known-next invariant_loop decreases_loop
 enum_known_next c = search rules
 
-enum_told : tie.Need-enum-told invariant_loop decreases_loop
+enum_told : tie.Need-enum_told-1 invariant_loop decreases_loop
 enum_told c = search rules
 
-returns : tie.Need-returns invariant_loop decreases_loop
+returns : tie.Need-returns-in_default invariant_loop decreases_loop
 returns c =
-    let found = c.before.before in
+    let found = c.before in
     let loop = found.before.before in
-    let l = length-drop loop.loop.at (script_of loop) in
-    let some_left : 1 ≤ length (drop loop.loop.at (script_of loop)) = omega arith in
-    counted_bad _ _ _ some_left (sym c.enum_told.given.1 ∙ found.call_end.ensures) ∙ loop.loop.invariant.2
+    let l = length-drop loop.loop-at.at (script_of loop) in
+    let some_left : 1 ≤ length (drop loop.loop-at.at (script_of loop)) = omega arith in
+    counted_bad _ _ _ some_left (sym c.in_default.is ∙ found.call_end.ensures) ∙ loop.loop-at.invariant.2
 
-add_calls : tie.Need-overflow-add-calls invariant_loop decreases_loop
+add_calls : tie.Need-overflow_add-calls invariant_loop decreases_loop
 add_calls c = omega (arith, (more c).further, within_script c)
 
-loop_less : tie.Need-loop-smaller invariant_loop decreases_loop
+loop_less : tie.Need-loop-at-smaller invariant_loop decreases_loop
 loop_less c = omega (arith, (more c).further, within_script c)
 
-loop_again : tie.Need-loop-preserved invariant_loop decreases_loop
+loop_again : tie.Need-loop-at-preserved invariant_loop decreases_loop
 loop_again c =
     let m = more c in
-    let l = (loop_before_known c).loop in
+    let l = c.loop-at in
     let next = next_of c in
-    let script = script_of (loop_before_known c) in
+    let script = script_of c.before.before.before in
     let there : l.at + (next - l.at) ≡ next = omega (arith, m.further) in (
       within_script c,
       omega (arith, m.further),
@@ -82,25 +72,12 @@ loop_again c =
           ∙ m.counts ∙ l.inv.2,
     )
 
-returns_2 : tie.Need-returns-2 invariant_loop decreases_loop
+returns_2 : tie.Need-returns invariant_loop decreases_loop
 returns_2 c =
     let loop = c.before in
-    let l = length-drop loop.loop.at (script_of loop) in
-    let none_left : length (drop loop.loop.at (script_of loop)) ≡ 0 = omega arith in
-    counted_all _ _ none_left ∙ loop.loop.invariant.2
+    let l = length-drop loop.loop-at.at (script_of loop) in
+    let none_left : length (drop loop.loop-at.at (script_of loop)) ≡ 0 = omega arith in
+    counted_all _ _ none_left ∙ loop.loop-at.invariant.2
 
 pub count_calls_spec : {M : Type 1} → statement M
-count_calls_spec =
-    tie.close
-    (tie.spec
-    invariant_loop
-    decreases_loop
-    loop_holds
-    call_end_requires
-    enum_known_next
-    enum_told
-    returns
-    add_calls
-    loop_less
-    loop_again
-    returns_2)
+count_calls_spec = tie.close (tie.spec invariant_loop decreases_loop loop_holds call_end_requires enum_known_next enum_told returns add_calls loop_less loop_again returns_2)

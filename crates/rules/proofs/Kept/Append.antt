@@ -46,7 +46,7 @@ each_ledger P s none_yet some_yet n = go (find by_number n s.topics) refl
 -- an id that is not in a ledger is none of its ids
 absent : (i : Id) (l : List StoredMessage) → length l ≤ position_of i l → Every (λ (j : Id). same_id i j ≡ false) (map (λ (m : StoredMessage). m.id) l)
 unfolding position_of
-absent i [] h = λ a m. absurd (Memᴰ.not_nil m)
+absent i [] h = λ a m. absurd (Memᴰ.not-nil m)
 absent i (m ∷ l) h =
     by_test (same_id i m.id)
     (λ t. absurd (let g : suc (length l) ≤ 0 = rw t at h in omega arith))
@@ -85,7 +85,7 @@ module _ (s : State) (v : Sound s) (topic : ℕ) (m : StoredMessage) (topic_byte
         number_byte = topic_byte;
         some_entry = omega arith;
         at_most_E = omega arith;
-        each_message = every_snoc l m (each_ledger (Every ValidMessage) s (λ a k. absurd (Memᴰ.not_nil k)) (λ t k. (v.each_topic t k).each_message) topic) message;
+        each_message = every_snoc l m (each_ledger (Every ValidMessage) s (λ a k. absurd (Memᴰ.not-nil k)) (λ t k. (v.each_topic t k).each_message) topic) message;
         ids_distinct =
             rw (map-append (λ (x : StoredMessage). x.id) l (m ∷ []))
             (distinct_snoc decides_ids (map (λ (x : StoredMessage). x.id) l) m.id

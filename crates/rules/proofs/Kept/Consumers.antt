@@ -117,7 +117,7 @@ seek_keeps s i target v =
     let k : ℕ = target_position (ledger_of s c.pair.topic) target in
     sound_replace_consumer s i c (with_reading c k []) v e refl
     (valid_with_reading s c (consumer_valid s i c v e) k [] (target_in_ledger (ledger_of s c.pair.topic) target) (omega arith)
-    (λ a m. absurd (Memᴰ.not_nil m))))
+    (λ a m. absurd (Memᴰ.not-nil m))))
 
 -- ---- subscribe
 
@@ -175,7 +175,7 @@ new_consumer_valid s i kind p h k g r =
       permits_to = omega arith;
       cursor_in_ledger = omega arith;
       nacked_count = omega arith;
-      nacked_in_ledger = λ a m. absurd (Memᴰ.not_nil m);
+      nacked_in_ledger = λ a m. absurd (Memᴰ.not-nil m);
       shared_in_ring = r;
     }
 

@@ -22,7 +22,7 @@ module _ {A : Type 0} {P : A → Type 0} where
 
   -- one more at the end
   pub every_snoc : (l : List A) (x : A) → Every P l → P x → Every P (l ++ x ∷ [])
-  every_snoc l x h p = every_append l (x ∷ []) h (every_cons p (λ a m. absurd (mathlib.Core.List.Memᴰ.not_nil m)))
+  every_snoc l x h p = every_append l (x ∷ []) h (every_cons p (λ a m. absurd (mathlib.Core.List.Memᴰ.not-nil m)))
 
   -- and of each of the two
   pub every_left : (l m : List A) → Every P (l ++ m) → Every P l
@@ -53,7 +53,7 @@ module _ {A : Type 0} where
   -- and passes the test
   pub kept_passes : (p : A → Bool) (l : List A) (a : A) → Memᴰ a (keep p l) → p a ≡ true
   unfolding keep
-  kept_passes p [] a m = absurd (mathlib.Core.List.Memᴰ.not_nil m)
+  kept_passes p [] a m = absurd (mathlib.Core.List.Memᴰ.not-nil m)
   kept_passes p (x ∷ l) a m =
       by_test (p x)
       (λ t.
@@ -74,7 +74,7 @@ module _ {A : Type 0} where
 -- one more at the end, unlike all others
 pub distinct_snoc : {A : Type 0} {same : A → A → Bool} (w : Decides same) (l : List A) (x : A) → Distinct same l → Every (λ (a : A). same x a ≡ false) l → Distinct same (l ++ x ∷ [])
 unfolding Distinct
-distinct_snoc w [] x h k = ((λ a m. absurd (mathlib.Core.List.Memᴰ.not_nil m)), tt)
+distinct_snoc w [] x h k = ((λ a m. absurd (mathlib.Core.List.Memᴰ.not-nil m)), tt)
 distinct_snoc {A} {same} w (y ∷ l) x h k = (
   every_snoc {P = λ (a : A). same y a ≡ false} l x h.0 (turned_round w x y (k y (mathlib.Core.List.Memᴰ.head refl))),
   distinct_snoc w l x h.1 (λ a m. k a (mathlib.Core.List.Memᴰ.tail m)),
@@ -150,7 +150,7 @@ every_insert c (d ∷ l) p h =
 -- ids ascend after an insert
 pub ascending_insert : (c : Consumer) (l : List Consumer) → Ascending l → Ascending (insert c l)
 unfolding Ascending insert
-ascending_insert c [] h = ((λ a m. absurd (mathlib.Core.List.Memᴰ.not_nil m)), tt)
+ascending_insert c [] h = ((λ a m. absurd (mathlib.Core.List.Memᴰ.not-nil m)), tt)
 ascending_insert c (d ∷ l) h =
     by_test (ltb c.id d.id)
     (λ t.

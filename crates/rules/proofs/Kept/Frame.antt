@@ -158,14 +158,14 @@ pub ring_exists : (s : State) (p : Pair) (i : ℕ) → Memᴰ i (dispatcher s p)
 unfolding is_some new_dispatcher
 ring_exists s p i =
     dispatcher_cases (λ (d : Dispatcher). Memᴰ i d.attached → is_some (dispatcher_of s p) ≡ true) s p
-    (λ e m. absurd (Memᴰ.not_nil m)) (λ d e m. rw e)
+    (λ e m. absurd (Memᴰ.not-nil m)) (λ d e m. rw e)
 
 -- and so it is valid
 pub ring_valid : (s : State) (p : Pair) (i : ℕ) → Sound s → Memᴰ i (dispatcher s p).attached → ValidDispatcher s (dispatcher s p)
 unfolding new_dispatcher
 ring_valid s p i v =
     dispatcher_cases (λ (d : Dispatcher). Memᴰ i d.attached → ValidDispatcher s d) s p
-    (λ e m. absurd (Memᴰ.not_nil m)) (λ d e m. found_valid s p d v e)
+    (λ e m. absurd (Memᴰ.not-nil m)) (λ d e m. found_valid s p d v e)
 
 -- an existing dispatcher's record replaced, its ring kept
 pub sound_replace_dispatcher : (s : State) (p : Pair) (d : Dispatcher) (i : ℕ) → Sound s → d.pair ≡ p → Memᴰ i (dispatcher s p).attached

@@ -25,7 +25,7 @@ Ids gs = Every (λ (g : Group). ValidId g.id) gs
 
 -- no groups
 no_groups : (gs : List Group) → some [] ≡ some gs → Ids gs
-no_groups gs e g m = let z : gs ≡ [] = cc in absurd (Memᴰ.not_nil (subst (λ (l : List Group). Memᴰ g l) z m))
+no_groups gs e g m = let z : gs ≡ [] = cc in absurd (Memᴰ.not-nil (subst (λ (l : List Group). Memᴰ g l) z m))
 
 -- one group, and those that follow it
 one_more : (x : Group) (o : Option (List Group)) (gs : List Group) → ValidId x.id → ((more : List Group) → o ≡ some more → Ids more)

@@ -217,7 +217,7 @@ valid_new_dispatcher s p h k =
           record {
             ring_count = omega arith;
             ring_distinct = tt;
-            ring_words = λ a m. absurd (Memᴰ.not_nil m);
+            ring_words = λ a m. absurd (Memᴰ.not-nil m);
             next_in_range = λ z. z;
             next_if_empty = λ z. z;
           };
@@ -227,9 +227,9 @@ valid_new_dispatcher s p h k =
       mark_delete_in_ledger = omega arith;
       places =
           record {
-            holders_in_ring = λ a m. absurd (Memᴰ.not_nil m);
+            holders_in_ring = λ a m. absurd (Memᴰ.not-nil m);
             places_distinct = tt;
-            places_below_cursor = λ a m. absurd (Memᴰ.not_nil m);
+            places_below_cursor = λ a m. absurd (Memᴰ.not-nil m);
           };
       entry_marks =
           record {
@@ -240,8 +240,8 @@ valid_new_dispatcher s p h k =
           record {
             outside_count = omega arith;
             outside_ascending = tt;
-            outside_words = λ a m. absurd (Memᴰ.not_nil m);
-            not_in_ledger = λ a m. absurd (Memᴰ.not_nil m);
+            outside_words = λ a m. absurd (Memᴰ.not-nil m);
+            not_in_ledger = λ a m. absurd (Memᴰ.not-nil m);
           };
     }
 

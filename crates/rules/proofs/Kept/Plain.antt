@@ -58,7 +58,7 @@ send_plain_next_keeps s c [] v live ready e =
     (λ t. rw t
     (let h : c.cursor < length l = ltb-true c.cursor (length l) t in
     send_plain_keeps s (with_reading c (suc c.cursor) []) c.cursor v
-    (valid_with_reading s c (consumer_valid s c.id c v live) (suc c.cursor) [] h (omega arith) (λ a m. absurd (Memᴰ.not_nil m)))
+    (valid_with_reading s c (consumer_valid s c.id c v live) (suc c.cursor) [] h (omega arith) (λ a m. absurd (Memᴰ.not-nil m)))
     (ap is_some live) ready h))
     (λ t. rw t v)
 send_plain_next_keeps s c (k ∷ nacked) v live ready e =

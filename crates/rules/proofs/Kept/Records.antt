@@ -38,7 +38,7 @@ pub record Ranged (x : Dispatch) : Type 0 where
 pub message_valid_at : (s : State) (n k : ℕ) → Sound s → k < length (ledger_of s n) → ValidMessage (message_at (ledger_of s n) k)
 unfolding message_at
 message_valid_at s n k v h =
-    each_in (ledger_of s n) k (each_ledger (Every ValidMessage) s (λ a m. absurd (Memᴰ.not_nil m)) (λ t m. (v.each_topic t m).each_message) n) h
+    each_in (ledger_of s n) k (each_ledger (Every ValidMessage) s (λ a m. absurd (Memᴰ.not-nil m)) (λ t m. (v.each_topic t m).each_message) n) h
   where
     each_in : (l : List StoredMessage) (k : ℕ) → Every ValidMessage l → k < length l → ValidMessage (get_or l k no_message)
     each_in [] k f h = absurd (omega arith)

@@ -102,7 +102,7 @@ redeliver_groups_valid s ledger i d (g ∷ gs) v =
 -- found positions lie in the ledger
 found_in_ledger : (ledger : List StoredMessage) (gs : List Group) → Every (λ (k : ℕ). k < length ledger) (found_positions ledger gs)
 unfolding found_positions holds_id
-found_in_ledger ledger [] = λ a m. absurd (Memᴰ.not_nil m)
+found_in_ledger ledger [] = λ a m. absurd (Memᴰ.not-nil m)
 found_in_ledger ledger (g ∷ gs) =
     by_test (ltb (position_of g.id ledger) (length ledger))
     (λ t. rw t (every_cons {P = λ (k : ℕ). k < length ledger} (ltb-true (position_of g.id ledger) (length ledger) t) (found_in_ledger ledger gs)))

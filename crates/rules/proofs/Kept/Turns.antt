@@ -28,7 +28,7 @@ pub record Pushes (P : State → Type 0) (R : Dispatch → Type 0) (x : Pushed) 
 module _ {P : State → Type 0} {R : Dispatch → Type 0} where
   -- nothing sent
   pub pushes_none : (s : State) → P s → Pushes P R (record { dispatched = []; state = s })
-  pushes_none s h = record { state_keeps = h; each_record = λ a m. absurd (Memᴰ.not_nil m) }
+  pushes_none s h = record { state_keeps = h; each_record = λ a m. absurd (Memᴰ.not-nil m) }
 
   -- turns until one halts
   pub turns_keep : (n : ℕ) (turn : State → Turn) (s : State) → ((t : State) → P t → Turned P R (turn t)) → P s → Pushes P R (turns n turn s)

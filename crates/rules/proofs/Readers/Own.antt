@@ -54,7 +54,7 @@ module _ (i n : ℕ) (l : List StoredMessage) where
   -- a turn that halts
   halted : (c : Consumer) (t : State) → Stands i n l c t → allowed l c ≡ [] → Read c (record { dispatched = []; state = t })
   halted c t h e =
-      record { messages = sym e; its_own = λ d m. absurd (Memᴰ.not_nil m); rest = c; rest_stands = h; rest_none = e }
+      record { messages = sym e; its_own = λ d m. absurd (Memᴰ.not-nil m); rest = c; rest_stands = h; rest_none = e }
 
   -- a turn that sends the first of it, and those that follow
   sends : (c d : Consumer) (x : Dispatch) (p : Pushed) → eqb i x.consumer ≡ true → allowed l c ≡ x.message ∷ allowed l d → Read d p

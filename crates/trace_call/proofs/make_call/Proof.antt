@@ -13,43 +13,31 @@ use Rattle.trace_call.proofs.Calls.{not_made, is_made}
 use Rattle.trace_call.proofs.make_call.Statement.{statement}
 use Rattle.trace_call.proofs.make_call.Tie as tie
 
--- the places: what stands before each, by name
-abbrev entry_before_slice_known4 : tie.After-slice-known4 → tie.Start
-entry_before_slice_known4 c = c.before.before.before.before.before.before.before.before.before.before.before.before
-
 -- words are a call or none, whatever the list holds
 same_there : (c : tie.Start)
     → is_some (call_of (length c.args.list.now / 13) c.args.kind c.args.words.now) ≡ is_some (call_of 0 c.args.kind c.args.words.now)
 same_there c = there_with_room _ _ _ (word _ (few_records (length c.args.list.now) (omega arith)))
 
-is_call_requires : tie.Need-is-call-requires
+is_call_requires : tie.Need-is_call-requires
 is_call_requires c κs = search rules
 
-returns : tie.Need-returns
-returns c = not_made _ _ (none_there _ (same_there c.before.before.before.before.before ∙ sym c.before.is_call.ensures ∙ not-true _ c.if1.true))
+returns : tie.Need-returns-then-not-is_call
+returns c = not_made _ _ (none_there _ (same_there c.before.before.before.before.before ∙ sym c.is_call.ensures ∙ not-true _ c.if-not-is_call.true))
 
-answer_call_requires : tie.Need-answer-call-requires
-answer_call_requires c κs = (c.before.before.before.before.before.before.before.requires, sym c.before.before.before.is_call.ensures ∙ not-false _ c.before.before.if1.false)
+answer_call_requires : tie.Need-answer_call-requires
+answer_call_requires c κs = (c.requires, sym c.is_call.ensures ∙ not-false _ c.if-not-is_call.false)
 
-same_length : tie.Need-same-length
+same_length : tie.Need-shape_of-store
 same_length c = search rules
 
-same_length_2 : tie.Need-same-length-2
+same_length_2 : tie.Need-shape_of-list
 same_length_2 c = search rules
 
-returns_2 : tie.Need-returns-2
+returns_2 : tie.Need-returns
 returns_2 c =
-    let e = c.before.before.before.before.answer_call.ensures in
-    let there = same_there (entry_before_slice_known4 c) ∙ sym c.before.before.before.before.before.before.before.before.is_call.ensures ∙ not-false _ c.before.before.before.before.before.before.before.if1.false in
+    let e = c.answer_call.ensures in
+    let there = same_there c.before.before.before.before.before.before.before.before.before.before.before.before ∙ sym c.is_call.ensures ∙ not-false _ c.if-not-is_call.false in
     (is_made _ _ there e.0, e.1)
 
 pub make_call_spec : {M : Type 1} → statement M
-make_call_spec =
-    tie.close
-    (tie.spec
-    is_call_requires
-    returns
-    answer_call_requires
-    same_length
-    same_length_2
-    returns_2)
+make_call_spec = tie.close (tie.spec is_call_requires returns answer_call_requires same_length same_length_2 returns_2)

@@ -9,32 +9,22 @@ use Rattle.trace_call.proofs.Calls.{is_answered}
 use Rattle.trace_call.proofs.make_close.Statement.{statement}
 use Rattle.trace_call.proofs.make_close.Tie as tie
 
--- the place of the entry, as the exit sees it
-abbrev entry_before_exit : tie.After-slice-known2 → tie.Start
-entry_before_exit c = c.before.before.before.before.before.before.before
-
 -- one word
 its_words : (c : tie.Start) → length c.args.words.now ≡ 1
 its_words c = close_words _ c.requires.1
 
-shared_slice_read_close : tie.Need-shared-slice-read-close
+shared_slice_read_close : tie.Need-bounds-words-0
 shared_slice_read_close c = omega (arith, its_words c.before.before.before.before)
 
 close_requires : tie.Need-close-requires
 close_requires c κs = search rules
 
-same_length : tie.Need-same-length
+same_length : tie.Need-shape_of-store
 same_length c = search rules
 
 returns : tie.Need-returns
 unfolding close_from
-returns c = is_answered _ (the_call _ _ (entry_before_exit c).requires.1) c.before.before.close.ensures
+returns c = is_answered _ (the_call _ _ c.requires.1) c.close.ensures
 
 pub make_close_spec : {M : Type 1} → statement M
-make_close_spec =
-    tie.close
-    (tie.spec
-    shared_slice_read_close
-    close_requires
-    same_length
-    returns)
+make_close_spec = tie.close (tie.spec shared_slice_read_close close_requires same_length returns)

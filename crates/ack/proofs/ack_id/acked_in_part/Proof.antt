@@ -8,46 +8,34 @@ use borrow.Author.Rules.{rules}
 use Rattle.ack.proofs.ack_id.acked_in_part.Statement.{statement}
 use Rattle.ack.proofs.ack_id.acked_in_part.Tie as tie
 
--- the places: what stands before each, by name
-abbrev entry_before_and_group : tie.After-and-group → tie.Start
-entry_before_and_group c = c.before.before.before.before
-
-abbrev entry_before_then1 : tie.Then1 → tie.Start
-entry_before_then1 c = entry_before_and_group c.before
-
-abbrev entry_before_bits_empty : tie.After-bits-empty → tie.Start
-entry_before_bits_empty c = entry_before_and_group c.before.before
-
-bits_or_fresh_requires : tie.Need-bits-or-fresh-requires
+bits_or_fresh_requires : tie.Need-bits_or_fresh-bits-requires
 bits_or_fresh_requires c κs = search rules
 
-and_group_requires : tie.Need-and-group-requires
+and_group_requires : tie.Need-and_group-left-requires
 and_group_requires c κs = search rules
 
-bits_empty_requires : tie.Need-bits-empty-requires
+bits_empty_requires : tie.Need-bits_empty-requires
 bits_empty_requires c κs = search rules
 
 -- the bits left
-left : (c : tie.After-and-group) → c.and_group.result ≡ four (bits_left (entry_before_and_group c).args.batch (group_at (entry_before_and_group c).args.list.now (entry_before_and_group c).args.at).words (entry_before_and_group c).args.mark.unacked)
+left : (c : tie.After-and_group-left) → c.and_group-left.result ≡ four (bits_left c.args.batch (group_at c.args.list.now c.args.at).words c.args.mark.unacked)
 left c =
-    let a = (entry_before_and_group c).args in
-    bits_now a.mark.unacked c.before.bits_or_fresh.result c.and_group.result a.batch (group_at a.list.now a.at).words c.before.bits_or_fresh.ensures c.and_group.ensures
+    let a = c.args in
+    bits_now a.mark.unacked c.bits_or_fresh-bits.result c.and_group-left.result a.batch (group_at a.list.now a.at).words c.bits_or_fresh-bits.ensures c.and_group-left.ensures
 
-returns : tie.Need-returns
+returns : tie.Need-returns-then-mark
 returns c =
-    let a = (entry_before_then1 c).args in
+    let a = c.args in
     let l = left c.before in
-    in_part a.mark a.mark.complete c.before.and_group.result a.batch (group_at a.list.now a.at).words (or_left a.mark.complete _ c.if1.true) l
+    in_part a.mark a.mark.complete c.and_group-left.result a.batch (group_at a.list.now a.at).words (or_left a.mark.complete _ c.if-mark.true) l
 
-returns_2 : tie.Need-returns-2
+returns_2 : tie.Need-returns-else-mark
 returns_2 c =
-    let a = (entry_before_bits_empty c).args in
+    let a = c.args in
     let l = left c.before.before in
-    let n = none_left a.mark.unacked c.before.before.and_group.result a.batch (group_at a.list.now a.at).words l in
-    in_part a.mark c.bits_empty.result c.before.before.and_group.result a.batch (group_at a.list.now a.at).words
-    (or_right a.mark.complete _ c.bits_empty.result c.before.if1.false (c.bits_empty.ensures ∙ n)) l
+    let n = none_left a.mark.unacked c.and_group-left.result a.batch (group_at a.list.now a.at).words l in
+    in_part a.mark c.bits_empty.result c.and_group-left.result a.batch (group_at a.list.now a.at).words
+    (or_right a.mark.complete _ c.bits_empty.result c.if-mark.false (c.bits_empty.ensures ∙ n)) l
 
 pub acked_in_part_spec : {M : Type 1} → statement M
-acked_in_part_spec =
-    tie.close
-    (tie.spec bits_or_fresh_requires and_group_requires bits_empty_requires returns returns_2)
+acked_in_part_spec = tie.close (tie.spec bits_or_fresh_requires and_group_requires bits_empty_requires returns returns_2)

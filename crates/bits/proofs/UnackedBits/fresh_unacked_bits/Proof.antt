@@ -14,52 +14,36 @@ use borrow.Author.Rules.{rules}
 use Rattle.bits.proofs.UnackedBits.fresh_unacked_bits.Statement.{statement}
 use Rattle.bits.proofs.UnackedBits.fresh_unacked_bits.Tie as tie
 
--- the places: what stands before each, by name
-abbrev fresh_word_before_fresh_word4 : tie.After-fresh-word4 → tie.After-fresh-word
-fresh_word_before_fresh_word4 c = c.before.before.before
-
-abbrev entry_before_fresh_word4 : tie.After-fresh-word4 → tie.Start
-entry_before_fresh_word4 c = (fresh_word_before_fresh_word4 c).before
-
 -- a word of as many ones as word q has room for is word q of the fresh list
 at_place : (n q : ℕ) → q < 4 → {r : ℕ} → r ≡ 2 ^ min (n - 64 * q) 64 - 1 → r ≡ get_or (fresh_unacked_bits 4 n) q 0
 at_place n q h e = e ∙ sym (fresh_word 4 n q h)
 
-mul_last : tie.Need-overflow-mul-last
+mul_last : tie.Need-offset_bounds-batch_size
 mul_last c = search rules
 
-array_read_last : tie.Need-array-read-last
+array_read_last : tie.Need-bounds-batch_size
 array_read_last c = search rules
 
 -- the test of the whole table is computed here, once
-fresh_word_requires : tie.Need-fresh-word-requires
+fresh_word_requires : tie.Need-fresh_word-requires
 unfolding mask masks
 fresh_word_requires c κs = (refl, lit≤ tt, mask_at (c.args.batch_size % 64) (mod-lt c.args.batch_size (lit< tt)))
 
-fresh_word_requires_2 : tie.Need-fresh-word-requires-2
+fresh_word_requires_2 : tie.Need-fresh_word-requires-2
 fresh_word_requires_2 c κs = (refl, lit≤ tt, (fresh_word_requires c.before κs).2)
 
-fresh_word_requires_3 : tie.Need-fresh-word-requires-3
+fresh_word_requires_3 : tie.Need-fresh_word-requires-3
 fresh_word_requires_3 c κs = (refl, lit≤ tt, (fresh_word_requires c.before.before κs).2)
 
-fresh_word_requires_4 : tie.Need-fresh-word-requires-4
+fresh_word_requires_4 : tie.Need-fresh_word-requires-4
 fresh_word_requires_4 c κs = (refl, lit≤ tt, (fresh_word_requires c.before.before.before κs).2)
 
 returns : tie.Need-returns
 returns c =
-    let n : ℕ = (entry_before_fresh_word4 c).args.batch_size in
-    is_four _ (fresh_unacked_bits 4 n) (at_place n 0 (lit< tt) (fresh_word_before_fresh_word4 c).fresh_word.ensures)
-    (at_place n 1 (lit< tt) c.before.before.fresh_word2.ensures) (at_place n 2 (lit< tt) c.before.fresh_word3.ensures)
-    (at_place n 3 (lit< tt) c.fresh_word4.ensures)
+    let n : ℕ = c.args.batch_size in
+    is_four _ (fresh_unacked_bits 4 n) (at_place n 0 (lit< tt) c.fresh_word.ensures)
+    (at_place n 1 (lit< tt) c.fresh_word-2.ensures) (at_place n 2 (lit< tt) c.fresh_word-3.ensures)
+    (at_place n 3 (lit< tt) c.fresh_word-4.ensures)
 
 pub fresh_unacked_bits_spec : {M : Type 1} → statement M
-fresh_unacked_bits_spec =
-    tie.close
-    (tie.spec
-    mul_last
-    array_read_last
-    fresh_word_requires
-    fresh_word_requires_2
-    fresh_word_requires_3
-    fresh_word_requires_4
-    returns)
+fresh_unacked_bits_spec = tie.close (tie.spec mul_last array_read_last fresh_word_requires fresh_word_requires_2 fresh_word_requires_3 fresh_word_requires_4 returns)

@@ -17,179 +17,108 @@ use Rattle.check_words.proofs.canonical.dispatcher_canonical.Reads as dispatcher
 use Rattle.store.proofs.stretch.is_blank.Reads as is_blank_reads
 use Rattle.store.proofs.stretch.word.Reads as word_reads
 
-abbrev invariant_loop : tie.invariant-loop
+abbrev invariant_loop : tie.invariant-loop-i
 invariant_loop store e count n first width i₀ i =
     (i ≤ n) × Left (dispatcher_codec e) (176 + 9 * e) store (2354 + 32 * e + 1) n i
 
-abbrev decreases_loop : tie.decreases-loop
+abbrev decreases_loop : tie.decreases-loop-i
 decreases_loop store e count n first width i₀ i = n - i
 
--- the places: what stands before each, by name
-abbrev entry_before_then1 : tie.Then1 invariant_loop decreases_loop → tie.Start invariant_loop decreases_loop
-entry_before_then1 c = c.before.before.before
-
-abbrev entry_before_else1 : tie.Else1 invariant_loop decreases_loop → tie.Start invariant_loop decreases_loop
-entry_before_else1 c = c.before.before.before
-
-abbrev entry_before_in_loop : tie.In-loop invariant_loop decreases_loop → tie.Start invariant_loop decreases_loop
-entry_before_in_loop c = entry_before_else1 c.before.before
-
-abbrev word_before_after_loop : tie.After-loop invariant_loop decreases_loop → tie.After-word invariant_loop decreases_loop
-word_before_after_loop c = c.before.before.before
-
-abbrev entry_before_after_loop : tie.After-loop invariant_loop decreases_loop → tie.Start invariant_loop decreases_loop
-entry_before_after_loop c = entry_before_else1 c.before.before
-
-abbrev else1_before_is_blank : tie.After-is-blank invariant_loop decreases_loop → tie.Else1 invariant_loop decreases_loop
-else1_before_is_blank c = c.before.before.before
-
-abbrev word_before_is_blank : tie.After-is-blank invariant_loop decreases_loop → tie.After-word invariant_loop decreases_loop
-word_before_is_blank c = word_before_after_loop c.before
-
-abbrev entry_before_is_blank : tie.After-is-blank invariant_loop decreases_loop → tie.Start invariant_loop decreases_loop
-entry_before_is_blank c = entry_before_after_loop c.before
-
-abbrev at_loop_before_then2 : tie.Then2 invariant_loop decreases_loop → tie.At-loop invariant_loop decreases_loop
-at_loop_before_then2 c = c.before.before.before
-
-abbrev else1_before_then2 : tie.Then2 invariant_loop decreases_loop → tie.Else1 invariant_loop decreases_loop
-else1_before_then2 c = (at_loop_before_then2 c).before
-
-abbrev word_before_then2 : tie.Then2 invariant_loop decreases_loop → tie.After-word invariant_loop decreases_loop
-word_before_then2 c = (else1_before_then2 c).before
-
-abbrev entry_before_then2 : tie.Then2 invariant_loop decreases_loop → tie.Start invariant_loop decreases_loop
-entry_before_then2 c = entry_before_else1 (else1_before_then2 c)
-
-abbrev at_loop_before_else2 : tie.Else2 invariant_loop decreases_loop → tie.At-loop invariant_loop decreases_loop
-at_loop_before_else2 c = c.before.before.before
-
-abbrev word_before_else2 : tie.Else2 invariant_loop decreases_loop → tie.After-word invariant_loop decreases_loop
-word_before_else2 c = (at_loop_before_else2 c).before.before
-
-abbrev entry_before_else2 : tie.Else2 invariant_loop decreases_loop → tie.Start invariant_loop decreases_loop
-entry_before_else2 c = entry_before_in_loop c.before.before
-
 -- the slot of a turn lies in the room
-slot : (c : tie.In-loop invariant_loop decreases_loop) → c.before.loop.i * (176 + 9 * (entry_before_in_loop c).args.e) + (176 + 9 * (entry_before_in_loop c).args.e) ≤ 8 * (176 + 9 * (entry_before_in_loop c).args.e)
-slot c = slot_le _ _ 8 (176 + 9 * (entry_before_in_loop c).args.e) c.loop_test.true c.before.before.if1.false
+slot : (c : tie.In-loop-i invariant_loop decreases_loop) → c.loop-i.i * (176 + 9 * c.args.e) + (176 + 9 * c.args.e) ≤ 8 * (176 + 9 * c.args.e)
+slot c = slot_le _ _ 8 (176 + 9 * c.args.e) c.loop-i-test.true c.if-n-gt-MOST_DISPATCHERS.false
 
 -- and so do the slots up to the count
-room : (c : tie.After-loop invariant_loop decreases_loop) → (word_before_after_loop c).word.result * (176 + 9 * (entry_before_after_loop c).args.e) ≤ 8 * (176 + 9 * (entry_before_after_loop c).args.e)
-room c = room_le _ 8 (176 + 9 * (entry_before_after_loop c).args.e) c.before.before.if1.false
+room : (c : tie.After-loop-i invariant_loop decreases_loop) → c.word-n.result * (176 + 9 * c.args.e) ≤ 8 * (176 + 9 * c.args.e)
+room c = room_le _ 8 (176 + 9 * c.args.e) c.if-n-gt-MOST_DISPATCHERS.false
 
-mul_count : tie.Need-overflow-mul-count invariant_loop decreases_loop
+mul_count : tie.Need-overflow_mul-count invariant_loop decreases_loop
 mul_count c = search rules
 
-add_count : tie.Need-overflow-add-count invariant_loop decreases_loop
+add_count : tie.Need-overflow_add-count invariant_loop decreases_loop
 add_count c = search rules
 
-word_requires : tie.Need-word-requires invariant_loop decreases_loop
+word_requires : tie.Need-word-n-requires invariant_loop decreases_loop
 word_requires c κs = search rules
 
-returns : tie.Need-returns invariant_loop decreases_loop
+returns : tie.Need-returns-then-n-gt-MOST_DISPATCHERS invariant_loop decreases_loop
 returns c =
-    let a = (entry_before_then1 c).args in
+    let a = c.args in
     let l : 2354 + 32 * a.e < length a.store.now = omega arith in
     table_over (dispatcher_codec a.e) (width_dispatcher a.e) a.store.now (2354 + 32 * a.e) (2354 + 32 * a.e + 1) 8 refl l
-    c.before.word.ensures c.if1.true
+    c.word-n.ensures c.if-n-gt-MOST_DISPATCHERS.true
 
-add_first : tie.Need-overflow-add-first invariant_loop decreases_loop
+add_first : tie.Need-overflow_add-first invariant_loop decreases_loop
 add_first c = search rules
 
-mul_width : tie.Need-overflow-mul-width invariant_loop decreases_loop
+mul_width : tie.Need-overflow_mul-width invariant_loop decreases_loop
 mul_width c = search rules
 
-add_width : tie.Need-overflow-add-width invariant_loop decreases_loop
+add_width : tie.Need-overflow_add-width invariant_loop decreases_loop
 add_width c = search rules
 
-loop_holds : tie.Need-loop-init invariant_loop decreases_loop
+loop_holds : tie.Need-loop-i-init invariant_loop decreases_loop
 loop_holds c =
-    let a = (entry_before_else1 c).args in
+    let a = c.args in
     let l : 2354 + 32 * a.e < length a.store.now = omega arith in
-    (search rules, table_start (dispatcher_codec a.e) (width_dispatcher a.e) a.store.now (2354 + 32 * a.e) (2354 + 32 * a.e + 1) 8 refl l c.before.word.result)
+    (search rules, table_start (dispatcher_codec a.e) (width_dispatcher a.e) a.store.now (2354 + 32 * a.e) (2354 + 32 * a.e + 1) 8 refl l c.word-n.result)
 
-mul_dispatcher_canonical : tie.Need-overflow-mul-dispatcher-canonical invariant_loop decreases_loop
+mul_dispatcher_canonical : tie.Need-overflow_mul-i invariant_loop decreases_loop
 mul_dispatcher_canonical c = let k = slot c in search rules
 
-add_dispatcher_canonical : tie.Need-overflow-add-dispatcher-canonical invariant_loop decreases_loop
+add_dispatcher_canonical : tie.Need-overflow_add-first-in-loop-i invariant_loop decreases_loop
 add_dispatcher_canonical c = let k = slot c in search rules
 
-dispatcher_canonical_requires : tie.Need-dispatcher-canonical-requires invariant_loop decreases_loop
+dispatcher_canonical_requires : tie.Need-dispatcher_canonical-requires invariant_loop decreases_loop
 dispatcher_canonical_requires c κs = let k = slot c in search rules
 
-returns_2 : tie.Need-returns-2 invariant_loop decreases_loop
+returns_2 : tie.Need-returns-then-not-dispatcher_canonical invariant_loop decreases_loop
 returns_2 c =
-    let a = (entry_before_then2 c).args in
+    let a = c.args in
     let l : 2354 + 32 * a.e < length a.store.now = omega arith in
     table_stop (dispatcher_codec a.e) (width_dispatcher a.e) a.store.now (2354 + 32 * a.e) (2354 + 32 * a.e + 1) 8 refl l
-    (at_loop_before_then2 c).loop.i (word_before_then2 c).word.ensures (else1_before_then2 c).if1.false c.before.before.loop_test.true (at_loop_before_then2 c).loop.invariant.1
-    (answered_no c.before.dispatcher_canonical.ensures c.if2.true)
+    c.loop-i.i c.word-n.ensures c.if-n-gt-MOST_DISPATCHERS.false c.loop-i-test.true c.loop-i.invariant.1
+    (answered_no c.dispatcher_canonical.ensures c.if-not-dispatcher_canonical.true)
 
-add_i : tie.Need-overflow-add-i invariant_loop decreases_loop
+add_i : tie.Need-overflow_add-i invariant_loop decreases_loop
 add_i c = search rules
 
-loop_less : tie.Need-loop-smaller invariant_loop decreases_loop
+loop_less : tie.Need-loop-i-smaller invariant_loop decreases_loop
 loop_less c = search rules
 
-loop_again : tie.Need-loop-preserved invariant_loop decreases_loop
+loop_again : tie.Need-loop-i-preserved invariant_loop decreases_loop
 loop_again c =
-    let a = (entry_before_else2 c).args in
+    let a = c.args in
     let l : 2354 + 32 * a.e < length a.store.now = omega arith in (
       search rules,
       table_turn (dispatcher_codec a.e) (width_dispatcher a.e) a.store.now (2354 + 32 * a.e) (2354 + 32 * a.e + 1) 8 refl l
-          (word_before_else2 c).word.result (at_loop_before_else2 c).loop.i c.before.before.loop_test.true (at_loop_before_else2 c).loop.invariant.1
-          (answered_yes c.before.dispatcher_canonical.ensures c.if2.false),
+          c.word-n.result c.loop-i.i c.loop-i-test.true c.loop-i.invariant.1
+          (answered_yes c.dispatcher_canonical.ensures c.if-not-dispatcher_canonical.false),
     )
 
-mul_is_blank : tie.Need-overflow-mul-is-blank invariant_loop decreases_loop
+mul_is_blank : tie.Need-overflow_mul-n invariant_loop decreases_loop
 mul_is_blank c = let k = room c in search rules
 
-add_is_blank : tie.Need-overflow-add-is-blank invariant_loop decreases_loop
+add_is_blank : tie.Need-overflow_add-first-2 invariant_loop decreases_loop
 add_is_blank c = let k = room c in search rules
 
-mul_is_blank_2 : tie.Need-overflow-mul-is-blank-2 invariant_loop decreases_loop
+mul_is_blank_2 : tie.Need-overflow_mul-e invariant_loop decreases_loop
 mul_is_blank_2 c = search rules
 
-add_is_blank_2 : tie.Need-overflow-add-is-blank-2 invariant_loop decreases_loop
+add_is_blank_2 : tie.Need-overflow_add-e invariant_loop decreases_loop
 add_is_blank_2 c = search rules
 
-is_blank_requires : tie.Need-is-blank-requires invariant_loop decreases_loop
+is_blank_requires : tie.Need-is_blank-requires invariant_loop decreases_loop
 is_blank_requires c κs = let k = room c in search rules
 
-returns_3 : tie.Need-returns-3 invariant_loop decreases_loop
+returns_3 : tie.Need-returns invariant_loop decreases_loop
 returns_3 c =
-    let a = (entry_before_is_blank c).args in
+    let a = c.args in
     let l : 2354 + 32 * a.e < length a.store.now = omega arith in
     let e : 3763 + 104 * a.e ≡ 2354 + 32 * a.e + 1 + 8 * (176 + 9 * a.e) = omega arith in
     table_end (dispatcher_codec a.e) (width_dispatcher a.e) a.store.now (2354 + 32 * a.e) (2354 + 32 * a.e + 1) 8 refl l
-    c.before.before.loop.i (word_before_is_blank c).word.ensures (else1_before_is_blank c).if1.false c.before.loop_test.false c.before.before.loop.invariant.1
+    c.loop-i.i c.word-n.ensures c.if-n-gt-MOST_DISPATCHERS.false c.loop-i-test.false c.loop-i.invariant.1
     (rw e at c.is_blank.ensures)
 
 pub dispatchers_canonical_spec : {M : Type 1} → statement M
-dispatchers_canonical_spec =
-    tie.close
-    (tie.spec
-    invariant_loop
-    decreases_loop
-    mul_count
-    add_count
-    word_requires
-    returns
-    add_first
-    mul_width
-    add_width
-    loop_holds
-    mul_dispatcher_canonical
-    add_dispatcher_canonical
-    dispatcher_canonical_requires
-    returns_2
-    add_i
-    loop_less
-    loop_again
-    mul_is_blank
-    add_is_blank
-    mul_is_blank_2
-    add_is_blank_2
-    is_blank_requires
-    returns_3)
+dispatchers_canonical_spec = tie.close (tie.spec invariant_loop decreases_loop mul_count add_count word_requires returns add_first mul_width add_width loop_holds mul_dispatcher_canonical add_dispatcher_canonical dispatcher_canonical_requires returns_2 add_i loop_less loop_again mul_is_blank add_is_blank mul_is_blank_2 add_is_blank_2 is_blank_requires returns_3)

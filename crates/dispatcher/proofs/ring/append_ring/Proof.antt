@@ -10,77 +10,58 @@ use borrow.Author.Rules.{rules}
 use Rattle.dispatcher.proofs.ring.append_ring.Statement.{statement}
 use Rattle.dispatcher.proofs.ring.append_ring.Tie as tie
 
--- the places: what stands before each, by name
-abbrev entry_before_word : tie.After-word → tie.Start
-entry_before_word c = c.before.before.before.before
-
 -- the count is the number of ring ids
-counted : (c : tie.After-word) → c.word.result ≡ length (dispatcher_nth (decode (entry_before_word c).args.store.now) (entry_before_word c).args.d).attached
-counted c = c.word.ensures ∙ ring_counted (entry_before_word c).args.d c.before.before.dispatcher_at.result (entry_before_word c).requires.0 c.before.before.dispatcher_at.ensures
+counted : (c : tie.After-word-n) → c.word-n.result ≡ length (dispatcher_nth (decode c.args.store.now) c.args.d).attached
+counted c = c.word-n.ensures ∙ ring_counted c.args.d c.dispatcher_at-at.result c.requires.0 c.dispatcher_at-at.ensures
 
 -- there is room for one more
-room : (c : tie.After-word) → c.before.before.dispatcher_at.result + 12 + c.word.result + 1 ≤ length (entry_before_word c).args.store.now
+room : (c : tie.After-word-n) → c.dispatcher_at-at.result + 12 + c.word-n.result + 1 ≤ length c.args.store.now
 room c =
     let n = counted c in
-    let h = (entry_before_word c).requires.1 in
-    let a = c.before.before.dispatcher_at.ensures in
-    let i = (entry_before_word c).requires.0.inside in
-    let l = (entry_before_word c).requires.0.canon.long in
+    let h = c.requires.1 in
+    let a = c.dispatcher_at-at.ensures in
+    let i = c.requires.0.inside in
+    let l = c.requires.0.canon.long in
     omega arith
 
-dispatcher_at_requires : tie.Need-dispatcher-at-requires
+dispatcher_at_requires : tie.Need-dispatcher_at-at-requires
 dispatcher_at_requires c κs = search rules
 
-add_word : tie.Need-overflow-add-word
+add_word : tie.Need-overflow_add-at
 add_word c = search rules
 
-word_requires : tie.Need-word-requires
+word_requires : tie.Need-word-n-requires
 word_requires c κs = search rules
 
-add_store : tie.Need-overflow-add-store
+add_store : tie.Need-overflow_add-store
 add_store c = search rules
 
-add_store_2 : tie.Need-overflow-add-store-2
+add_store_2 : tie.Need-overflow_add-store-2
 add_store_2 c = let k = room c in omega arith
 
-mul_store : tie.Need-overflow-mul-store
+mul_store : tie.Need-offset_bounds-store-at
 mul_store c = let k = room c in omega arith
 
-slice_write_store : tie.Need-slice-write-store
+slice_write_store : tie.Need-bounds-store-at
 slice_write_store c = let k = room c in omega arith
 
-add_store_3 : tie.Need-overflow-add-store-3
+add_store_3 : tie.Need-overflow_add-store-3
 add_store_3 c = let k = room c in omega arith
 
-add_store_4 : tie.Need-overflow-add-store-4
+add_store_4 : tie.Need-overflow_add-store-4
 add_store_4 c = search rules
 
-mul_store_2 : tie.Need-overflow-mul-store-2
+mul_store_2 : tie.Need-offset_bounds-store-at-2
 mul_store_2 c = search rules
 
-slice_write_store_2 : tie.Need-slice-write-store-2
+slice_write_store_2 : tie.Need-bounds-store-at-2
 slice_write_store_2 c = let k = room c in simp length-set (omega arith)
 
-same_length : tie.Need-same-length
+same_length : tie.Need-shape_of-store
 same_length c = search rules
 
 returns : tie.Need-returns
-returns c = appended_ring (entry_before_word c).args.d c.before.before.dispatcher_at.result (entry_before_word c).requires.0 c.before.before.dispatcher_at.ensures c.word.result (entry_before_word c).args.id (counted c) (entry_before_word c).requires.1
+returns c = appended_ring c.args.d c.dispatcher_at-at.result c.requires.0 c.dispatcher_at-at.ensures c.word-n.result c.args.id (counted c) c.requires.1
 
 pub append_ring_spec : {M : Type 1} → statement M
-append_ring_spec =
-    tie.close
-    (tie.spec
-    dispatcher_at_requires
-    add_word
-    word_requires
-    add_store
-    add_store_2
-    mul_store
-    slice_write_store
-    add_store_3
-    add_store_4
-    mul_store_2
-    slice_write_store_2
-    same_length
-    returns)
+append_ring_spec = tie.close (tie.spec dispatcher_at_requires add_word word_requires add_store add_store_2 mul_store slice_write_store add_store_3 add_store_4 mul_store_2 slice_write_store_2 same_length returns)

@@ -21,152 +21,106 @@ use Rattle.dispatcher.proofs.table.ring_holds.Reads as reads
 use Rattle.dispatcher.proofs.table.ring_holds.Lts as lts
 use Rattle.store.proofs.stretch.word.Reads as word_reads
 
-abbrev invariant_loop : tie.invariant-loop
+abbrev invariant_loop : tie.invariant-loop-j
 invariant_loop store e d id first n j₀ j = (j ≤ n) × Passed (λ l. not (any (eqb id) l)) (dispatcher_nth (decode store) d).attached j
 
-abbrev decreases_loop : tie.decreases-loop
+abbrev decreases_loop : tie.decreases-loop-j
 decreases_loop store e d id first n j₀ j = n - j
 
--- the places: what stands before each, by name
-abbrev entry_before_in_loop : tie.In-loop invariant_loop decreases_loop → tie.Start invariant_loop decreases_loop
-entry_before_in_loop c = c.before.before.before.before
-
-abbrev entry_before_after_loop : tie.After-loop invariant_loop decreases_loop → tie.Start invariant_loop decreases_loop
-entry_before_after_loop c = c.before.before.before.before
-
-abbrev at_loop_before_then1 : tie.Then1 invariant_loop decreases_loop → tie.At-loop invariant_loop decreases_loop
-at_loop_before_then1 c = c.before.before.before
-
-abbrev word_before_then1 : tie.Then1 invariant_loop decreases_loop → tie.After-word invariant_loop decreases_loop
-word_before_then1 c = (at_loop_before_then1 c).before
-
-abbrev entry_before_then1 : tie.Then1 invariant_loop decreases_loop → tie.Start invariant_loop decreases_loop
-entry_before_then1 c = entry_before_in_loop c.before.before
-
-abbrev at_loop_before_else1 : tie.Else1 invariant_loop decreases_loop → tie.At-loop invariant_loop decreases_loop
-at_loop_before_else1 c = c.before.before.before
-
-abbrev word_before_else1 : tie.Else1 invariant_loop decreases_loop → tie.After-word invariant_loop decreases_loop
-word_before_else1 c = (at_loop_before_else1 c).before
-
-abbrev entry_before_else1 : tie.Else1 invariant_loop decreases_loop → tie.Start invariant_loop decreases_loop
-entry_before_else1 c = entry_before_in_loop c.before.before
-
 -- the ring
-abbrev ring : tie.After-word invariant_loop decreases_loop → List ℕ
-ring c = (dispatcher_nth (decode c.before.before.args.store.now) c.before.before.args.d).attached
+abbrev ring : tie.After-word-n invariant_loop decreases_loop → List ℕ
+ring c = (dispatcher_nth (decode c.args.store.now) c.args.d).attached
 
 -- it has as many ids as its count says
-counted : (c : tie.After-word invariant_loop decreases_loop) → c.word.result ≡ length (ring c)
+counted : (c : tie.After-word-n invariant_loop decreases_loop) → c.word-n.result ≡ length (ring c)
 counted c =
-    let a = c.before.before.args in
+    let a = c.args in
     let n : 2367 + 32 * a.e + a.d * (176 + 9 * a.e) - 1 ≡ dispatcher_at a.e a.d + 11 = omega arith in
-    c.word.ensures ∙ ap (λ (k : ℕ). get_or a.store.now k 0) n ∙ read_ring_count c.before.before.requires.0 a.d c.before.before.requires.1
+    c.word-n.ensures ∙ ap (λ (k : ℕ). get_or a.store.now k 0) n ∙ read_ring_count c.requires.0 a.d c.requires.1
 
 -- the place of a turn lies in the ring
-here : (c : tie.In-loop invariant_loop decreases_loop) → c.before.loop.j < length (ring c.before.before)
+here : (c : tie.In-loop-j invariant_loop decreases_loop) → c.loop-j.j < length (ring c.before.before)
 here c = let n = counted c.before.before in omega arith
 
 -- and in the store
-inside : (c : tie.In-loop invariant_loop decreases_loop)
-    → 2367 + 32 * (entry_before_in_loop c).args.e + (entry_before_in_loop c).args.d * (176 + 9 * (entry_before_in_loop c).args.e) + c.before.loop.j < length (entry_before_in_loop c).args.store.now
+inside : (c : tie.In-loop-j invariant_loop decreases_loop)
+    → 2367 + 32 * c.args.e + c.args.d * (176 + 9 * c.args.e) + c.loop-j.j < length c.args.store.now
 inside c =
-    let k = dispatcher_inside (entry_before_in_loop c).requires.0 (entry_before_in_loop c).args.d (entry_before_in_loop c).requires.1 in
-    let f = (dispatcher_short (entry_before_in_loop c).requires.0 (entry_before_in_loop c).args.d (entry_before_in_loop c).requires.1).ring_fits in
+    let k = dispatcher_inside c.requires.0 c.args.d c.requires.1 in
+    let f = (dispatcher_short c.requires.0 c.args.d c.requires.1).ring_fits in
     let l = here c in
     omega arith
 
 -- the id that is read there
-read : (c : tie.In-loop invariant_loop decreases_loop)
-    → get_or (entry_before_in_loop c).args.store.now (2367 + 32 * (entry_before_in_loop c).args.e + (entry_before_in_loop c).args.d * (176 + 9 * (entry_before_in_loop c).args.e) + c.before.loop.j) 0 ≡ get_or (ring c.before.before) c.before.loop.j 0
+read : (c : tie.In-loop-j invariant_loop decreases_loop)
+    → get_or c.args.store.now (2367 + 32 * c.args.e + c.args.d * (176 + 9 * c.args.e) + c.loop-j.j) 0 ≡ get_or (ring c.before.before) c.loop-j.j 0
 read c =
-    let a = (entry_before_in_loop c).args in
-    let n : 2367 + 32 * a.e + a.d * (176 + 9 * a.e) + c.before.loop.j ≡ dispatcher_at a.e a.d + 12 + c.before.loop.j = omega arith in
-    ap (λ (k : ℕ). get_or a.store.now k 0) n ∙ read_ring (entry_before_in_loop c).requires.0 a.d (entry_before_in_loop c).requires.1 c.before.loop.j (here c)
+    let a = c.args in
+    let n : 2367 + 32 * a.e + a.d * (176 + 9 * a.e) + c.loop-j.j ≡ dispatcher_at a.e a.d + 12 + c.loop-j.j = omega arith in
+    ap (λ (k : ℕ). get_or a.store.now k 0) n ∙ read_ring c.requires.0 a.d c.requires.1 c.loop-j.j (here c)
 
-mul_first : tie.Need-overflow-mul-first invariant_loop decreases_loop
+mul_first : tie.Need-overflow_mul-first invariant_loop decreases_loop
 mul_first c = search rules
 
-add_first : tie.Need-overflow-add-first invariant_loop decreases_loop
+add_first : tie.Need-overflow_add-first invariant_loop decreases_loop
 add_first c = search rules
 
-mul_first_2 : tie.Need-overflow-mul-first-2 invariant_loop decreases_loop
+mul_first_2 : tie.Need-overflow_mul-first-2 invariant_loop decreases_loop
 mul_first_2 c = search rules
 
-add_first_2 : tie.Need-overflow-add-first-2 invariant_loop decreases_loop
+add_first_2 : tie.Need-overflow_add-first-2 invariant_loop decreases_loop
 add_first_2 c = search rules
 
-mul_first_3 : tie.Need-overflow-mul-first-3 invariant_loop decreases_loop
-mul_first_3 c = let k = dispatcher_inside c.before.requires.0 c.before.args.d c.before.requires.1 in search rules
+mul_first_3 : tie.Need-overflow_mul-first-3 invariant_loop decreases_loop
+mul_first_3 c = let k = dispatcher_inside c.requires.0 c.args.d c.requires.1 in search rules
 
-add_first_3 : tie.Need-overflow-add-first-3 invariant_loop decreases_loop
-add_first_3 c = let k = dispatcher_inside c.before.requires.0 c.before.args.d c.before.requires.1 in search rules
+add_first_3 : tie.Need-overflow_add-first-3 invariant_loop decreases_loop
+add_first_3 c = let k = dispatcher_inside c.requires.0 c.args.d c.requires.1 in search rules
 
-sub_word : tie.Need-overflow-sub-word invariant_loop decreases_loop
+sub_word : tie.Need-overflow_sub-first invariant_loop decreases_loop
 sub_word c = search rules
 
-word_requires : tie.Need-word-requires invariant_loop decreases_loop
-word_requires c κs = let k = dispatcher_inside c.before.requires.0 c.before.args.d c.before.requires.1 in omega arith
+word_requires : tie.Need-word-n-requires invariant_loop decreases_loop
+word_requires c κs = let k = dispatcher_inside c.requires.0 c.args.d c.requires.1 in omega arith
 
-loop_holds : tie.Need-loop-init invariant_loop decreases_loop
-loop_holds c = (search rules, passed_start (none_steps (eqb c.before.before.args.id)) (ring c))
+loop_holds : tie.Need-loop-j-init invariant_loop decreases_loop
+loop_holds c = (search rules, passed_start (none_steps (eqb c.args.id)) (ring c))
 
-add_if1 : tie.Need-overflow-add-if1 invariant_loop decreases_loop
+add_if1 : tie.Need-overflow_add-first-in-loop-j invariant_loop decreases_loop
 add_if1 c = let k = inside c in search rules
 
-mul_if1 : tie.Need-overflow-mul-if1 invariant_loop decreases_loop
+mul_if1 : tie.Need-offset_bounds-store-first invariant_loop decreases_loop
 mul_if1 c = let k = inside c in search rules
 
-shared_slice_read_if1 : tie.Need-shared-slice-read-if1 invariant_loop decreases_loop
+shared_slice_read_if1 : tie.Need-bounds-store-first invariant_loop decreases_loop
 shared_slice_read_if1 c = let k = inside c.before in omega arith
 
-returns : tie.Need-returns invariant_loop decreases_loop
+returns : tie.Need-returns-then-store-first invariant_loop decreases_loop
 unfolding member
 returns c =
-    let q = passed_stop (none_steps (eqb (entry_before_then1 c).args.id)) (ring (word_before_then1 c)) (at_loop_before_then1 c).loop.j 0 (here c.before.before) (at_loop_before_then1 c).loop.invariant.1
-    (ap not (eq-eqb _ _ (sym c.if1.true ∙ read c.before.before))) in
+    let q = passed_stop (none_steps (eqb c.args.id)) (ring c.before.before.before.before) c.loop-j.j 0 (here c.before.before) c.loop-j.invariant.1
+    (ap not (eq-eqb _ _ (sym c.if-store-first.true ∙ read c.before.before))) in
     sym (not-false _ (sym q))
 
-add_j : tie.Need-overflow-add-j invariant_loop decreases_loop
+add_j : tie.Need-overflow_add-j invariant_loop decreases_loop
 add_j c = search rules
 
-loop_less : tie.Need-loop-smaller invariant_loop decreases_loop
+loop_less : tie.Need-loop-j-smaller invariant_loop decreases_loop
 loop_less c = search rules
 
-loop_again : tie.Need-loop-preserved invariant_loop decreases_loop
+loop_again : tie.Need-loop-j-preserved invariant_loop decreases_loop
 loop_again c = (
   search rules,
-  passed_turn (none_steps (eqb (entry_before_else1 c).args.id)) (ring (word_before_else1 c)) (at_loop_before_else1 c).loop.j 0 (here c.before.before) (at_loop_before_else1 c).loop.invariant.1
-      (ap not (ne_eqb _ _ (λ q. c.if1.false (read c.before.before ∙ sym q)))),
+  passed_turn (none_steps (eqb c.args.id)) (ring c.before.before.before.before) c.loop-j.j 0 (here c.before.before) c.loop-j.invariant.1
+      (ap not (ne_eqb _ _ (λ q. c.if-store-first.false (read c.before.before ∙ sym q)))),
 )
 
-returns_2 : tie.Need-returns-2 invariant_loop decreases_loop
+returns_2 : tie.Need-returns invariant_loop decreases_loop
 unfolding member
 returns_2 c =
     let n = counted c.before.before in
-    let l : length (ring c.before.before) ≤ c.before.loop.j = omega arith in
-    sym (not-true _ (sym (passed_end (none_steps (eqb (entry_before_after_loop c).args.id)) (ring c.before.before) c.before.loop.j l c.before.loop.invariant.1)))
+    let l : length (ring c.before.before) ≤ c.loop-j.j = omega arith in
+    sym (not-true _ (sym (passed_end (none_steps (eqb c.args.id)) (ring c.before.before) c.loop-j.j l c.loop-j.invariant.1)))
 
 pub ring_holds_spec : {M : Type 1} → statement M
-ring_holds_spec =
-    tie.close
-    (tie.spec
-    invariant_loop
-    decreases_loop
-    mul_first
-    add_first
-    mul_first_2
-    add_first_2
-    mul_first_3
-    add_first_3
-    sub_word
-    word_requires
-    loop_holds
-    add_if1
-    mul_if1
-    shared_slice_read_if1
-    returns
-    add_j
-    loop_less
-    loop_again
-    returns_2)
+ring_holds_spec = tie.close (tie.spec invariant_loop decreases_loop mul_first add_first mul_first_2 add_first_2 mul_first_3 add_first_3 sub_word word_requires loop_holds add_if1 mul_if1 shared_slice_read_if1 returns add_j loop_less loop_again returns_2)

@@ -14,51 +14,35 @@ use Rattle.push_records.proofs.Making.{part_lent, room_words}
 use Rattle.push_records.proofs.listed.push_flat.Statement.{statement}
 use Rattle.push_records.proofs.listed.push_flat.Tie as tie
 
--- the places: what stands before each, by name
-abbrev entry_before_room : tie.After-room → tie.Start
-entry_before_room c = c.before.before.before
-
-abbrev entry_before_broker_push_arg2 : tie.After-broker-push-arg2 → tie.Start
-entry_before_broker_push_arg2 c = entry_before_room c.before.before
-
-abbrev broker_push_before_slice_known4 : tie.After-slice-known4 → tie.After-broker-push
-broker_push_before_slice_known4 c = c.before.before.before.before
-
-abbrev room_before_slice_known4 : tie.After-slice-known4 → tie.After-room
-room_before_slice_known4 c = (broker_push_before_slice_known4 c).before.before.before
-
-abbrev entry_before_slice_known4 : tie.After-slice-known4 → tie.Start
-entry_before_slice_known4 c = entry_before_room (room_before_slice_known4 c)
-
 -- the words lent are words of the list
-within : (c : tie.After-room) → c.room.result * 13 ≤ length (entry_before_room c).args.flat.now
+within : (c : tie.After-room-end) → c.room-end.result * 13 ≤ length c.args.flat.now
 within c =
-    let e = c.room.ensures in
-    rw (e, entry_before_room) (room_words (length (entry_before_room c).args.flat.now) (entry_before_room c).args.records)
+    let e = c.room-end.ensures in
+    rw (e, entry_before_room) (room_words (length c.args.flat.now) c.args.records)
 
 -- and their records are the room's
 lent_length : (k r : ℕ) (l : List ℕ) → k ≡ r * 13 → k ≤ length l → length (take k l) / 13 ≡ r
 lent_length k r l e h = rw (length-take-le k l h) (omega arith)
 
-room_requires : tie.Need-room-requires
+room_requires : tie.Need-room-end-requires
 room_requires c κs = search rules
 
-mul_end : tie.Need-overflow-mul-end
+mul_end : tie.Need-overflow_mul-end
 mul_end c = record { fits = let w = within c in omega arith }
 
-slice_relend_prefix_broker_push : tie.Need-slice-relend-prefix-broker-push
+slice_relend_prefix_broker_push : tie.Need-slice_bounds-broker_push-end
 slice_relend_prefix_broker_push c = within c.before
 
-slice_aggregate_broker_push : tie.Need-slice-aggregate-broker-push
-slice_aggregate_broker_push c = sym (length-take-le (c.before.before.room.result * 13) (entry_before_broker_push_arg2 c).args.flat.now (within c.before.before))
+slice_aggregate_broker_push : tie.Need-slice_bounds-broker_push-end-2
+slice_aggregate_broker_push c = sym (length-take-le (c.room-end.result * 13) c.args.flat.now (within c.before.before))
 
-broker_push_requires : tie.Need-broker-push-requires
+broker_push_requires : tie.Need-broker_push-requires
 broker_push_requires c κs = search rules
 
-same_length : tie.Need-same-length
+same_length : tie.Need-shape_of-store
 same_length c = search rules
 
-same_length_2 : tie.Need-same-length-2
+same_length_2 : tie.Need-shape_of-flat
 same_length_2 c = search rules
 
 -- the push of the words lent is that of the room, and leaves its records in the whole list
@@ -82,21 +66,11 @@ module _ (ws l : List ℕ) (n records : ℕ) (sized : n ≡ room (length l) reco
 
 returns : tie.Need-returns
 returns c =
-    let start = entry_before_slice_known4 c in
-    let called = broker_push_before_slice_known4 c in
-    let sized = room_before_slice_known4 c in
-    let w = whole start.args.store.now start.args.flat.now sized.room.result start.args.records sized.room.ensures (within sized) called.broker_push.ensures.0 called.broker_push.ensures.1.0 called.broker_push.ensures.1.1 in
+    let start = c.before.before.before.before.before.before.before.before.before.before in
+    let called = c.before.before.before.before in
+    let sized = c.before.before.before.before.before.before.before in
+    let w = whole start.args.store.now start.args.flat.now sized.room-end.result start.args.records sized.room-end.ensures (within sized) called.broker_push.ensures.0 called.broker_push.ensures.1.0 called.broker_push.ensures.1.1 in
     (w.0, (w.1, w.2))
 
 pub push_flat_spec : {M : Type 1} → statement M
-push_flat_spec =
-    tie.close
-    (tie.spec
-    room_requires
-    mul_end
-    slice_relend_prefix_broker_push
-    slice_aggregate_broker_push
-    broker_push_requires
-    same_length
-    same_length_2
-    returns)
+push_flat_spec = tie.close (tie.spec room_requires mul_end slice_relend_prefix_broker_push slice_aggregate_broker_push broker_push_requires same_length same_length_2 returns)

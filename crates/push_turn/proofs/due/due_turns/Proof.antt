@@ -17,97 +17,69 @@ use borrow.Author.Rules.{rules}
 use Rattle.push_turn.proofs.due.due_turns.Statement.{statement}
 use Rattle.push_turn.proofs.due.due_turns.Tie as tie
 
-abbrev invariant_loop : tie.invariant-loop
+abbrev invariant_loop : tie.invariant-loop-h
 invariant_loop store e d t n ring permits₀ head₀ taken₀ count₀ permits head taken count =
     (length permits ≡ length permits₀)
     × Since (fixed_of (decode store) (dispatcher_nth (decode store) d)) (local_from permits₀ (head_of (dispatcher_nth (decode store) d)) 0) (local_from permits head taken) count
 
-abbrev decreases_loop : tie.decreases-loop
+abbrev decreases_loop : tie.decreases-loop-h
 decreases_loop store e d t n ring permits₀ head₀ taken₀ count₀ permits head taken count =
     left (fixed_of (decode store) (dispatcher_nth (decode store) d)) (local_from permits head taken)
 
--- the places: what stands before each, by name
-abbrev entry_before_slice_known : tie.After-slice-known invariant_loop decreases_loop → tie.Start invariant_loop decreases_loop
-entry_before_slice_known c = c.before.before.before
-
-abbrev entry_before_load_head : tie.After-load-head invariant_loop decreases_loop → tie.Start invariant_loop decreases_loop
-entry_before_load_head c = entry_before_slice_known c.before
-
-abbrev entry_before_take_turn_arg : tie.After-take-turn-arg invariant_loop decreases_loop → tie.Start invariant_loop decreases_loop
-entry_before_take_turn_arg c = entry_before_load_head c.before.before
-
-abbrev take_turn_before_enum_told : tie.After-enum-told invariant_loop decreases_loop → tie.After-take-turn invariant_loop decreases_loop
-take_turn_before_enum_told c = c.before.before.before.before
-
-abbrev at_loop_before_enum_told : tie.After-enum-told invariant_loop decreases_loop → tie.At-loop invariant_loop decreases_loop
-at_loop_before_enum_told c = (take_turn_before_enum_told c).before.before
-
-abbrev entry_before_enum_told : tie.After-enum-told invariant_loop decreases_loop → tie.Start invariant_loop decreases_loop
-entry_before_enum_told c = entry_before_take_turn_arg (take_turn_before_enum_told c).before
-
-abbrev take_turn_before_known_told : tie.After-known-told invariant_loop decreases_loop → tie.After-take-turn invariant_loop decreases_loop
-take_turn_before_known_told c = c.before.before.before.before.before
-
-abbrev at_loop_before_known_told : tie.After-known-told invariant_loop decreases_loop → tie.At-loop invariant_loop decreases_loop
-at_loop_before_known_told c = (take_turn_before_known_told c).before.before
-
-abbrev entry_before_known_told : tie.After-known-told invariant_loop decreases_loop → tie.Start invariant_loop decreases_loop
-entry_before_known_told c = entry_before_take_turn_arg (take_turn_before_known_told c).before
-
 -- what the turn came to: a stop
-stopped : (c : tie.After-enum-told invariant_loop decreases_loop) → local_turn (fixed_of (decode (entry_before_enum_told c).args.store.now) (dispatcher_nth (decode (entry_before_enum_told c).args.store.now) (entry_before_enum_told c).args.d)) (local_from (at_loop_before_enum_told c).loop.permits (at_loop_before_enum_told c).loop.head (at_loop_before_enum_told c).loop.taken) ≡ stop (local_from (take_turn_before_enum_told c).take_turn.new.1.1.1.1.1.1.0 c.enum_told.given.0.0 c.enum_told.given.0.1.0)
+stopped : (c : tie.In_default invariant_loop decreases_loop) → local_turn (fixed_of (decode c.args.store.now) (dispatcher_nth (decode c.args.store.now) c.args.d)) (local_from c.loop-h.permits c.loop-h.head c.loop-h.taken) ≡ stop (local_from c.take_turn-turn.new.1.1.1.1.1.1.0 c.in_default.field-0 c.in_default.field-1)
 unfolding turn_of
-stopped c = sym (take_turn_before_enum_told c).take_turn.ensures.0 ∙ ap (λ (t : turns.Turn). turn_of (take_turn_before_enum_told c).take_turn.new.1.1.1.1.1.1.0 t) c.enum_told.given.1
+stopped c = sym c.take_turn-turn.ensures.0 ∙ ap (λ (t : turns.Turn). turn_of c.take_turn-turn.new.1.1.1.1.1.1.0 t) c.in_default.is
 
 -- or a move
-moved : (c : tie.After-known-told invariant_loop decreases_loop) → local_turn (fixed_of (decode (entry_before_known_told c).args.store.now) (dispatcher_nth (decode (entry_before_known_told c).args.store.now) (entry_before_known_told c).args.d)) (local_from (at_loop_before_known_told c).loop.permits (at_loop_before_known_told c).loop.head (at_loop_before_known_told c).loop.taken) ≡ move (step_of c.before.turn.given.0.0) (local_from (take_turn_before_known_told c).take_turn.new.1.1.1.1.1.1.0 c.before.turn.given.0.1.0 c.before.turn.given.0.1.1.0)
+moved : (c : tie.In-Move invariant_loop decreases_loop) → local_turn (fixed_of (decode c.args.store.now) (dispatcher_nth (decode c.args.store.now) c.args.d)) (local_from c.loop-h.permits c.loop-h.head c.loop-h.taken) ≡ move (step_of c.in-Move.field-0) (local_from c.take_turn-turn.new.1.1.1.1.1.1.0 c.in-Move.h c.in-Move.k)
 unfolding turn_of
-moved c = sym (take_turn_before_known_told c).take_turn.ensures.0 ∙ ap (λ (t : turns.Turn). turn_of (take_turn_before_known_told c).take_turn.new.1.1.1.1.1.1.0 t) c.before.turn.given.1
+moved c = sym c.take_turn-turn.ensures.0 ∙ ap (λ (t : turns.Turn). turn_of c.take_turn-turn.new.1.1.1.1.1.1.0 t) c.in-Move.is
 
-load_head_requires : tie.Need-load-head-requires invariant_loop decreases_loop
-load_head_requires c κs = (entry_before_slice_known c).requires.0.here
+load_head_requires : tie.Need-load_head-head-requires invariant_loop decreases_loop
+load_head_requires c κs = c.requires.0.here
 
-loop_holds : tie.Need-loop-init invariant_loop decreases_loop
+loop_holds : tie.Need-loop-h-init invariant_loop decreases_loop
 unfolding local_from head_of
 loop_holds c =
-    let a = (entry_before_load_head c).args in
-    let n = ap (λ (m : List ℕ). length m) (entry_before_load_head c).requires.1 in
-    let p = (entry_before_load_head c).requires.2 in
-    (refl, rw c.load_head.ensures (since_start (fixed_of (decode a.store.now) (dispatcher_nth (decode a.store.now) a.d)) (local_from a.permits.now (head_of (dispatcher_nth (decode a.store.now) a.d)) 0) (omega arith)))
+    let a = c.args in
+    let n = ap (λ (m : List ℕ). length m) c.requires.1 in
+    let p = c.requires.2 in
+    (refl, rw c.load_head-head.ensures (since_start (fixed_of (decode a.store.now) (dispatcher_nth (decode a.store.now) a.d)) (local_from a.permits.now (head_of (dispatcher_nth (decode a.store.now) a.d)) 0) (omega arith)))
 
-take_turn_requires : tie.Need-take-turn-requires invariant_loop decreases_loop
+take_turn_requires : tie.Need-take_turn-turn-requires invariant_loop decreases_loop
 unfolding local_from
 take_turn_requires c κs =
-    let p = (entry_before_take_turn_arg c).requires in
+    let p = c.requires in
     let n = ap (λ (m : List ℕ). length m) p.1 in
-    let r = c.before.loop.invariant.1.in_ring in
+    let r = c.loop-h.invariant.1.in_ring in
     (p.0, p.1, omega arith)
 
-enum_known_turn : tie.Need-enum-known-turn invariant_loop decreases_loop
+enum_known_turn : tie.Need-enum_known-turn invariant_loop decreases_loop
 enum_known_turn c = search rules
 
-enum_told : tie.Need-enum-told invariant_loop decreases_loop
+enum_told : tie.Need-enum_told-1 invariant_loop decreases_loop
 enum_told c = search rules
 
-same_length : tie.Need-same-length invariant_loop decreases_loop
+same_length : tie.Need-shape_of-permits-in_default invariant_loop decreases_loop
 same_length c = search rules
 
-returns : tie.Need-returns invariant_loop decreases_loop
+returns : tie.Need-returns-in_default invariant_loop decreases_loop
 unfolding local_from
 returns c =
-    let a = (entry_before_enum_told c).args in
-    let r = since_stop (fixed_of (decode a.store.now) (dispatcher_nth (decode a.store.now) a.d)) (local_from a.permits.now (head_of (dispatcher_nth (decode a.store.now) a.d)) 0) (local_from (at_loop_before_enum_told c).loop.permits (at_loop_before_enum_told c).loop.head (at_loop_before_enum_told c).loop.taken) (at_loop_before_enum_told c).loop.count (at_loop_before_enum_told c).loop.invariant.1 (local_from (take_turn_before_enum_told c).take_turn.new.1.1.1.1.1.1.0 c.enum_told.given.0.0 c.enum_told.given.0.1.0) (stopped c) in
+    let a = c.args in
+    let r = since_stop (fixed_of (decode a.store.now) (dispatcher_nth (decode a.store.now) a.d)) (local_from a.permits.now (head_of (dispatcher_nth (decode a.store.now) a.d)) 0) (local_from c.loop-h.permits c.loop-h.head c.loop-h.taken) c.loop-h.count c.loop-h.invariant.1 (local_from c.take_turn-turn.new.1.1.1.1.1.1.0 c.in_default.field-0 c.in_default.field-1) (stopped c) in
     let s = served_turns (decode a.store.now) (dispatcher_nth (decode a.store.now) a.d) a.permits.now in (
       r.0 ∙ ap (λ (x : Steps). length x.made) (sym s),
       ap (λ (m : Local). m.permits) r.1 ∙ ap (λ (x : Steps). x.after.permits) (sym s),
     )
 
-add_count : tie.Need-overflow-add-count invariant_loop decreases_loop
+add_count : tie.Need-overflow_add-count invariant_loop decreases_loop
 unfolding fixed_of
 add_count c =
-    let a = (entry_before_known_told c).args in
-    let p = (entry_before_known_told c).requires.0 in
-    let f = since_few (fixed_of (decode a.store.now) (dispatcher_nth (decode a.store.now) a.d)) (local_from a.permits.now (head_of (dispatcher_nth (decode a.store.now) a.d)) 0) (local_from (at_loop_before_known_told c).loop.permits (at_loop_before_known_told c).loop.head (at_loop_before_known_told c).loop.taken) (at_loop_before_known_told c).loop.count (at_loop_before_known_told c).loop.invariant.1 in
+    let a = c.args in
+    let p = c.requires.0 in
+    let f = since_few (fixed_of (decode a.store.now) (dispatcher_nth (decode a.store.now) a.d)) (local_from a.permits.now (head_of (dispatcher_nth (decode a.store.now) a.d)) 0) (local_from c.loop-h.permits c.loop-h.head c.loop-h.taken) c.loop-h.count c.loop-h.invariant.1 in
     let q = p.here.lists_fit.queue_fits in
     let m = p.here.lists_fit.marks_fit in
     let o = p.one_mark_each in
@@ -115,29 +87,15 @@ add_count c =
     let e = p.here.canon.E_to in
     omega arith
 
-loop_less : tie.Need-loop-smaller invariant_loop decreases_loop
+loop_less : tie.Need-loop-h-smaller invariant_loop decreases_loop
 loop_less c =
-    let a = (entry_before_known_told c).args in
-    turn_less (fixed_of (decode a.store.now) (dispatcher_nth (decode a.store.now) a.d)) (local_from (at_loop_before_known_told c).loop.permits (at_loop_before_known_told c).loop.head (at_loop_before_known_told c).loop.taken) (step_of c.before.turn.given.0.0) (local_from (take_turn_before_known_told c).take_turn.new.1.1.1.1.1.1.0 c.before.turn.given.0.1.0 c.before.turn.given.0.1.1.0) (moved c)
+    let a = c.args in
+    turn_less (fixed_of (decode a.store.now) (dispatcher_nth (decode a.store.now) a.d)) (local_from c.loop-h.permits c.loop-h.head c.loop-h.taken) (step_of c.in-Move.field-0) (local_from c.take_turn-turn.new.1.1.1.1.1.1.0 c.in-Move.h c.in-Move.k) (moved c)
 
-loop_again : tie.Need-loop-preserved invariant_loop decreases_loop
+loop_again : tie.Need-loop-h-preserved invariant_loop decreases_loop
 loop_again c =
-    let a = (entry_before_known_told c).args in
-    (search rules, since_move (fixed_of (decode a.store.now) (dispatcher_nth (decode a.store.now) a.d)) (local_from a.permits.now (head_of (dispatcher_nth (decode a.store.now) a.d)) 0) (local_from (at_loop_before_known_told c).loop.permits (at_loop_before_known_told c).loop.head (at_loop_before_known_told c).loop.taken) (at_loop_before_known_told c).loop.count (at_loop_before_known_told c).loop.invariant.1 (step_of c.before.turn.given.0.0) (local_from (take_turn_before_known_told c).take_turn.new.1.1.1.1.1.1.0 c.before.turn.given.0.1.0 c.before.turn.given.0.1.1.0) (moved c))
+    let a = c.args in
+    (search rules, since_move (fixed_of (decode a.store.now) (dispatcher_nth (decode a.store.now) a.d)) (local_from a.permits.now (head_of (dispatcher_nth (decode a.store.now) a.d)) 0) (local_from c.loop-h.permits c.loop-h.head c.loop-h.taken) c.loop-h.count c.loop-h.invariant.1 (step_of c.in-Move.field-0) (local_from c.take_turn-turn.new.1.1.1.1.1.1.0 c.in-Move.h c.in-Move.k) (moved c))
 
 pub due_turns_spec : {M : Type 1} → statement M
-due_turns_spec =
-    tie.close
-    (tie.spec
-    invariant_loop
-    decreases_loop
-    load_head_requires
-    loop_holds
-    take_turn_requires
-    enum_known_turn
-    enum_told
-    same_length
-    returns
-    add_count
-    loop_less
-    loop_again)
+due_turns_spec = tie.close (tie.spec invariant_loop decreases_loop load_head_requires loop_holds take_turn_requires enum_known_turn enum_told same_length returns add_count loop_less loop_again)

@@ -16,25 +16,13 @@ use Rattle.redeliver.proofs.found.found_count.Reads as reads
 use Rattle.redeliver.proofs.found.found_count.Lts as lts
 use Rattle.groups.proofs.walk.group_end.Reads as group_end_reads
 use Rattle.redeliver.proofs.found.found_here.Reads as found_here_reads
+use borrow.Author.Rules.{rules}
 
-abbrev invariant_loop : tie.invariant-loop
+abbrev invariant_loop : tie.invariant-loop-at
 invariant_loop store e topic list at₀ count₀ at count = Stands list at × (count + length (found_positions (ledger_of (decode store) topic) (groups_from list at)) ≡ length (found_positions (ledger_of (decode store) topic) (groups_from list 0)))
 
-abbrev decreases_loop : tie.decreases-loop
+abbrev decreases_loop : tie.decreases-loop-at
 decreases_loop store e topic list at₀ count₀ at count = length list - at
-
--- the places: what stands before each, by name
-abbrev entry_before_in_loop : tie.In-loop invariant_loop decreases_loop → tie.Start invariant_loop decreases_loop
-entry_before_in_loop c = c.before.before.before.before
-
-abbrev entry_before_after_loop : tie.After-loop invariant_loop decreases_loop → tie.Start invariant_loop decreases_loop
-entry_before_after_loop c = c.before.before.before.before
-
-abbrev entry_before_found_here : tie.After-found-here invariant_loop decreases_loop → tie.Start invariant_loop decreases_loop
-entry_before_found_here c = entry_before_in_loop c.before
-
-abbrev at_loop_before_group_end : tie.After-group-end invariant_loop decreases_loop → tie.At-loop invariant_loop decreases_loop
-at_loop_before_group_end c = c.before.before.before
 
 -- nothing is found among no groups
 found_nothing : (l : List StoredMessage) → length (found_positions l []) ≡ 0
@@ -42,64 +30,53 @@ unfolding found_positions
 found_nothing l = refl
 
 -- the turn at an offset
-turn : (c : tie.In-loop invariant_loop decreases_loop) → Turn (entry_before_in_loop c).args.list.now c.before.loop.at
-turn c = stands_turn (entry_before_in_loop c).args.list.now c.before.loop.at c.before.loop.invariant.0 (omega arith)
+turn : (c : tie.In-loop-at invariant_loop decreases_loop) → Turn c.args.list.now c.loop-at.at
+turn c = stands_turn c.args.list.now c.loop-at.at c.loop-at.invariant.0 (omega arith)
 
 -- what is ahead, with this group first
-ahead : (c : tie.In-loop invariant_loop decreases_loop) → length (found_positions (ledger_of (decode (entry_before_in_loop c).args.store.now) (entry_before_in_loop c).args.topic) (groups_from (entry_before_in_loop c).args.list.now c.before.loop.at))
-    ≡ length (found_positions (ledger_of (decode (entry_before_in_loop c).args.store.now) (entry_before_in_loop c).args.topic) (group_at (entry_before_in_loop c).args.list.now c.before.loop.at ∷ []))
-    + length (found_positions (ledger_of (decode (entry_before_in_loop c).args.store.now) (entry_before_in_loop c).args.topic) (groups_from (entry_before_in_loop c).args.list.now (end_at (entry_before_in_loop c).args.list.now c.before.loop.at)))
+ahead : (c : tie.In-loop-at invariant_loop decreases_loop) → length (found_positions (ledger_of (decode c.args.store.now) c.args.topic) (groups_from c.args.list.now c.loop-at.at))
+    ≡ length (found_positions (ledger_of (decode c.args.store.now) c.args.topic) (group_at c.args.list.now c.loop-at.at ∷ []))
+    + length (found_positions (ledger_of (decode c.args.store.now) c.args.topic) (groups_from c.args.list.now (end_at c.args.list.now c.loop-at.at)))
 ahead c =
-    rw (turn c).here (found_first_count (ledger_of (decode (entry_before_in_loop c).args.store.now) (entry_before_in_loop c).args.topic) (group_at (entry_before_in_loop c).args.list.now c.before.loop.at) (groups_from (entry_before_in_loop c).args.list.now (end_at (entry_before_in_loop c).args.list.now c.before.loop.at)))
+    rw (turn c).here (found_first_count (ledger_of (decode c.args.store.now) c.args.topic) (group_at c.args.list.now c.loop-at.at) (groups_from c.args.list.now (end_at c.args.list.now c.loop-at.at)))
 
-loop_holds : tie.Need-loop-init invariant_loop decreases_loop
-loop_holds c = (c.before.before.requires.1, omega arith)
+loop_holds : tie.Need-loop-at-init invariant_loop decreases_loop
+loop_holds c = (c.requires.1, omega arith)
 
-found_here_requires : tie.Need-found-here-requires invariant_loop decreases_loop
-found_here_requires c κs = ((entry_before_in_loop c).requires.0, (turn c).ranges)
+found_here_requires : tie.Need-found_here-count-requires invariant_loop decreases_loop
+found_here_requires c κs = (c.requires.0, (turn c).ranges)
 
-add_count : tie.Need-overflow-add-count invariant_loop decreases_loop
+add_count : tie.Need-overflow_add-count invariant_loop decreases_loop
 add_count c =
     let s = ahead c.before in
-    let w = c.before.before.loop.invariant.1 in
-    let f = found_few (ledger_of (decode (entry_before_found_here c).args.store.now) (entry_before_found_here c).args.topic) (groups_from (entry_before_found_here c).args.list.now 0) in
-    let m = stands_few (entry_before_found_here c).args.list.now 0 (entry_before_found_here c).requires.1 in
-    let r = c.found_Here.ensures in
+    let w = c.loop-at.invariant.1 in
+    let f = found_few (ledger_of (decode c.args.store.now) c.args.topic) (groups_from c.args.list.now 0) in
+    let m = stands_few c.args.list.now 0 c.requires.1 in
+    let r = c.found_here-count.ensures in
     omega arith
 
-group_end_requires : tie.Need-group-end-requires invariant_loop decreases_loop
+group_end_requires : tie.Need-group_end-at-requires invariant_loop decreases_loop
 group_end_requires c κs = (turn c.before).fits
 
-loop_less : tie.Need-loop-smaller invariant_loop decreases_loop
+loop_less : tie.Need-loop-at-smaller invariant_loop decreases_loop
 loop_less c =
-    let e = c.group_end.ensures in
-    let t = c.before.before.loop_test.true in
+    let e = c.group_end-at.ensures in
+    let t = c.loop-at-test.true in
     omega arith
 
-loop_again : tie.Need-loop-preserved invariant_loop decreases_loop
+loop_again : tie.Need-loop-at-preserved invariant_loop decreases_loop
 loop_again c =
     let s = ahead c.before.before in
-    let w = (at_loop_before_group_end c).loop.invariant.1 in
-    let r = c.before.found_Here.ensures in
-    rw c.group_end.ensures ((turn c.before.before).next, omega arith)
+    let w = c.loop-at.invariant.1 in
+    let r = c.found_here-count.ensures in
+    rw c.group_end-at.ensures ((turn c.before.before).next, omega arith)
 
 returns : tie.Need-returns invariant_loop decreases_loop
 returns c =
-    let w = c.before.loop.invariant.1 in
-    let t = c.loop_test.false in
-    let n : length (found_positions (ledger_of (decode (entry_before_after_loop c).args.store.now) (entry_before_after_loop c).args.topic) (groups_from (entry_before_after_loop c).args.list.now c.before.loop.at)) ≡ 0 = rw (stands_end (entry_before_after_loop c).args.list.now c.before.loop.at (omega arith)) (found_nothing (ledger_of (decode (entry_before_after_loop c).args.store.now) (entry_before_after_loop c).args.topic)) in
+    let w = c.loop-at.invariant.1 in
+    let t = c.loop-at-test.false in
+    let n : length (found_positions (ledger_of (decode c.args.store.now) c.args.topic) (groups_from c.args.list.now c.loop-at.at)) ≡ 0 = rw (stands_end c.args.list.now c.loop-at.at (omega arith)) (found_nothing (ledger_of (decode c.args.store.now) c.args.topic)) in
     omega arith
 
 pub found_count_spec : {M : Type 1} → statement M
-found_count_spec =
-    tie.close
-    (tie.spec
-    invariant_loop
-    decreases_loop
-    loop_holds
-    found_here_requires
-    add_count
-    group_end_requires
-    loop_less
-    loop_again
-    returns)
+found_count_spec = tie.close (tie.spec invariant_loop decreases_loop loop_holds found_here_requires add_count group_end_requires loop_less loop_again returns)

@@ -15,141 +15,93 @@ use Rattle.topic.proofs.Positions.{by_message_id, position_slot, id_here, count_
 use Rattle.topic.proofs.find.position_of.Statement.{statement}
 use Rattle.topic.proofs.find.position_of.Tie as tie
 
-abbrev invariant_loop : tie.invariant-loop
+abbrev invariant_loop : tie.invariant-loop-k
 invariant_loop store e t ledger entry at n k₀ k = (k ≤ n) × Sought by_message_id (id_of ledger entry) (topic_nth (decode store) t).messages k
 
-abbrev decreases_loop : tie.decreases-loop
+abbrev decreases_loop : tie.decreases-loop-k
 decreases_loop store e t ledger entry at n k₀ k = n - k
 
--- the places: what stands before each, by name
-abbrev entry_before_word : tie.After-word invariant_loop decreases_loop → tie.Start invariant_loop decreases_loop
-entry_before_word c = c.before.before.before
-
-abbrev topic_at_before_in_loop : tie.In-loop invariant_loop decreases_loop → tie.After-topic-at invariant_loop decreases_loop
-topic_at_before_in_loop c = c.before.before.before
-
-abbrev entry_before_in_loop : tie.In-loop invariant_loop decreases_loop → tie.Start invariant_loop decreases_loop
-entry_before_in_loop c = entry_before_word c.before.before
-
-abbrev entry_before_after_loop : tie.After-loop invariant_loop decreases_loop → tie.Start invariant_loop decreases_loop
-entry_before_after_loop c = entry_before_word c.before.before
-
-abbrev topic_at_before_same_id : tie.After-same-id invariant_loop decreases_loop → tie.After-topic-at invariant_loop decreases_loop
-topic_at_before_same_id c = topic_at_before_in_loop c.before
-
-abbrev entry_before_same_id : tie.After-same-id invariant_loop decreases_loop → tie.Start invariant_loop decreases_loop
-entry_before_same_id c = entry_before_in_loop c.before
-
-abbrev at_loop_before_then1 : tie.Then1 invariant_loop decreases_loop → tie.At-loop invariant_loop decreases_loop
-at_loop_before_then1 c = c.before.before.before
-
-abbrev entry_before_then1 : tie.Then1 invariant_loop decreases_loop → tie.Start invariant_loop decreases_loop
-entry_before_then1 c = entry_before_same_id c.before
-
-abbrev at_loop_before_else1 : tie.Else1 invariant_loop decreases_loop → tie.At-loop invariant_loop decreases_loop
-at_loop_before_else1 c = c.before.before.before
-
-abbrev entry_before_else1 : tie.Else1 invariant_loop decreases_loop → tie.Start invariant_loop decreases_loop
-entry_before_else1 c = entry_before_same_id c.before
-
 -- the count is the number of messages
-counted : (c : tie.After-word invariant_loop decreases_loop) → c.word.result ≡ length (topic_nth (decode (entry_before_word c).args.store.now) (entry_before_word c).args.t).messages
-counted c = c.word.ensures ∙ count_here (entry_before_word c).args.t c.before.topic_at.result (entry_before_word c).requires c.before.topic_at.ensures
+counted : (c : tie.After-word-n invariant_loop decreases_loop) → c.word-n.result ≡ length (topic_nth (decode c.args.store.now) c.args.t).messages
+counted c = c.word-n.ensures ∙ count_here c.args.t c.topic_at-at.result c.requires c.topic_at-at.ensures
 
 -- the position of a turn is one of the ledger
-here : (c : tie.In-loop invariant_loop decreases_loop) → c.before.loop.k < length (topic_nth (decode (entry_before_in_loop c).args.store.now) (entry_before_in_loop c).args.t).messages
+here : (c : tie.In-loop-k invariant_loop decreases_loop) → c.loop-k.k < length (topic_nth (decode c.args.store.now) c.args.t).messages
 here c = let n = counted c.before.before in omega arith
 
 -- its words lie in the store
-inside : (c : tie.In-loop invariant_loop decreases_loop) → (topic_at_before_in_loop c).topic_at.result + 4 + c.before.loop.k * 4 + 4 ≤ length (entry_before_in_loop c).args.store.now
+inside : (c : tie.In-loop-k invariant_loop decreases_loop) → c.topic_at-at.result + 4 + c.loop-k.k * 4 + 4 ≤ length c.args.store.now
 inside c =
     let h = here c in
-    let f = (entry_before_in_loop c).requires.messages_fit in
-    let a = (topic_at_before_in_loop c).topic_at.ensures in
-    let i = (entry_before_in_loop c).requires.inside in
-    let l = (entry_before_in_loop c).requires.canon.long in
+    let f = c.requires.messages_fit in
+    let a = c.topic_at-at.ensures in
+    let i = c.requires.inside in
+    let l = c.requires.canon.long in
     omega arith
 
 -- the test of a turn is the test of its message
-tested : (c : tie.After-same-id invariant_loop decreases_loop) → c.same_id.result ≡ same_id (id_of (entry_before_same_id c).args.ledger (entry_before_same_id c).args.entry) (get_or (topic_nth (decode (entry_before_same_id c).args.store.now) (entry_before_same_id c).args.t).messages c.before.before.loop.k no_message).id
+tested : (c : tie.After-same_id invariant_loop decreases_loop) → c.same_id.result ≡ same_id (id_of c.args.ledger c.args.entry) (get_or (topic_nth (decode c.args.store.now) c.args.t).messages c.loop-k.k no_message).id
 tested c =
     c.same_id.ensures
-    ∙ ap (λ (i : Id). same_id (id_of (entry_before_same_id c).args.ledger (entry_before_same_id c).args.entry) i)
-    (id_here (entry_before_same_id c).args.t (topic_at_before_same_id c).topic_at.result c.before.before.loop.k (entry_before_same_id c).requires (topic_at_before_same_id c).topic_at.ensures (here c.before))
+    ∙ ap (λ (i : Id). same_id (id_of c.args.ledger c.args.entry) i)
+    (id_here c.args.t c.topic_at-at.result c.loop-k.k c.requires c.topic_at-at.ensures (here c.before))
 
-topic_at_requires : tie.Need-topic-at-requires invariant_loop decreases_loop
+topic_at_requires : tie.Need-topic_at-at-requires invariant_loop decreases_loop
 topic_at_requires c κs = search rules
 
-add_word : tie.Need-overflow-add-word invariant_loop decreases_loop
+add_word : tie.Need-overflow_add-at invariant_loop decreases_loop
 add_word c = search rules
 
-word_requires : tie.Need-word-requires invariant_loop decreases_loop
+word_requires : tie.Need-word-n-requires invariant_loop decreases_loop
 word_requires c κs =
-    let a = c.topic_at.ensures in
-    let i = c.before.before.requires.inside in
-    let l = c.before.before.requires.canon.long in
+    let a = c.topic_at-at.ensures in
+    let i = c.requires.inside in
+    let l = c.requires.canon.long in
     omega arith
 
-loop_holds : tie.Need-loop-init invariant_loop decreases_loop
+loop_holds : tie.Need-loop-k-init invariant_loop decreases_loop
 loop_holds c =
-    let i = id_of (entry_before_word c).args.ledger (entry_before_word c).args.entry in
-    let l = (topic_nth (decode (entry_before_word c).args.store.now) (entry_before_word c).args.t).messages in
+    let i = id_of c.args.ledger c.args.entry in
+    let l = (topic_nth (decode c.args.store.now) c.args.t).messages in
     (search rules, sought_start by_message_id i l)
 
-add_same_id : tie.Need-overflow-add-same-id invariant_loop decreases_loop
+add_same_id : tie.Need-overflow_add-at-in-loop-k invariant_loop decreases_loop
 add_same_id c = let k = inside c in omega arith
 
-mul_same_id : tie.Need-overflow-mul-same-id invariant_loop decreases_loop
+mul_same_id : tie.Need-overflow_mul-k invariant_loop decreases_loop
 mul_same_id c = let k = inside c in omega arith
 
-add_same_id_2 : tie.Need-overflow-add-same-id-2 invariant_loop decreases_loop
+add_same_id_2 : tie.Need-overflow_add-at-in-loop-k-2 invariant_loop decreases_loop
 add_same_id_2 c = let k = inside c in omega arith
 
-same_id_requires : tie.Need-same-id-requires invariant_loop decreases_loop
+same_id_requires : tie.Need-same_id-requires invariant_loop decreases_loop
 same_id_requires c κs = let k = inside c in omega arith
 
-returns : tie.Need-returns invariant_loop decreases_loop
+returns : tie.Need-returns-then-same_id invariant_loop decreases_loop
 returns c =
-    let i = id_of (entry_before_then1 c).args.ledger (entry_before_then1 c).args.entry in
-    let l = (topic_nth (decode (entry_before_then1 c).args.store.now) (entry_before_then1 c).args.t).messages in
-    sought_here by_message_id i l (at_loop_before_then1 c).loop.k no_message (here c.before.before) (at_loop_before_then1 c).loop.invariant.1 (sym (tested c.before) ∙ c.if1.true)
+    let i = id_of c.args.ledger c.args.entry in
+    let l = (topic_nth (decode c.args.store.now) c.args.t).messages in
+    sought_here by_message_id i l c.loop-k.k no_message (here c.before.before) c.loop-k.invariant.1 (sym (tested c.before) ∙ c.if-same_id.true)
     ∙ sym (position_slot i l)
 
-add_k : tie.Need-overflow-add-k invariant_loop decreases_loop
+add_k : tie.Need-overflow_add-k invariant_loop decreases_loop
 add_k c = search rules
 
-loop_less : tie.Need-loop-smaller invariant_loop decreases_loop
+loop_less : tie.Need-loop-k-smaller invariant_loop decreases_loop
 loop_less c = search rules
 
-loop_again : tie.Need-loop-preserved invariant_loop decreases_loop
+loop_again : tie.Need-loop-k-preserved invariant_loop decreases_loop
 loop_again c =
-    let i = id_of (entry_before_else1 c).args.ledger (entry_before_else1 c).args.entry in
-    let l = (topic_nth (decode (entry_before_else1 c).args.store.now) (entry_before_else1 c).args.t).messages in
-    (search rules, sought_on by_message_id i l (at_loop_before_else1 c).loop.k no_message (here c.before.before) (at_loop_before_else1 c).loop.invariant.1 (sym (tested c.before) ∙ c.if1.false))
+    let i = id_of c.args.ledger c.args.entry in
+    let l = (topic_nth (decode c.args.store.now) c.args.t).messages in
+    (search rules, sought_on by_message_id i l c.loop-k.k no_message (here c.before.before) c.loop-k.invariant.1 (sym (tested c.before) ∙ c.if-same_id.false))
 
-returns_2 : tie.Need-returns-2 invariant_loop decreases_loop
+returns_2 : tie.Need-returns invariant_loop decreases_loop
 returns_2 c =
-    let i = id_of (entry_before_after_loop c).args.ledger (entry_before_after_loop c).args.entry in
-    let l = (topic_nth (decode (entry_before_after_loop c).args.store.now) (entry_before_after_loop c).args.t).messages in
+    let i = id_of c.args.ledger c.args.entry in
+    let l = (topic_nth (decode c.args.store.now) c.args.t).messages in
     let n = counted c.before.before in
-    sought_end by_message_id i l c.before.loop.k (omega arith) c.before.loop.invariant.1 ∙ sym (position_slot i l)
+    sought_end by_message_id i l c.loop-k.k (omega arith) c.loop-k.invariant.1 ∙ sym (position_slot i l)
 
 pub position_of_spec : {M : Type 1} → statement M
-position_of_spec =
-    tie.close
-    (tie.spec
-    invariant_loop
-    decreases_loop
-    topic_at_requires
-    add_word
-    word_requires
-    loop_holds
-    add_same_id
-    mul_same_id
-    add_same_id_2
-    same_id_requires
-    returns
-    add_k
-    loop_less
-    loop_again
-    returns_2)
+position_of_spec = tie.close (tie.spec invariant_loop decreases_loop topic_at_requires add_word word_requires loop_holds add_same_id mul_same_id add_same_id_2 same_id_requires returns add_k loop_less loop_again returns_2)

@@ -18,53 +18,38 @@ use Rattle.topic.proofs.table.ledger_length.Lts as lts
 use Rattle.topic.proofs.table.find_topic.Reads as find_topic_reads
 use Rattle.topic.proofs.table.topic_count.Reads as topic_count_reads
 
--- the places: what stands before each, by name
-abbrev entry_before_then1 : tie.Then1 → tie.Start
-entry_before_then1 c = c.before.before.before.before
-
-abbrev entry_before_else1 : tie.Else1 → tie.Start
-entry_before_else1 c = c.before.before.before.before
-
-abbrev find_topic_before_message_count : tie.After-message-count → tie.After-find-topic
-find_topic_before_message_count c = c.before.before.before
-
-abbrev entry_before_message_count : tie.After-message-count → tie.Start
-entry_before_message_count c = entry_before_then1 c.before
-
 -- the slot that was found lies in the table
-here : (c : tie.Then1) → c.before.before.find_topic.result < length (decode (entry_before_then1 c).args.store.now).topics
-here c = let e = c.before.topic_count.ensures in let t = c.if1.true in omega arith
+here : (c : tie.Then-t-topic_count) → c.find_topic-t.result < length (decode c.args.store.now).topics
+here c = let e = c.topic_count.ensures in let t = c.if-t-topic_count.true in omega arith
 
-find_topic_requires : tie.Need-find-topic-requires
+find_topic_requires : tie.Need-find_topic-t-requires
 find_topic_requires c κs = search rules
 
-topic_count_requires : tie.Need-topic-count-requires
+topic_count_requires : tie.Need-topic_count-requires
 topic_count_requires c κs = search rules
 
-message_count_requires : tie.Need-message-count-requires
-message_count_requires c κs = topic_in (entry_before_then1 c).requires c.before.before.find_topic.result (here c)
+message_count_requires : tie.Need-message_count-requires
+message_count_requires c κs = topic_in c.requires c.find_topic-t.result (here c)
 
-returns : tie.Need-returns
+returns : tie.Need-returns-then-t-topic_count
 returns c =
-    let a = (entry_before_message_count c).args in
+    let a = c.args in
     let ws = a.store.now in
-    let t = (find_topic_before_message_count c).find_topic.result in
-    let e : t ≡ slot by_number a.topic (decode ws).topics = (find_topic_before_message_count c).find_topic.ensures in
+    let t = c.find_topic-t.result in
+    let e : t ≡ slot by_number a.topic (decode ws).topics = c.find_topic-t.ensures in
     let h : slot by_number a.topic (decode ws).topics < length (decode ws).topics = rw (e, entry_before_then1) at (here c.before) in
     c.message_count.ensures
     ∙ ap (λ (k : ℕ). length (topic_nth (decode ws) k).messages) e
     ∙ ap (λ (l : List StoredMessage). length l) (sym (ledger_at (decode ws) a.topic h))
 
-returns_2 : tie.Need-returns-2
+returns_2 : tie.Need-returns-else-t-topic_count
 returns_2 c =
-    let a = (entry_before_else1 c).args in
+    let a = c.args in
     let ws = a.store.now in
-    let t : c.before.before.find_topic.result ≡ slot by_number a.topic (decode ws).topics = c.before.before.find_topic.ensures in
-    let n = c.before.topic_count.ensures in
-    let h : length (decode ws).topics ≤ slot by_number a.topic (decode ws).topics = omega (arith, c.if1.false) in
+    let t : c.find_topic-t.result ≡ slot by_number a.topic (decode ws).topics = c.find_topic-t.ensures in
+    let n = c.topic_count.ensures in
+    let h : length (decode ws).topics ≤ slot by_number a.topic (decode ws).topics = omega (arith, c.if-t-topic_count.false) in
     ap (λ (l : List StoredMessage). length l) (sym (ledger_none (decode ws) a.topic h))
 
 pub ledger_length_spec : {M : Type 1} → statement M
-ledger_length_spec =
-    tie.close
-    (tie.spec find_topic_requires topic_count_requires message_count_requires returns returns_2)
+ledger_length_spec = tie.close (tie.spec find_topic_requires topic_count_requires message_count_requires returns returns_2)

@@ -8,18 +8,18 @@ use Rattle.wire_fields.proofs.select.required_part.Statement.{statement}
 use Rattle.wire_fields.proofs.select.required_part.Tie as tie
 
 -- one field of the right wire type was seen
-one : (c : tie.Else1) → is_one c.before.before.args.s ≡ true
-one c = sym c.before.is_one.ensures ∙ not-false _ c.if1.false
+one : (c : tie.Else-not-is_one) → is_one c.args.s ≡ true
+one c = sym c.is_one.ensures ∙ not-false _ c.if-not-is_one.false
 
-is_one_requires : tie.Need-is-one-requires
+is_one_requires : tie.Need-is_one-requires
 is_one_requires c κs = search rules
 
-returns : tie.Need-returns
+returns : tie.Need-returns-then-not-is_one
 unfolding place
 returns c =
-    let e : is_one c.before.before.args.s ≡ false = sym c.before.is_one.ensures ∙ not-true _ c.if1.true in rw e
+    let e : is_one c.args.s ≡ false = sym c.is_one.ensures ∙ not-true _ c.if-not-is_one.true in rw e
 
-returns_2 : tie.Need-returns-2
+returns_2 : tie.Need-returns
 unfolding place
 returns_2 c = rw (one c)
 

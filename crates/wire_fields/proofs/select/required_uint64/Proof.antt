@@ -10,18 +10,18 @@ use Rattle.wire_fields.proofs.select.required_uint64.Statement.{statement}
 use Rattle.wire_fields.proofs.select.required_uint64.Tie as tie
 
 -- one field of the right wire type was seen
-one : (c : tie.Else1) → is_one c.before.before.args.s ≡ true
-one c = sym c.before.is_one.ensures ∙ not-false _ c.if1.false
+one : (c : tie.Else-not-is_one) → is_one c.args.s ≡ true
+one c = sym c.is_one.ensures ∙ not-false _ c.if-not-is_one.false
 
-is_one_requires : tie.Need-is-one-requires
+is_one_requires : tie.Need-is_one-requires
 is_one_requires c κs = search rules
 
-returns : tie.Need-returns
-returns c = not_one_bad uint64 c.before.before.args.s (sym c.before.is_one.ensures ∙ not-true _ c.if1.true)
+returns : tie.Need-returns-then-not-is_one
+returns c = not_one_bad uint64 c.args.s (sym c.is_one.ensures ∙ not-true _ c.if-not-is_one.true)
 
-returns_2 : tie.Need-returns-2
+returns_2 : tie.Need-returns
 unfolding uint64
-returns_2 c = one_fits uint64 c.before.before.args.s (one c) refl
+returns_2 c = one_fits uint64 c.args.s (one c) refl
 
 pub required_uint64_spec : {M : Type 1} → statement M
 required_uint64_spec = tie.close (tie.spec is_one_requires returns returns_2)

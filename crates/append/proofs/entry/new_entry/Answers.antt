@@ -1,0 +1,25 @@
+-- `append::entry::new_entry` meets its contract, by whether the dispatcher is one of the topic.
+use mathlib.Core.Path.{sym, ap, ◌∙◌}
+use borrow.Author.Rules.{rules}
+use Rattle.layout.specs.Layout.{decode, put}
+use Rattle.rules.specs.State.{Dispatcher}
+use Rattle.layout.specs.Fields.{dispatcher_nth, set_dispatcher}
+use Rattle.topic.specs.Ids.{id_of}
+use Rattle.append.proofs.Entries.{entry_there, entry_words_not}
+use Rattle.append.proofs.entry.new_entry.Goals as goal
+
+pub gain_entry-requires : goal.gain_entry-requires
+gain_entry-requires c = (c.requires.0, c.requires.1 (c.if-topic.true ∙ c.topic.ensures))
+
+pub returns-then-topic : goal.returns-then-topic
+returns-then-topic c =
+    let a = c.args in
+    let s = decode a.store.now in
+    c.gain_entry.ensures
+    ∙ ap (λ (y : Dispatcher). put a.store.now (set_dispatcher s a.d y))
+    (entry_there a.topic (id_of a.ledger a.entry) (dispatcher_nth s a.d) (c.if-topic.true ∙ c.topic.ensures))
+
+pub returns-else-topic : goal.returns-else-topic
+returns-else-topic c =
+    let a = c.args in
+    entry_words_not a.topic (id_of a.ledger a.entry) a.d c.requires.0.canon (λ q. c.if-topic.false (q ∙ sym c.topic.ensures))

@@ -1,0 +1,21 @@
+-- A byte below the digits leaves a word; a digit and a letter join it.
+use mathlib.Core.Path.{◌≡◌}
+use borrow.Author.Tests.{lt-ltb, le-ltb}
+use borrow.Author.Rules.{rules}
+use Rattle.cases_line.specs.Line.{with_byte}
+use Rattle.cases_line.proofs.joined.Reads as reads
+use Rattle.cases_line.proofs.joined.Lts as lts
+use Rattle.cases_line.proofs.with_digit.Reads as with_digit_reads
+use Rattle.cases_line.proofs.joined.Goals as goal
+
+pub returns-then-b-lt48 : goal.returns-then-b-lt48
+unfolding with_byte
+returns-then-b-lt48 c = rw (lt-ltb c.args.b 48 c.if-b-lt48.true)
+
+pub returns-then-b-lt58 : goal.returns-then-b-lt58
+unfolding with_byte
+returns-then-b-lt58 c = rw (le-ltb c.args.b 48 c.if-b-lt48.false, lt-ltb c.args.b 58 c.if-b-lt58.true) c.with_digit.ensures
+
+pub returns : goal.returns
+unfolding with_byte
+returns c = rw (le-ltb c.args.b 48 c.if-b-lt48.false, le-ltb c.args.b 58 c.if-b-lt58.false)

@@ -1,0 +1,8 @@
+-- `dispatcher::flight::flight_count` meets its contract: the word at its offset.
+use mathlib.Core.Path.{◌∙◌}
+use Rattle.dispatcher.proofs.Places.{flight_counted}
+use borrow.Author.Rules.{rules}
+use Rattle.dispatcher.proofs.flight.flight_count.Goals as goal
+
+pub returns : goal.returns
+returns c = c.word.ensures ∙ flight_counted c.args.d c.dispatcher_at-at.result c.requires c.dispatcher_at-at.ensures

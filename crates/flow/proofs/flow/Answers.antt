@@ -1,0 +1,39 @@
+-- `flow::flow` meets its contract: the id is not live, or its flow is that of the consumer at its slot.
+use mathlib.Core.Path.{sym, ap, ◌∙◌}
+use Prim.Native.Nat.{ℕ}
+use native.Mathlib.Omega.{arith}
+use Rattle.layout.specs.Layout.{decode}
+use Rattle.rules.specs.Calls.Call.{Flow}
+use Rattle.layout.specs.Calls.{answer, after}
+use Rattle.operation_laws.proofs.Frame.{canon_of, refused_with, consumer_found_id}
+use Rattle.consumer.proofs.Looked.{found_live, found_missing}
+use Rattle.flow.proofs.Grants.{flow_missing}
+use borrow.Author.Rules.{rules}
+use Rattle.flow.proofs.flow.Goals as goal
+
+pub find_consumer-requires : goal.find_consumer-requires
+find_consumer-requires c = canon_of c.entries-e.result c.args.store.now c.requires c.entries-e.ensures
+
+pub returns-in_default : goal.returns-in_default
+returns-in_default c =
+    let ws = c.args.store.now in
+    let id = c.args.consumer in
+    refused_with ws _ c.requires (flow_missing (decode ws) id c.args.grant (found_missing id (decode ws).consumers (sym c.in_default.is ∙ c.find_consumer.ensures.0)))
+
+pub flow_live-requires : goal.flow_live-requires
+flow_live-requires c =
+    let ws = c.args.store.now in
+    let f = found_live c.args.consumer (decode ws).consumers c.in-Live.i (sym c.in-Live.is ∙ c.find_consumer.ensures.0) in
+    (record { spelt = c.requires; E = c.entries-e.ensures; there = f.1 }, omega arith)
+
+pub returns : goal.returns
+returns c =
+    let ws = c.args.store.now in
+    let id = c.args.consumer in
+    let i = c.in-Live.i in
+    let grant = c.args.grant in
+    let f = found_live id (decode ws).consumers i (sym c.in-Live.is ∙ c.find_consumer.ensures.0) in
+    let q = consumer_found_id (decode ws) i id f.0 f.1 in (
+      c.flow_live.ensures.0 ∙ ap (λ (j : ℕ). answer ws (Flow j grant)) q,
+      c.flow_live.ensures.1 ∙ ap (λ (j : ℕ). after ws (Flow j grant)) q,
+    )

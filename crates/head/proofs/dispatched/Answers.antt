@@ -1,0 +1,9 @@
+-- `dispatched` meets its contract: the subtraction has its room by the `requires`, and the result is the record that `Moves.dispatched` says, by definition.
+use mathlib.Core.Path.{refl}
+use borrow.Author.Rules.{rules}
+use Rattle.head.specs.Moves.{dispatched}
+use Rattle.head.proofs.dispatched.Goals as goal
+
+pub returns : goal.returns
+unfolding dispatched
+returns c = refl

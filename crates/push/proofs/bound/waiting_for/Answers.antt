@@ -1,0 +1,22 @@
+-- `push::bound::waiting_for` meets its contract: nothing waits for a shared consumer.
+use mathlib.Core.Path.{sym, ◌∙◌}
+use Rattle.layout.specs.Layout.{decode}
+use Rattle.layout.specs.Fields.{consumer_nth}
+use Rattle.consumer.proofs.Records.{flag_shared, flag_plain}
+use Rattle.push.proofs.Most.{waits_not, waits}
+use borrow.Author.Rules.{rules}
+use Rattle.push.proofs.bound.waiting_for.Goals as goal
+
+pub returns-then-is_shared : goal.returns-then-is_shared
+returns-then-is_shared c =
+    let a = c.args in
+    let s = decode a.store.now in
+    let x = consumer_nth s a.i in
+    waits_not s x (flag_shared x.kind (sym c.is_shared.ensures ∙ c.if-is_shared.true))
+
+pub returns : goal.returns
+returns c =
+    let a = c.args in
+    let s = decode a.store.now in
+    let x = consumer_nth s a.i in
+    c.waiting.ensures ∙ waits s x (flag_plain x.kind (sym c.is_shared.ensures ∙ c.if-is_shared.false))

@@ -1,0 +1,24 @@
+-- `push_plain::serve::serve_records` meets its contract. The loop's invariant: the list with what is left is the list with all.
+use mathlib.Core.Path.{◌≡◌, refl, sym, ap, ◌∙◌}
+use mathlib.Core.List.{List}
+use Prim.Native.Nat.{ℕ, ◌+◌, ◌-◌, ◌*◌, ◌≤◌, ◌<◌}
+use native.Mathlib.Omega.{arith}
+use lib.ListN.{length}
+use Rattle.words.specs.Act.{lay}
+use Rattle.rules.specs.Commands.{with_permits}
+use Rattle.rules.specs.Push.{flat}
+use Rattle.layout.specs.Layout.{decode}
+use Rattle.layout.specs.Fields.{consumer_nth}
+use Rattle.push_laws.specs.Plain.{plain_records, after_entries, ledger_for}
+use Rattle.record.specs.Flat.{filled}
+use Rattle.push_plain.specs.Reading.{entry_record}
+use Rattle.push_plain.proofs.Entries.{fill_start, fill_turn, fill_end}
+use Rattle.push_plain.proofs.Topics.{sendable_fewer}
+use borrow.Author.Rules.{rules}
+use Rattle.push_plain.proofs.serve.serve_records.Given as goal
+
+abbrev pub invariant-loop-j : goal.invariant-loop-j
+invariant-loop-j l = (l.j ≤ l.n) × (length l.list ≡ length l.initial.list) × (filled l.list (l.m + l.j) (plain_records (ledger_for (decode l.store) (consumer_nth (decode l.store) l.i)) (after_entries (with_permits (consumer_nth (decode l.store) l.i) l.permits) l.j) (l.n - l.j)) ≡ filled l.initial.list l.m (plain_records (ledger_for (decode l.store) (consumer_nth (decode l.store) l.i)) (with_permits (consumer_nth (decode l.store) l.i) l.permits) l.n))
+
+abbrev pub decreases-loop-j : goal.decreases-loop-j
+decreases-loop-j l = l.n - l.j

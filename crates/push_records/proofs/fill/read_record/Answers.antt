@@ -1,0 +1,12 @@
+-- `push_records::fill::read_record` meets its contract: each field is the word of the record in its place.
+use Prim.Native.Nat.{◌*◌}
+use native.Mathlib.Nat.{add-zero}
+use Rattle.push_records.specs.Listed.{record_at}
+use borrow.Author.Rules.{rules}
+use Rattle.push_records.proofs.fill.read_record.Reads as reads
+use Rattle.push_records.proofs.fill.read_record.Lts as lts
+use Rattle.push_records.proofs.fill.read_record.Goals as goal
+
+pub returns : goal.returns
+unfolding record_at
+returns c = rw (add-zero (c.args.i * 13))

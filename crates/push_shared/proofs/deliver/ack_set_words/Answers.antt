@@ -1,0 +1,15 @@
+-- `push_shared::deliver::ack_set_words` meets its contract: by whether bits are stored.
+use mathlib.Core.Path.{sym, ◌∙◌}
+use Rattle.bits.specs.Bits.{word_count}
+use borrow.Author.Rules.{rules}
+use Rattle.push_shared.proofs.deliver.ack_set_words.Reads as reads
+use Rattle.push_shared.proofs.deliver.ack_set_words.Lts as lts
+use Rattle.bits.proofs.UnackedBits.bits_empty.Reads as bits_empty_reads
+use Rattle.push_shared.proofs.deliver.ack_set_words.Goals as goal
+
+pub returns-then-bits_empty : goal.returns-then-bits_empty
+returns-then-bits_empty c = rw (sym c.bits_empty.ensures ∙ c.if-bits_empty.true)
+
+pub returns : goal.returns
+unfolding word_count
+returns c = rw (sym c.bits_empty.ensures ∙ c.if-bits_empty.false)

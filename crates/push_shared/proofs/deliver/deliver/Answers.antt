@@ -1,0 +1,33 @@
+-- `push_shared::deliver::deliver` meets its contract: the record of the step, and its entry in flight.
+use mathlib.Core.Path.{ap, ◌∙◌}
+use Rattle.layout.proofs.Placed.{consumer_in}
+use Rattle.rules.specs.Push.{flat}
+use Rattle.layout.specs.Layout.{decode}
+use Rattle.layout.specs.Fields.{dispatcher_nth}
+use Rattle.push_laws.specs.Local.{fixed_of}
+use Rattle.push_laws.specs.Applied.{record_of}
+use Rattle.push_turn.specs.Turns.{step_of}
+use Rattle.push_shared.proofs.Records.{one_filled, record_found, flight_found}
+use borrow.Author.Rules.{rules}
+use Rattle.push_shared.proofs.deliver.deliver.Reads as reads
+use Rattle.push_shared.proofs.deliver.deliver.Lts as lts
+use Rattle.dispatcher.proofs.flight.append_flight.Reads as append_flight_reads
+use Rattle.consumer.proofs.fields.consumer_id.Reads as consumer_id_reads
+use Rattle.push_shared.proofs.deliver.record_to.Reads as record_to_reads
+use Rattle.record.proofs.write_record.Reads as write_record_reads
+use Rattle.push_shared.proofs.deliver.deliver.Goals as goal
+
+pub consumer_id-id-requires : goal.consumer_id-id-requires
+consumer_id-id-requires c = let p = c.requires in consumer_in p.0.here.canon c.args.step.consumer p.2
+
+pub returns : goal.returns
+unfolding step_of
+returns c =
+    let ws = c.args.store.now in
+    let x = step_of c.args.step in
+    let f = fixed_of (decode ws) (dispatcher_nth (decode ws) c.args.d) in
+    let id = c.consumer_id-id.result in (
+      flight_found ws (decode ws) c.args.d id x c.consumer_id-id.ensures c.append_flight.ensures,
+      one_filled c.args.list.now c.args.m (record_of (decode ws) f x)
+          c.write_record.ensures (c.record_to-record.ensures ∙ ap flat (record_found (decode ws) f id x c.consumer_id-id.ensures)),
+    )

@@ -1,0 +1,14 @@
+-- `push_shared::serve::finish` meets its contract: the queue dropped, then the numbers stored.
+use Rattle.push_shared.proofs.Writing.{dropped_in, finished}
+use borrow.Author.Rules.{rules}
+use Rattle.push_shared.proofs.serve.finish.Reads as reads
+use Rattle.push_shared.proofs.serve.finish.Lts as lts
+use Rattle.dispatcher.proofs.numbers.save_head.Reads as save_head_reads
+use Rattle.dispatcher.proofs.queue.drop_queue.Reads as drop_queue_reads
+use Rattle.push_shared.proofs.serve.finish.Goals as goal
+
+pub save_head-requires : goal.save_head-requires
+save_head-requires c = dropped_in c.args.taken c.requires.0 c.drop_queue.ensures
+
+pub returns : goal.returns
+returns c = finished c.args.taken c.requires.0 c.drop_queue.ensures c.args.head c.requires.2 c.save_head.ensures

@@ -1,0 +1,38 @@
+-- `redeliver::redeliver` meets its contract: the id is not live, the list is not of the form, or its redeliver is
+-- that of the consumer at its slot.
+use mathlib.Core.Path.{sym, ◌∙◌}
+use Rattle.layout.specs.Layout.{decode}
+use Rattle.groups.proofs.Walks.{stands_right}
+use Rattle.operation_laws.proofs.Frame.{canon_of, refused_with, consumer_found_id}
+use Rattle.consumer.proofs.Looked.{found_live, found_missing}
+use Rattle.redeliver.proofs.Refusals.{redeliver_missing, redeliver_ill}
+use borrow.Author.Rules.{rules}
+use borrow.Author.Tests.{not-true, not-false}
+use Rattle.redeliver.proofs.redeliver.Goals as goal
+
+pub find_consumer-requires : goal.find_consumer-requires
+find_consumer-requires c = canon_of c.entries-e.result c.args.store.now c.requires c.entries-e.ensures
+
+pub returns-in_default : goal.returns-in_default
+returns-in_default c =
+    let a = c.args in
+    let s = decode a.store.now in
+    refused_with a.store.now _ c.requires (redeliver_missing s a.consumer a.list.now (found_missing a.consumer s.consumers (sym c.in_default.is ∙ c.find_consumer.ensures.0)))
+
+pub returns-then-not-list_right : goal.returns-then-not-list_right
+returns-then-not-list_right c =
+    let a = c.args in
+    let s = decode a.store.now in
+    let f = found_live a.consumer s.consumers c.in-Live.i (sym c.in-Live.is ∙ c.find_consumer.ensures.0) in
+    refused_with a.store.now _ c.requires (redeliver_ill s c.in-Live.i a.consumer a.list.now f.0 f.1 (sym c.list_right.ensures ∙ not-true _ c.if-not-list_right.true))
+
+pub redeliver_live-requires : goal.redeliver_live-requires
+redeliver_live-requires c =
+    let a = c.args in
+    let s = decode a.store.now in
+    let i = c.in-Live.i in
+    let f = found_live a.consumer s.consumers i (sym c.in-Live.is ∙ c.find_consumer.ensures.0) in (
+      record { spelt = c.requires; E = c.entries-e.ensures; there = f.1 },
+      consumer_found_id s i a.consumer f.0 f.1,
+      (stands_right a.list.now (sym (not-false _ c.if-not-list_right.false) ∙ c.list_right.ensures)).0,
+    )

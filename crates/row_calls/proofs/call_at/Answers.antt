@@ -1,0 +1,12 @@
+-- `row_calls::call_at` meets its contract: its words and what is left of the list are parts of slices, and what is made of them is made there.
+use Rattle.row_calls.proofs.Parts.{are_call, made_there}
+use borrow.Author.Rules.{rules}
+use Rattle.row_calls.proofs.call_at.Goals as goal
+
+pub answer_call-requires : goal.answer_call-requires
+answer_call-requires c = let s = c in (s.requires.0, are_call s.args.script.now s.args.at s.requires.1.is_call)
+
+pub returns : goal.returns
+returns c =
+    let made = c in
+    made_there _ _ made.requires.2 _ _ _ made.answer_call.ensures

@@ -1,0 +1,19 @@
+-- `store::stretch::is_blank` meets its contract. The loop's invariant: what was or-ed so far is 0 and the rest is blank
+-- exactly where the whole stretch is.
+use mathlib.Core.Path.{◌≡◌, refl, ◌∙◌}
+use mathlib.Core.Bool.{◌&&◌}
+use Prim.Native.Nat.{◌≤◌, ◌-◌}
+use lib.Dec.{eqb}
+use lib.ListN.{length, drop}
+use borrow.Author.Rules.{rules}
+use Rattle.words.specs.Words.{blank}
+use Rattle.store.proofs.Blank.{or_sixteen}
+use Rattle.store.proofs.stretch.is_blank.Given as goal
+
+abbrev pub invariant-loop-i : goal.invariant-loop-i
+invariant-loop-i l =
+    (l.i ≤ l.to) × (l.to ≤ length l.store)
+    × ((eqb l.any 0 && blank (l.to - l.i) (drop l.i l.store)) ≡ blank (l.to - l.from) (drop l.from l.store))
+
+abbrev pub decreases-loop-i : goal.decreases-loop-i
+decreases-loop-i l = l.to - l.i

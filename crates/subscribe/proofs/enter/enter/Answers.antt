@@ -1,0 +1,16 @@
+-- `subscribe::enter::enter` meets its contract: the consumer, then its ring.
+use native.Mathlib.Omega.{arith}
+use Rattle.rules.specs.State.Kind.{shared}
+use Rattle.rules.specs.Commands.{new_consumer}
+use Rattle.consumer.specs.Made.{kind_at}
+use Rattle.subscribe.proofs.Entering.{joins_after, entered}
+use borrow.Author.Rules.{rules}
+use Rattle.subscribe.proofs.enter.enter.Goals as goal
+
+pub join-requires : goal.join-requires
+unfolding new_consumer kind_at
+join-requires c = joins_after (new_consumer c.args.id shared (record { topic = c.args.topic; subscription = c.args.subscription })) c.requires.0 (omega arith) (record { topic = c.args.topic; subscription = c.args.subscription }) c.seat_consumer.ensures c.requires.1
+
+pub returns : goal.returns
+unfolding new_consumer kind_at
+returns c = entered (new_consumer c.args.id shared (record { topic = c.args.topic; subscription = c.args.subscription })) c.requires.0 (omega arith) (record { topic = c.args.topic; subscription = c.args.subscription }) c.seat_consumer.ensures c.join.ensures

@@ -1,0 +1,14 @@
+-- `trace_call::make_push` meets its contract: no words are a push.
+use native.Mathlib.Omega.{arith}
+use lib.ListN.{length}
+use borrow.Author.Rules.{rules}
+use Rattle.layout.proofs.Slices.{word, few_records}
+use Rattle.trace.proofs.Forms.{push_of_any}
+use Rattle.trace_call.proofs.Calls.{list_is_answered}
+use Rattle.trace_call.proofs.make_push.Goals as goal
+
+pub returns : goal.returns
+returns c =
+    let s = c in
+    let list = s.args.list.now in
+    list_is_answered _ list (push_of_any _ _ (word _ (few_records (length list) (omega arith))) s.requires.1) c.push.ensures

@@ -1,0 +1,47 @@
+-- `trace_form::is_call` meets its contract: each kind has its own test, and no other kind is a call.
+use borrow.Author.Tests.{ne_eqb}
+use Rattle.trace.specs.Calls.{PUSH, call_from, call_of}
+use Rattle.trace.proofs.Calls.{no_kind}
+use Rattle.trace_form.proofs.Tested.{none_is, is_ack, is_redeliver, is_close, is_push_of_none}
+use borrow.Author.Rules.{rules}
+use Rattle.trace_form.proofs.is_call.Goals as goal
+
+pub returns-then-kind-eq-FLOW : goal.returns-then-kind-eq-FLOW
+unfolding call_of call_from
+returns-then-kind-eq-FLOW c = rw c.if-kind-eq-FLOW.true c.is_flow.ensures
+
+pub returns-then-kind-eq-ACK : goal.returns-then-kind-eq-ACK
+unfolding call_of call_from
+returns-then-kind-eq-ACK c = rw c.if-kind-eq-ACK.true (is_ack _ (λ k. (c.shared_slice_known-1.given k).fits))
+
+pub returns-then-kind-eq-PUSH : goal.returns-then-kind-eq-PUSH
+unfolding call_of call_from
+returns-then-kind-eq-PUSH c = rw c.if-kind-eq-PUSH.true (is_push_of_none _ (λ k. (c.shared_slice_known-1.given k).fits))
+
+pub returns-then-kind-eq-APPEND : goal.returns-then-kind-eq-APPEND
+unfolding call_of call_from
+returns-then-kind-eq-APPEND c = rw c.if-kind-eq-APPEND.true c.is_append.ensures
+
+pub returns-then-kind-eq-SUBSCRIBE : goal.returns-then-kind-eq-SUBSCRIBE
+unfolding call_of call_from
+returns-then-kind-eq-SUBSCRIBE c = rw c.if-kind-eq-SUBSCRIBE.true c.is_subscribe.ensures
+
+pub returns-then-kind-eq-REDELIVER : goal.returns-then-kind-eq-REDELIVER
+unfolding call_of call_from
+returns-then-kind-eq-REDELIVER c = rw c.if-kind-eq-REDELIVER.true (is_redeliver _ (λ k. (c.shared_slice_known-1.given k).fits))
+
+pub returns-then-kind-eq-SEEK : goal.returns-then-kind-eq-SEEK
+unfolding call_of call_from
+returns-then-kind-eq-SEEK c = rw c.if-kind-eq-SEEK.true c.is_seek.ensures
+
+pub returns-then-kind-eq-CLOSE : goal.returns-then-kind-eq-CLOSE
+unfolding call_of call_from
+returns-then-kind-eq-CLOSE c = rw c.if-kind-eq-CLOSE.true (is_close _ (λ k. (c.shared_slice_known-1.given k).fits))
+
+pub returns : goal.returns
+returns c =
+    let e = c in
+    let d = e in
+    none_is
+    (no_kind 0 _ _ e.if-kind-eq-APPEND.left e.if-kind-eq-SUBSCRIBE.left d.if-kind-eq-FLOW.left d.if-kind-eq-ACK.left c.if-kind-eq-SEEK.false e.if-kind-eq-REDELIVER.left c.if-kind-eq-CLOSE.false
+    (ne_eqb _ PUSH d.if-kind-eq-PUSH.left))

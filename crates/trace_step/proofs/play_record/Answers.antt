@@ -1,0 +1,40 @@
+-- `trace_step::play_record` meets its contract: its call is made, and its lines are written.
+use borrow.Author.Rules.{rules}
+use native.Mathlib.Omega.{arith}
+use mathlib.Core.Path.{refl, sym, ◌∙◌}
+use Rattle.trace.proofs.Format.{taken_length, taken_reach}
+use Rattle.trace_step.proofs.Records.{few_told, played_call, played_none}
+use Rattle.trace_step.proofs.play_record.Goals as goal
+
+pub slice_bounds-kind_of-end : goal.slice_bounds-kind_of-end
+slice_bounds-kind_of-end c = sym (taken_length _ _ c.requires.2)
+
+pub kind_of-kind-requires : goal.kind_of-kind-requires
+kind_of-kind-requires c = taken_reach _ _ c.requires.2
+
+pub slice_bounds-make_record-end : goal.slice_bounds-make_record-end
+slice_bounds-make_record-end c = sym (taken_length _ _ c.requires.2)
+
+pub make_record-made-requires : goal.make_record-made-requires
+make_record-made-requires c = let p = c.requires in (p.0, taken_reach _ _ p.2, refl)
+
+pub write_outcome-written-requires : goal.write_outcome-written-requires
+write_outcome-written-requires c =
+    let m = c in
+    let p = m.requires in
+    let few = few_told _ p.0 _ _ _ m.kind_of-kind.ensures (sym c.in-Answer.is ∙ m.make_record-made.ensures.0) in
+    (search rules, few, omega (arith, few))
+
+pub returns-in-Answer : goal.returns-in-Answer
+returns-in-Answer c =
+    let m = c in
+    let p = m.requires in
+    played_call _ _ _ _ p.0 p.1 _ p.2 _ m.kind_of-kind.ensures (sym c.in-Answer.is ∙ m.make_record-made.ensures.0)
+    m.make_record-made.ensures.1.0 m.make_record-made.ensures.1.1 c.write_outcome-written.ensures
+
+pub returns-in-NoCall : goal.returns-in-NoCall
+returns-in-NoCall c =
+    let m = c in
+    let p = m.requires in
+    played_none _ _ _ _ p.0 p.1 _ p.2 (sym c.in-NoCall.is ∙ m.make_record-made.ensures.0)
+    m.make_record-made.ensures.1.0 (omega arith) c.write_bad-written.ensures

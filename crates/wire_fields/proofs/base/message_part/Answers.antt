@@ -1,0 +1,19 @@
+-- `wire_fields::base::message_part` meets its contract: the part that was seen under the type's number is its message.
+use mathlib.Core.Path.{sym, ◌∙◌}
+use borrow.Author.Rules.{rules}
+use Rattle.wire_fields.proofs.Selections.{walked, walked_not, saw_part}
+use Rattle.wire_fields.proofs.Bases.{seen_placed, unformed_placed, high_placed}
+use Rattle.wire_fields.proofs.base.message_part.Goals as goal
+
+pub returns-then-kind-ge-TYPES_END : goal.returns-then-kind-ge-TYPES_END
+returns-then-kind-ge-TYPES_END c = high_placed _ _ c.if-kind-ge-TYPES_END.true
+
+pub returns-in_default : goal.returns-in_default
+returns-in_default c = unformed_placed _ _ (walked_not _ _ _ _ (sym c.in_default.is ∙ c.pick.ensures))
+
+pub returns : goal.returns
+returns c =
+    let p = c in
+    let w = walked _ _ _ _ _ _ _ (sym c.in-Fields.is ∙ p.pick.ensures) in
+    let kind = p.args.kind in
+    c.required_part.ensures ∙ seen_placed _ kind p.if-kind-ge-TYPES_END.left w.fs w.all_fields _ (saw_part kind w.fs w.at_a)
