@@ -69,7 +69,7 @@ within c =
     advance_within c.args.consumer (acked c) 4096 (omega arith) (omega arith)
 
 -- and it is that of the words written
-after_is : (c : tie.After-complete) → (dispatcher_nth (decode c.complete.new.0) c.dispatcher_of-d.result).mark_delete ≡ (advance_mark_delete (drop_complete c.args.consumer (acked c.before.before.before))).mark_delete
+after_is : (c : tie.After-complete) → (dispatcher_nth (decode c.complete.new.store) c.dispatcher_of-d.result).mark_delete ≡ (advance_mark_delete (drop_complete c.args.consumer (acked c.before.before.before))).mark_delete
 after_is c =
     ap (λ (x : Dispatcher). x.mark_delete)
     (written_is c.dispatcher_of-d.result c.args.consumer (advance_mark_delete (drop_complete c.args.consumer (acked c.before.before.before))) (ackable c.before.before.before.before.before).within (fits c.before.before.before) c.complete.ensures)

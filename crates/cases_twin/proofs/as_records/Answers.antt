@@ -24,7 +24,7 @@ returns-then-not-same_words c =
     let a = c.args in
     let push = c.push_twin-pushed in
     let answers = eq-eqb push.result.answer a.answer c.if-pushed-answer.false in
-    let differ = sym c.same_words.ensures ∙ not-true _ c.if-not-same_words.true in (
+    let differ = sym c.same_words.ensures ∙ c.if-not-same_words.true in (
       other_store a.twin.now a.store.now a.list.now a.room a.answer push.ensures.0 answers push.ensures.1.0 differ,
       push.ensures.1.0,
     )
@@ -35,8 +35,8 @@ returns-then-not-same_words-2 c =
     let a = c.args in
     let push = c.push_twin-pushed in
     let answers = eq-eqb push.result.answer a.answer c.if-pushed-answer.false in
-    let stores = sym c.same_words.ensures ∙ not-false _ c.if-not-same_words.false in
-    let differ = sym c.same_words-2.ensures ∙ not-true _ c.if-not-same_words-2.true in (
+    let stores = sym c.same_words.ensures ∙ c.if-not-same_words.false in
+    let differ = sym c.same_words-2.ensures ∙ c.if-not-same_words-2.true in (
       other_list a.twin.now a.store.now a.list.now a.room a.answer push.ensures.0 answers push.ensures.1.0 stores push.ensures.1.1.0 differ,
       push.ensures.1.0,
     )
@@ -47,8 +47,8 @@ returns c =
     let a = c.args in
     let push = c.push_twin-pushed in
     let answers = eq-eqb push.result.answer a.answer c.if-pushed-answer.false in
-    let stores = sym c.same_words.ensures ∙ not-false _ c.if-not-same_words.false in
-    let lists = sym c.same_words-2.ensures ∙ not-false _ c.if-not-same_words-2.false in (
+    let stores = sym c.same_words.ensures ∙ c.if-not-same_words.false in
+    let lists = sym c.same_words-2.ensures ∙ c.if-not-same_words-2.false in (
       c.same_words-3.ensures
           ∙ records_decide a.twin.now a.store.now a.list.now a.room a.answer push.ensures.0 answers push.ensures.1.0 stores push.ensures.1.1.0 lists
           push.ensures.1.1.1 c.told.ensures.0 c.write_back.ensures,

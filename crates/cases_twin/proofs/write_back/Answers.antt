@@ -21,8 +21,8 @@ unfolding written_back no_dispatch
 loop-i-preserved c =
     let records = c.args.t1 in
     let i = c.loop-i.i in
-    let e : c.write_record.new.0 ≡ (lay (record_words (get_or records i no_dispatch))).run (i * 13) c.loop-i.list = c.write_record.ensures in
-    let g : (length c.write_record.new.0 ≡ 832) × (length c.write_record.new.0 ≡ length c.args.list.now) = search rules in (
+    let e : c.write_record.new.list ≡ (lay (record_words (get_or records i no_dispatch))).run (i * 13) c.loop-i.list = c.write_record.ensures in
+    let g : (length c.write_record.new.list ≡ 832) × (length c.write_record.new.list ≡ length c.args.list.now) = search rules in (
       g.0,
       g.1,
       omega arith,

@@ -36,7 +36,7 @@ new c =
     let a = c.args in
     let l = c.loop-i in
     ⊎_elim
-    (λ w. ap not (most_new a.store.now a.first a.width l.i l.x l.y l.inv.2 (row a.store.now a.first a.width l.i)
+    (λ w. ap not (most_new a.store.now a.first a.width l.i l.x l.y l.invariant.2 (row a.store.now a.first a.width l.i)
     (row_second a.store.now a.first a.width l.i) (sym c.is_above.ensures ∙ w.0.taken)))
     (λ w. upheld w.1.ensures w.2.left)
     c.if-is_above.branch

@@ -12,7 +12,7 @@ returns-then-not-flight_fresh c =
     record {
       answer =
           flight_wrong a.store.now a.e a.at c.word-count.ensures c.word-n.ensures refl c.word-cursor.ensures a.stamp c.requires.1.1
-          c.flight_fresh.ensures (not-true _ c.if-not-flight_fresh.true);
+          c.flight_fresh.ensures (c.if-not-flight_fresh.true);
       others = c.flight_fresh.ensures.others (under_more a.stamps.now a.stamp c.requires.1.1);
     }
 
@@ -23,7 +23,7 @@ returns c =
     record {
       answer =
           queue_decides a.store.now a.e a.at c.word-count.ensures c.word-n.ensures c.word.ensures m a.stamp c.requires.1.1
-          c.flight_fresh.ensures (omega arith) (not-false _ c.if-not-flight_fresh.false) c.places_fresh.ensures;
+          c.flight_fresh.ensures (omega arith) (c.if-not-flight_fresh.false) c.places_fresh.ensures;
       others = c.places_fresh.ensures.others
           (c.flight_fresh.ensures.others (under_more a.stamps.now a.stamp c.requires.1.1));
     }

@@ -14,7 +14,7 @@ use Rattle.dispatcher.proofs.make.make_dispatcher.Tie as tie
 inside : (c : tie.After-dispatcher_at-at) → c.dispatcher_at-at.result + (176 + 9 * c.args.e) ≤ reserved_at c.args.e
 inside c = rw (c.dispatcher_at-at.ensures, entry_before_dispatcher_at) (dispatcher_inside c.args.e c.args.n c.requires.2)
 
-room : (c : tie.After-dispatcher_at-at) → c.dispatcher_at-at.result + (176 + 9 * c.args.e) ≤ length c.raise_dispatchers.new.0
+room : (c : tie.After-dispatcher_at-at) → c.dispatcher_at-at.result + (176 + 9 * c.args.e) ≤ length c.raise_dispatchers.new.store
 room c =
     let i = inside c in
     let l = c.requires.0.long in

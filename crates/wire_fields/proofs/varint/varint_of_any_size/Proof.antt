@@ -52,7 +52,7 @@ shl_t13 c = omega arith
 add_t14 : tie.Need-overflow_add-result invariant_loop decreases_loop
 add_t14 c =
     let l = c.loop-size in
-    record { fits = sum_fits l.value l.size c.wide-b.result l.inv.small (omega arith) c.if-b-lt-MORE.true }
+    record { fits = sum_fits l.value l.size c.wide-b.result l.invariant.small (omega arith) c.if-b-lt-MORE.true }
 
 add_t15 : tie.Need-overflow_add-result-then-b-lt-MORE invariant_loop decreases_loop
 add_t15 c = omega arith
