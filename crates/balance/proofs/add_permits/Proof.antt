@@ -37,11 +37,11 @@ returns c =
     let ws = c.args.store.now in
     let id = c.args.id in
     adds_none (dispatcher_nth (decode ws) c.args.d).pair c.args.sum
-    (consumer_missing (decode ws) (slot by_id id (decode ws).consumers) id refl (found_missing id (decode ws).consumers (sym c.in_default.is ∙ c.find_consumer.ensures.slot)))
+    (consumer_missing (decode ws) (slot by_id id (decode ws).consumers) id refl (found_missing id (decode ws).consumers (sym c.in_default.is ∙ c.find_consumer.ensures.0)))
 
 -- the consumer that was found
 found : (c : tie.In-Live) → (c.in-Live.i ≡ slot by_id c.args.id (decode c.args.store.now).consumers) × (c.in-Live.i < length (decode c.args.store.now).consumers)
-found c = found_live c.args.id (decode c.args.store.now).consumers c.in-Live.i (sym c.in-Live.is ∙ c.find_consumer.ensures.slot)
+found c = found_live c.args.id (decode c.args.store.now).consumers c.in-Live.i (sym c.in-Live.is ∙ c.find_consumer.ensures.0)
 
 -- it is there
 there : (c : tie.In-Live) → ConsumerIn c.args.e c.args.store.now c.in-Live.i

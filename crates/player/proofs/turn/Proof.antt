@@ -14,14 +14,14 @@ use Rattle.player.proofs.turn.Tie as tie
 within : (c : tie.In-Went) → (c.in-Went.size ≤ c.args.place.to - c.args.place.from) × (c.in-Went.written ≤ lines_bytes)
 within c =
     let p = c.requires.3 in
-    let w = went_within _ c.step-did.ensures.text.1.1.1.1 c.in-Went.is in
+    let w = went_within _ c.step-did.ensures.1.1.1.1.1 c.in-Went.is in
     let h = c.requires.1 in
     let l = part_length c.args.held.now _ _ p.order (omega (arith, h, p.inside)) in
     (omega (arith, w.0, l), w.1)
 
 -- so does a bad line
 bad_short : (c : tie.In-Bad) → c.in-Bad.written ≤ lines_bytes
-bad_short c = bad_within _ c.step-did.ensures.text.1.1.1.1 c.in-Bad.is
+bad_short c = bad_within _ c.step-did.ensures.1.1.1.1.1 c.in-Bad.is
 
 -- and with what is kept before it
 kept : (c : tie.In-Bad) → {n : ℕ} → n ≡ out_bytes → c.args.place.filled + c.in-Bad.written ≤ n
@@ -101,7 +101,7 @@ returns c =
     let d = c.before in
     let p = d.requires.3 in
     let w = within d in
-    (d.step-did.ensures.text.1.1.1.0, goes_on _ _ _ _ _ (omega (arith, w.0, p.order)) p.inside (search rules) c.went.ensures)
+    (d.step-did.ensures.1.1.1.1.0, goes_on _ _ _ _ _ (omega (arith, w.0, p.order)) p.inside (search rules) c.went.ensures)
 
 same_length_4 : tie.Need-shape_of-store-in-Waits
 same_length_4 c = search rules
@@ -113,7 +113,7 @@ same_length_6 : tie.Need-shape_of-out-in-Waits
 same_length_6 c = search rules
 
 returns_2 : tie.Need-returns-in-Waits
-returns_2 c = (c.step-did.ensures.text.1.1.1.0, c.wait.ensures)
+returns_2 c = (c.step-did.ensures.1.1.1.1.0, c.wait.ensures)
 
 same_length_7 : tie.Need-shape_of-store-in-Bad
 same_length_7 c = search rules
@@ -126,7 +126,7 @@ same_length_9 c = search rules
 
 returns_3 : tie.Need-returns-in-Bad
 unfolding Goes_on
-returns_3 c = (c.step-did.ensures.text.1.1.1.0, tt)
+returns_3 c = (c.step-did.ensures.1.1.1.1.0, tt)
 
 pub turn_spec : {M : Type 1} → statement M
 turn_spec = tie.close (tie.spec sub_step part_step_start part_step_end sub_step_2 part_step_start_2 part_step_end_2 step_requires enum_known_did add_went add_went_2 add_went_3 went_requires enum_told wait_requires enum_known_did_2 add_end slice_reshare_prefix_write_all slice_aggregate_write_all write_all_requires same_length same_length_2 same_length_3 returns same_length_4 same_length_5 same_length_6 returns_2 same_length_7 same_length_8 same_length_9 returns_3)

@@ -21,8 +21,8 @@ counted : (c : tie.After-due_plain) → c.due_shared-shared.result + c.due_plain
 counted c =
     let s = decode c.args.store.now in
     let p = c.load_permits.ensures in
-    let a = c.due_shared-shared.ensures.count ∙ ap (λ (q : List ℕ). length (all_service_records s (services s s.dispatchers q))) p in
-    let l = c.due_shared-shared.ensures.permits ∙ ap (λ (q : List ℕ). permits_left q (services s s.dispatchers q)) p in
+    let a = c.due_shared-shared.ensures.0 ∙ ap (λ (q : List ℕ). length (all_service_records s (services s s.dispatchers q))) p in
+    let l = c.due_shared-shared.ensures.1 ∙ ap (λ (q : List ℕ). permits_left q (services s s.dispatchers q)) p in
     let b = c.due_plain.ensures ∙ ap (λ (q : List ℕ). length (all_plain_records s (with_each s.consumers q))) l in
     ap₂ {A = ℕ} {B = ℕ} {C = ℕ} ◌+◌ a b ∙ all_counted s
 

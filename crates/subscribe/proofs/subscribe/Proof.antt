@@ -87,8 +87,8 @@ unfolding kind_of
 returns_3 c =
     let a = c.args in
     let p : Pair = record { topic = a.command.topic; subscription = a.command.subscription } in (
-      c.subscribe_plain.ensures.answer ∙ ap (λ (k : declared.Kind). answer a.store.now (Subscribe a.command.consumer (kind_of k) p)) (sym c.in-Plain.is),
-      c.subscribe_plain.ensures.words ∙ ap (λ (k : declared.Kind). after a.store.now (Subscribe a.command.consumer (kind_of k) p)) (sym c.in-Plain.is),
+      c.subscribe_plain.ensures.0 ∙ ap (λ (k : declared.Kind). answer a.store.now (Subscribe a.command.consumer (kind_of k) p)) (sym c.in-Plain.is),
+      c.subscribe_plain.ensures.1 ∙ ap (λ (k : declared.Kind). after a.store.now (Subscribe a.command.consumer (kind_of k) p)) (sym c.in-Plain.is),
     )
 
 same_length_4 : tie.Need-shape_of-store-in-Shared
@@ -99,8 +99,8 @@ unfolding kind_of
 returns_4 c =
     let a = c.args in
     let p : Pair = record { topic = a.command.topic; subscription = a.command.subscription } in (
-      c.subscribe_shared.ensures.answer ∙ ap (λ (k : declared.Kind). answer a.store.now (Subscribe a.command.consumer (kind_of k) p)) (sym c.in-Shared.is),
-      c.subscribe_shared.ensures.words ∙ ap (λ (k : declared.Kind). after a.store.now (Subscribe a.command.consumer (kind_of k) p)) (sym c.in-Shared.is),
+      c.subscribe_shared.ensures.0 ∙ ap (λ (k : declared.Kind). answer a.store.now (Subscribe a.command.consumer (kind_of k) p)) (sym c.in-Shared.is),
+      c.subscribe_shared.ensures.1 ∙ ap (λ (k : declared.Kind). after a.store.now (Subscribe a.command.consumer (kind_of k) p)) (sym c.in-Shared.is),
     )
 
 pub subscribe_spec : {M : Type 1} → statement M

@@ -59,8 +59,8 @@ loop_again c =
     let d = c.args.d in
     let h = c.requires.0 in
     let l = here c.before.before.before.before in
-    let k = c.return_or_keep-kept.ensures.count in
-    let v = c.return_or_keep-kept.ensures.words in
+    let k = c.return_or_keep-kept.ensures.0 in
+    let v = c.return_or_keep-kept.ensures.1 in
     let held = get_or (dispatcher_nth (decode c.loop-j.store) d).in_flight c.loop-j.j zero_held in
     by_test (eqb i held.holder)
     (λ t. let q : c.return_or_keep-kept.result ≡ c.loop-j.auto = k ∙ rw t in rw q (return_own i d h r l v t))

@@ -69,7 +69,7 @@ returns c =
     let start = c.before.before.before.before.before.before.before.before.before.before in
     let called = c.before.before.before.before in
     let sized = c.before.before.before.before.before.before.before in
-    let w = whole start.args.store.now start.args.flat.now sized.room-end.result start.args.records sized.room-end.ensures (within sized) called.broker_push.ensures.answer called.broker_push.ensures.words.0 called.broker_push.ensures.words.1 in
+    let w = whole start.args.store.now start.args.flat.now sized.room-end.result start.args.records sized.room-end.ensures (within sized) called.broker_push.ensures.0 called.broker_push.ensures.1.0 called.broker_push.ensures.1.1 in
     (w.0, (w.1, w.2))
 
 pub push_flat_spec : {M : Type 1} → statement M

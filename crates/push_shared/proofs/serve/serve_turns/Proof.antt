@@ -37,24 +37,24 @@ told_stop : (c : tie.In-Stop invariant_loop decreases_loop)
     → stop (local_from c.take_turn.new.permits c.in-Stop.last c.in-Stop.count)
     ≡ local_turn (fixed c.loop-last.store c.args.d) (local_from c.loop-last.permits c.loop-last.head c.loop-last.taken)
 unfolding turn_of
-told_stop c = sym (ap (λ (t : turns.Turn). turn_of c.take_turn.new.permits t) c.in-Stop.is) ∙ c.take_turn.ensures.turn
+told_stop c = sym (ap (λ (t : turns.Turn). turn_of c.take_turn.new.permits t) c.in-Stop.is) ∙ c.take_turn.ensures.0
 
 -- or it handed out an entry
 told_move : (c : tie.In-Move invariant_loop decreases_loop)
     → move (step_of c.in-Move.step) (local_from c.take_turn.new.permits c.in-Move.moved c.in-Move.count)
     ≡ local_turn (fixed c.loop-last.store c.args.d) (local_from c.loop-last.permits c.loop-last.head c.loop-last.taken)
 unfolding turn_of
-told_move c = sym (ap (λ (t : turns.Turn). turn_of c.take_turn.new.permits t) c.in-Move.is) ∙ c.take_turn.ensures.turn
+told_move c = sym (ap (λ (t : turns.Turn). turn_of c.take_turn.new.permits t) c.in-Move.is) ∙ c.take_turn.ensures.0
 
 -- mark-delete is as it was, where the turn stopped
 kept_stop : (c : tie.In-Stop invariant_loop decreases_loop) → c.in-Stop.last.mark_delete ≡ c.loop-last.head.mark_delete
 unfolding numbers_of
-kept_stop c = sym (ap (λ (t : turns.Turn). (numbers_of t).mark_delete) c.in-Stop.is) ∙ c.take_turn.ensures.mark_delete
+kept_stop c = sym (ap (λ (t : turns.Turn). (numbers_of t).mark_delete) c.in-Stop.is) ∙ c.take_turn.ensures.1
 
 -- and where it handed out an entry
 kept_move : (c : tie.In-Move invariant_loop decreases_loop) → c.in-Move.moved.mark_delete ≡ c.loop-last.head.mark_delete
 unfolding numbers_of
-kept_move c = sym (ap (λ (t : turns.Turn). (numbers_of t).mark_delete) c.in-Move.is) ∙ c.take_turn.ensures.mark_delete
+kept_move c = sym (ap (λ (t : turns.Turn). (numbers_of t).mark_delete) c.in-Move.is) ∙ c.take_turn.ensures.1
 
 load_head_requires : tie.Need-load_head-head-requires invariant_loop decreases_loop
 load_head_requires c κs = c.requires.0.here
@@ -152,7 +152,7 @@ loop_again c =
       search rules,
       search rules,
       search rules,
-      writing_on p.0 w z rs k n (told_move c.before.before.before.before.before.before.before) c.deliver.ensures.words c.deliver.ensures.records (kept_move c.before.before.before.before.before.before.before),
+      writing_on p.0 w z rs k n (told_move c.before.before.before.before.before.before.before) c.deliver.ensures.0 c.deliver.ensures.1 (kept_move c.before.before.before.before.before.before.before),
     )
 
 pub serve_turns_spec : {M : Type 1} → statement M

@@ -42,7 +42,7 @@ small c =
     let d = c.loop-d.d in
     let v = serving_now a.store.now d c.requires.0 (here c.before.before.before.before) a.e (slot by_number (dispatcher_nth s d).pair.topic s.topics) (length (ledger_under s d)) c.requires.1 refl refl in
     let f = served_few a.e a.store.now d (slot by_number (dispatcher_nth s d).pair.topic s.topics) (length (ledger_under s d)) c.loop-d.permits v in
-    let r = c.due_of-count.ensures.count in
+    let r = c.due_of-count.ensures.0 in
     omega arith
 
 dispatcher_count_requires : tie.Need-dispatcher_count-n-requires invariant_loop decreases_loop
@@ -74,7 +74,7 @@ loop_again c =
       search rules,
       search rules,
       carried_on (decode a.store.now) a.permits.now c.loop-d.permits c.loop-d.d c.loop-d.count c.loop-d.invariant.2
-          c.due_of-count.new.permits c.due_of-count.result (here c.before.before.before.before) c.due_of-count.ensures.count c.due_of-count.ensures.permits (small c),
+          c.due_of-count.new.permits c.due_of-count.result (here c.before.before.before.before) c.due_of-count.ensures.0 c.due_of-count.ensures.1 (small c),
     )
 
 same_length : tie.Need-shape_of-permits invariant_loop decreases_loop

@@ -29,12 +29,12 @@ decreases_loop store e d t n ring permits₀ head₀ taken₀ count₀ permits h
 -- what the turn came to: a stop
 stopped : (c : tie.In_default invariant_loop decreases_loop) → local_turn (fixed_of (decode c.args.store.now) (dispatcher_nth (decode c.args.store.now) c.args.d)) (local_from c.loop-h.permits c.loop-h.head c.loop-h.taken) ≡ stop (local_from c.take_turn-turn.new.permits c.in_default.field-0 c.in_default.field-1)
 unfolding turn_of
-stopped c = sym c.take_turn-turn.ensures.turn ∙ ap (λ (t : turns.Turn). turn_of c.take_turn-turn.new.permits t) c.in_default.is
+stopped c = sym c.take_turn-turn.ensures.0 ∙ ap (λ (t : turns.Turn). turn_of c.take_turn-turn.new.permits t) c.in_default.is
 
 -- or a move
 moved : (c : tie.In-Move invariant_loop decreases_loop) → local_turn (fixed_of (decode c.args.store.now) (dispatcher_nth (decode c.args.store.now) c.args.d)) (local_from c.loop-h.permits c.loop-h.head c.loop-h.taken) ≡ move (step_of c.in-Move.field-0) (local_from c.take_turn-turn.new.permits c.in-Move.h c.in-Move.k)
 unfolding turn_of
-moved c = sym c.take_turn-turn.ensures.turn ∙ ap (λ (t : turns.Turn). turn_of c.take_turn-turn.new.permits t) c.in-Move.is
+moved c = sym c.take_turn-turn.ensures.0 ∙ ap (λ (t : turns.Turn). turn_of c.take_turn-turn.new.permits t) c.in-Move.is
 
 load_head_requires : tie.Need-load_head-head-requires invariant_loop decreases_loop
 load_head_requires c κs = c.requires.0.here

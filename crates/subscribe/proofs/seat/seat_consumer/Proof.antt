@@ -16,7 +16,7 @@ use Rattle.subscribe.proofs.seat.seat_consumer.Tie as tie
 
 -- the slot that was found
 found : (c : tie.In-Live) → (c.in-Live.i ≡ slot by_id c.args.id (decode c.args.store.now).consumers) × (c.in-Live.i < length (decode c.args.store.now).consumers)
-found c = found_live c.args.id (decode c.args.store.now).consumers c.in-Live.i (sym c.in-Live.is ∙ c.find_consumer.ensures.slot)
+found c = found_live c.args.id (decode c.args.store.now).consumers c.in-Live.i (sym c.in-Live.is ∙ c.find_consumer.ensures.0)
 
 find_consumer_requires : tie.Need-find_consumer-requires
 find_consumer_requires c κs = search rules
@@ -29,7 +29,7 @@ enum_told c = search rules
 
 insert_consumer_requires : tie.Need-insert_consumer-requires
 insert_consumer_requires c κs =
-    let m = found_missing c.args.id (decode c.args.store.now).consumers (sym c.in_default.is ∙ c.find_consumer.ensures.slot) in
+    let m = found_missing c.args.id (decode c.args.store.now).consumers (sym c.in_default.is ∙ c.find_consumer.ensures.0) in
     (c.requires.0.canon, m, c.requires.0.room m, c.requires.1)
 
 same_length : tie.Need-shape_of-store-in_default

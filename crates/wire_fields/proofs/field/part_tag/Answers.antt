@@ -29,7 +29,7 @@ returns-then-wide-ge-MORE c =
       ← w.wide-tag.ensures,
       le-leb _ _ e.if-tag-lt-WIRE_TYPES.false,
       lt-ltb _ _ e.if-tag-ge-MORE.false,
-      eq-eqb _ _ d.if-tag-ne-DELIMITED.left,
+      eq-eqb _ _ d.if-tag-ne-DELIMITED.false,
       ← c.wide.ensures,
       le-ltb _ _ c.if-wide-ge-MORE.true,
     )
@@ -44,7 +44,7 @@ returns c =
       ← w.wide-tag.ensures,
       le-leb _ _ e.if-tag-lt-WIRE_TYPES.false,
       lt-ltb _ _ e.if-tag-ge-MORE.false,
-      eq-eqb _ _ d.if-tag-ne-DELIMITED.left,
+      eq-eqb _ _ d.if-tag-ne-DELIMITED.false,
       ← c.wide.ensures,
       lt-ltb _ _ c.if-wide-ge-MORE.false,
     )
