@@ -127,7 +127,7 @@ returns_2 c =
     done_with a.store.now _ h.spelt _ c.moved.result
     (ack_done s a.i a.consumer a.list.now (own_slot c.before.before.before.before.before.before.before.before.before) h.there (groups_from a.list.now 0) p.2.reads p.3
     c.dispatcher_of-d.result c.topic-number.result c.dispatcher_of-d.ensures (there c.before.before.before.before.before.before.before.before.before.before) c.topic-number.ensures (sym c.passes_64.ensures ∙ c.if-passes_64.false))
-    (value_moved _ _) (c.moved.ensures ∙ rw (from, to, entry_before_dispatcher_of_arg, topic_before_else1, else1_before_complete_arg, complete_before_mark_delete_arg2, dispatcher_of_before_else1, mark_delete_before_moved)) c.complete.ensures
+    (value_moved _ _) (c.moved.ensures ∙ rw (from, to)) c.complete.ensures
 
 pub ack_shared_spec : {M : Type 1} → statement M
 ack_shared_spec = tie.close (tie.spec dispatcher_of_requires topic_requires passes_64_requires same_length returns mark_delete_requires complete_requires mark_delete_requires_2 moved_requires same_length_2 returns_2)

@@ -48,9 +48,9 @@ most c j h =
     let a = c.args in
     let l = c.loop-i in
     ⊎_elim
-    (λ w. rw (w.1, w.2, entry_before_joined1)
+    (λ w. rw (w.1, w.2)
     (most_raised a.store.now a.first a.width l.i l.x l.y l.inv.2 (sym c.is_above.ensures ∙ w.0.taken) j h))
-    (λ w. rw (w.3, w.4, entry_before_joined1)
+    (λ w. rw (w.3, w.4)
     (most_kept a.store.now a.first a.width l.i l.x l.y l.inv.2 (sym c.is_above.ensures ∙ w.0.left) j h))
     c.if-is_above.branch
 

@@ -30,10 +30,10 @@ run : (c : tie.Joined-next-batch invariant_loop decreases_loop)
 run c =
     ⊎_elim
     (λ w. (
-      rw (w.5, w.6, at_loop_before_joined2, entry_before_joined2) (fits_none w.3.result c.if-next-batch.batch w.3.ensures ∙ sym (sym c.loop-i.invariant.1 ∙ answered_yes w.1.ensures w.2.left)),
+      rw (w.5, w.6) (fits_none w.3.result c.if-next-batch.batch w.3.ensures ∙ sym (sym c.loop-i.invariant.1 ∙ answered_yes w.1.ensures w.2.left)),
       w.4,
     ))
-    (λ w. (rw (w.1, w.2, w.3, at_loop_before_joined2, entry_before_joined2) c.loop-i.invariant.1, w.1 ∙ sym w.0.left))
+    (λ w. (rw (w.1, w.2, w.3) c.loop-i.invariant.1, w.1 ∙ sym w.0.left))
     c.if-next-batch.branch
 
 returns : tie.Need-returns-then-n-entries invariant_loop decreases_loop

@@ -18,7 +18,7 @@ use Rattle.push_records.proofs.listed.push_flat.Tie as tie
 within : (c : tie.After-room-end) → c.room-end.result * 13 ≤ length c.args.flat.now
 within c =
     let e = c.room-end.ensures in
-    rw (e, entry_before_room) (room_words (length c.args.flat.now) c.args.records)
+    rw (e) (room_words (length c.args.flat.now) c.args.records)
 
 -- and their records are the room's
 lent_length : (k r : ℕ) (l : List ℕ) → k ≡ r * 13 → k ≤ length l → length (take k l) / 13 ≡ r
