@@ -41,7 +41,7 @@ stays_requires c κs =
     let r = c.loop-j.invariant in
     let h = c.requires.0 in
     let m = c.requires.1 in
-    (r.moved.here, there_now c.args.d c.args.id h m r (here c.before), marked_now c.args.d c.args.id h m r (here c.before))
+    (r.moved.here, there_now c.args.d c.args.id h m r (here c), marked_now c.args.d c.args.id h m r (here c))
 
 load_held_requires : tie.Need-load_held-h-requires invariant_loop decreases_loop
 load_held_requires c κs =

@@ -23,7 +23,7 @@ counted c = c.word-n.ensures ∙ outside_counted c.args.d c.dispatcher_at-at.res
 within : (c : tie.After-place_for_outside-j) → c.place_for_outside-j.result ≤ c.word-n.result
 within c =
     let x = c.args in
-    let n = counted c.before.before in
+    let n = counted c.before in
     let s = slot_le by_order (id_of x.ledger x.entry) (dispatcher_nth (decode x.store.now) x.d).outside in
     let r = c.place_for_outside-j.ensures in
     omega arith
@@ -31,7 +31,7 @@ within c =
 -- there is room for one more
 room : (c : tie.After-place_for_outside-j) → c.dispatcher_at-at.result + 45 + c.word-n.result * 2 + 2 ≤ length c.args.store.now
 room c =
-    let n = counted c.before.before in
+    let n = counted c.before in
     let h = c.requires.1 in
     let a = c.dispatcher_at-at.ensures in
     let i = c.requires.0.inside in
