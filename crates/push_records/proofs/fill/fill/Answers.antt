@@ -1,8 +1,6 @@
 -- `push_records::fill::fill` meets its contract: each turn takes the list a record further.
-use Rattle.std.proofs.Common.{◌≡◌, ◌+◌, ◌<◌, suc, length, refl, ap, ◌∙◌, add-one, arith}
-use Rattle.std.proofs.Math.ListN.{set}
-use Rattle.record.specs.declared.Dispatch.{Dispatch}
-use Rattle.push_records.proofs.Partway.{partway, partway_start, partway_next}
+use Rattle.std.proofs.Common.{◌<◌, length, add-one, arith}
+use Rattle.push_records.proofs.Partway.{partway_start, partway_next}
 use Rattle.push_records.proofs.fill.fill.Goals as goal
 
 pub loop-i-init : goal.loop-i-init

@@ -1,5 +1,5 @@
 -- `push_records::listed::room` meets its contract: the lesser of the two numbers.
-use Rattle.std.proofs.Common.{◌≡◌, arith}
+use Rattle.std.proofs.Common.{arith}
 use Rattle.push_records.specs.Listed.{room}
 use Rattle.push_records.proofs.listed.room.Goals as goal
 
