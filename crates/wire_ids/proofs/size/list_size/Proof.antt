@@ -80,9 +80,8 @@ loop_less_2 c = let f = field c.before.before in omega (arith, f.more, f.ends)
 
 loop_again_2 : tie.Need-loop-at-preserved invariant_loop decreases_loop
 loop_again_2 c =
-    let u = c in
-    let f = u.before.before.before in
-    counted_on _ _ f.loop-at.invariant _ (omega arith) (field f) _ (sym u.u-1.given.1 ∙ u.with_field.ensures)
+    let f = c.before.before in
+    counted_on _ _ f.loop-at.invariant _ (omega arith) (field f) _ (sym c.in-Is-with_field.is ∙ c.with_field.ensures)
 
 returns_3 : tie.Need-returns invariant_loop decreases_loop
 returns_3 c = counted_end _ _ c.loop-at.invariant (omega arith)
