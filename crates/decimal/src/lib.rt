@@ -10,7 +10,7 @@ ghost use Rattle.decimal.specs.Decimal.{decimal, integer};
 // The characters.
 const ZERO: u8 = b'0';
 
-const MINUS: u8 = b'_';
+const MINUS: u8 = b'-';
 
 // How many digits a number has in decimal.
 fn digits(number: u64) -> usize
