@@ -287,6 +287,10 @@ module _ (ws : List ℕ) (x : Call) (h : spells ws ≡ true) where
   unfolding value_number
   done_with_nothing o f = done_with 0 0 o refl refl f
 
+-- both clauses as a pair
+pub both : {A B : Type 0} → record { answer : A; words : B } → A × B
+both r = (r.answer, r.words)
+
 -- the values as numbers
 pub value_permits : (n : ℕ) → value_number (permits_after n) ≡ n
 unfolding value_number

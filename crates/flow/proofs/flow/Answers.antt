@@ -33,7 +33,5 @@ returns c =
     let i = c.in-Live.i in
     let grant = c.args.grant in
     let f = found_live id (decode ws).consumers i (sym c.in-Live.is ∙ c.find_consumer.ensures.slot) in
-    let q = consumer_found_id (decode ws) i id f.0 f.1 in (
-      c.flow_live.ensures.answer ∙ ap (λ (j : ℕ). answer ws (Flow j grant)) q,
-      c.flow_live.ensures.words ∙ ap (λ (j : ℕ). after ws (Flow j grant)) q,
-    )
+    let q = consumer_found_id (decode ws) i id f.0 f.1 in
+    record { answer = c.flow_live.ensures.answer ∙ ap (λ (j : ℕ). answer ws (Flow j grant)) q; words = c.flow_live.ensures.words ∙ ap (λ (j : ℕ). after ws (Flow j grant)) q }

@@ -33,7 +33,5 @@ returns c =
     let i = c.in-Live.i in
     let target = c.args.command.target in
     let f = found_live id (decode ws).consumers i (sym c.in-Live.is ∙ c.find_consumer.ensures.slot) in
-    let q = consumer_found_id (decode ws) i id f.0 f.1 in (
-      c.seek_live.ensures.answer ∙ ap (λ (j : ℕ). answer ws (seek_to j target)) q,
-      c.seek_live.ensures.words ∙ ap (λ (j : ℕ). after ws (seek_to j target)) q,
-    )
+    let q = consumer_found_id (decode ws) i id f.0 f.1 in
+    record { answer = c.seek_live.ensures.answer ∙ ap (λ (j : ℕ). answer ws (seek_to j target)) q; words = c.seek_live.ensures.words ∙ ap (λ (j : ℕ). after ws (seek_to j target)) q }
