@@ -28,10 +28,10 @@ pub returns-in-Answer : goal.returns-in-Answer
 returns-in-Answer c =
     let p = c.requires in
     played_call _ _ _ _ p.0 p.1 _ p.2 _ c.kind_of-kind.ensures (sym c.in-Answer.is ∙ c.make_record-made.ensures.answer)
-    c.make_record-made.ensures.words.0 c.make_record-made.ensures.words.1 c.write_outcome-written.ensures
+    c.make_record-made.ensures.words c.make_record-made.ensures.records c.write_outcome-written.ensures
 
 pub returns-in-NoCall : goal.returns-in-NoCall
 returns-in-NoCall c =
     let p = c.requires in
     played_none _ _ _ _ p.0 p.1 _ p.2 (sym c.in-NoCall.is ∙ c.make_record-made.ensures.answer)
-    c.make_record-made.ensures.words.0 (omega arith) c.write_bad-written.ensures
+    c.make_record-made.ensures.words (omega arith) c.write_bad-written.ensures
