@@ -42,11 +42,11 @@ loop-i-preserved c =
     let joined : c.joined.result ≡ with_byte (get_or l.words l.n 0) b = c.joined.ensures in
     let ended : c.blanks-n.result ≡ ends b = c.blanks-n.ensures in
     let kept = length-set l.words l.n c.joined.result in
-    let next = reading_next line start l.words l.n l.i room l.inv.3 more in
+    let next = reading_next line start l.words l.n l.i room l.invariant.3 more in
     let s = ends_small b in (
       omega (arith, room, kept, ended, s),
       omega (arith, more),
-      kept ∙ l.inv.2,
+      kept ∙ l.invariant.2,
       subst (λ (w : ℕ). Reading line start (set l.words l.n w) (l.n + c.blanks-n.result) (l.i + 1)) (sym joined)
           (subst (λ (k : ℕ). Reading line start (set l.words l.n (with_byte (get_or l.words l.n 0) b)) (l.n + k) (l.i + 1)) (sym ended)
           (subst (λ (k : ℕ). Reading line start (set l.words l.n (with_byte (get_or l.words l.n 0) b)) (l.n + ends b) k) (sym (add-one l.i)) next)),

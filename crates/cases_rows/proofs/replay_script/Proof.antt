@@ -8,7 +8,7 @@ use Rattle.cases_rows.proofs.replay_script.Statement.{statement}
 use Rattle.cases_rows.proofs.replay_script.Tie as tie
 
 left : (c : tie.After-row_into-answer)
-    → let a = c.args in c.row_into-answer.new.0 ≡ words_left a.store.now a.script.now (replicate a.a 0) (replicate a.room 0)
+    → let a = c.args in c.row_into-answer.new.store ≡ words_left a.store.now a.script.now (replicate a.a 0) (replicate a.room 0)
 left c = let s = c.before.before.before.before.before.before in with_zeros _ _ s.args.a s.args.room s.requires.0 s.requires.1 c.row_into-answer.ensures
 
 slice_aggregate_row_into : tie.Need-slice_bounds-row_into-end

@@ -12,11 +12,6 @@ use Rattle.store.proofs.Tests.{fails, passes}
 use borrow.Author.Rules.{rules}
 use Rattle.check_state.proofs.valid_consumers.places_valid.Statement.{statement}
 use Rattle.check_state.proofs.valid_consumers.places_valid.Tie as tie
-use Rattle.check_state.proofs.valid_consumers.places_valid.Reads as reads
-use Rattle.check_state.proofs.valid_consumers.places_valid.Lts as lts
-use Rattle.topic.proofs.table.ledger_length.Reads as ledger_length_reads
-use Rattle.store.proofs.stretch.word.Reads as word_reads
-use Rattle.check_state.proofs.valid_consumers.nacked_valid.Reads as nacked_valid_reads
 
 -- the length is that of the consumer's ledger
 ledger : (c : tie.After-ledger_length-n)
@@ -71,7 +66,7 @@ returns_2 c =
     let a = c.args in
     let n = ledger c.before.before.before in
     let r = cursor c.before.before in
-    passes (le-leb (consumer_nth (decode a.store.now) a.i).cursor _ (rw (n, r, entry_before_ledger_length, ledger_length_before_nacked_valid) at c.if-n-word.false))
+    passes (le-leb (consumer_nth (decode a.store.now) a.i).cursor _ (rw (n, r) at c.if-n-word.false))
     (c.nacked_valid.ensures ∙ ap (λ (k : ℕ). nacked_valid k (consumer_nth (decode a.store.now) a.i)) n)
 
 pub places_valid_spec : {M : Type 1} → statement M

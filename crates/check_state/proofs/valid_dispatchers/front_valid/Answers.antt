@@ -1,6 +1,5 @@
 -- `check_state::valid_dispatchers::front_valid` meets its contract: head, ring and places. A head that passed has a cursor below
 -- which every position has a stamp.
-use borrow.Author.Rules.{rules}
 use native.Mathlib.Omega.{arith}
 use Rattle.check_state.specs.Dispatchers.{front_right}
 use Rattle.store.proofs.Tests.{fails, passes, answered_no, answered_yes}
@@ -14,7 +13,7 @@ returns-then-not-head_valid c =
     record {
       answer = fails _ (answered_no c.head_valid.ensures c.if-not-head_valid.true);
       others = under_more c.args.stamps.now c.args.stamp
-          c.requires.1.1;
+          c.requires.under;
     }
 
 pub returns-then-not-ring_valid : goal.returns-then-not-ring_valid
@@ -24,7 +23,7 @@ returns-then-not-ring_valid c =
       answer = passes (answered_yes c.head_valid.ensures c.if-not-head_valid.false)
           (fails _ (answered_no c.ring_valid.ensures c.if-not-ring_valid.true));
       others = under_more c.args.stamps.now c.args.stamp
-          c.requires.1.1;
+          c.requires.under;
     }
 
 pub places_valid-requires : goal.places_valid-requires
@@ -32,7 +31,7 @@ places_valid-requires c =
     let a = c.args in
     let l = head_cursor a.store.now a.at a.entries (answered_yes c.head_valid.ensures
     c.if-not-head_valid.false) in
-    (c.requires.0, (omega arith, c.requires.1.1))
+    record { room = c.requires.room; cursor = omega arith; under = c.requires.under }
 
 pub returns : goal.returns
 unfolding front_right

@@ -1,11 +1,6 @@
 -- `dispatcher::numbers::load_head` meets its contract: the four words at their offsets.
 use Rattle.dispatcher.proofs.Loads.{head_here}
-use borrow.Author.Rules.{rules}
-use Rattle.dispatcher.proofs.numbers.load_head.Reads as reads
-use Rattle.dispatcher.proofs.numbers.load_head.Lts as lts
-use Rattle.store.proofs.offsets.dispatcher_at.Reads as dispatcher_at_reads
-use Rattle.store.proofs.stretch.word.Reads as word_reads
 use Rattle.dispatcher.proofs.numbers.load_head.Goals as goal
 
 pub returns : goal.returns
-returns c = rw (c.word.ensures, c.word-2.ensures, c.word-3.ensures, word_before_shared_slice_known2) (head_here c.args.d c.dispatcher_at-at.result c.requires c.dispatcher_at-at.ensures)
+returns c = rw (c.word.ensures, c.word-2.ensures, c.word-3.ensures) (head_here c.args.d c.dispatcher_at-at.result c.requires c.dispatcher_at-at.ensures)

@@ -13,11 +13,6 @@ use Rattle.dispatcher.proofs.Rings.{dispatcher_is, ring_none}
 use borrow.Author.Rules.{rules}
 use Rattle.dispatcher.proofs.table.in_ring.Statement.{statement}
 use Rattle.dispatcher.proofs.table.in_ring.Tie as tie
-use Rattle.dispatcher.proofs.table.in_ring.Reads as reads
-use Rattle.dispatcher.proofs.table.in_ring.Lts as lts
-use Rattle.dispatcher.proofs.table.find_dispatcher.Reads as find_dispatcher_reads
-use Rattle.dispatcher.proofs.table.ring_holds.Reads as ring_holds_reads
-use Rattle.dispatcher.proofs.table.dispatcher_count.Reads as dispatcher_count_reads
 
 -- the pair that is sought
 abbrev wanted : tie.Start → Pair
@@ -41,7 +36,7 @@ returns c =
     let s = decode c.args.store.now in
     let p : Pair = wanted c.before.before.before.before.before in
     let e : c.find_dispatcher-d.result ≡ slot by_pair p s.dispatchers = c.find_dispatcher-d.ensures in
-    let h : slot by_pair p s.dispatchers < length s.dispatchers = rw (e, entry_before_then1) at (here c.before) in
+    let h : slot by_pair p s.dispatchers < length s.dispatchers = rw (e) at (here c.before) in
     c.ring_holds.ensures
     ∙ ap (λ (k : ℕ). member c.args.id (dispatcher_nth s k).attached) e
     ∙ ap (λ (d : Dispatcher). member c.args.id d.attached) (sym (dispatcher_is s p h))

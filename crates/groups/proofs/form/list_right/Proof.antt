@@ -6,16 +6,11 @@ use mathlib.Core.Bool.{true}
 use native.Mathlib.Omega.{arith}
 use lib.ListN.{length}
 use borrow.Author.Rules.{rules}
-use borrow.Author.Tests.{not-true, not-false}
 use Rattle.groups.specs.Walk.{group_fits}
 use Rattle.groups.proofs.Steps.{says_fits}
 use Rattle.groups.proofs.Forms.{Formed, formed_start, formed_full, formed_broken, formed_on, formed_end}
 use Rattle.groups.proofs.form.list_right.Statement.{statement}
 use Rattle.groups.proofs.form.list_right.Tie as tie
-use Rattle.groups.proofs.form.list_right.Reads as reads
-use Rattle.groups.proofs.form.list_right.Lts as lts
-use Rattle.groups.proofs.form.group_fits.Reads as group_fits_reads
-use Rattle.groups.proofs.walk.group_end.Reads as group_end_reads
 
 abbrev invariant_loop : tie.invariant-loop-at
 invariant_loop list at₀ left₀ at left = (at ≤ length list) × (left ≤ 64) × Formed list at left
@@ -25,7 +20,7 @@ decreases_loop list at₀ left₀ at left = length list - at
 
 -- the group of a turn fits
 fitted : (c : tie.Else-not-group_fits invariant_loop decreases_loop) → group_fits c.args.list.now c.loop-at.at ≡ true
-fitted c = sym c.group_fits.ensures ∙ not-false _ c.if-not-group_fits.false
+fitted c = sym c.group_fits.ensures ∙ c.if-not-group_fits.false
 
 loop_holds : tie.Need-loop-at-init invariant_loop decreases_loop
 loop_holds c = (search rules, search rules, formed_start c.args.list.now)
@@ -39,7 +34,7 @@ group_fits_requires c κs = search rules
 returns_2 : tie.Need-returns-then-not-group_fits invariant_loop decreases_loop
 returns_2 c =
     formed_broken c.args.list.now c.loop-at.at (omega arith) c.loop-at.left
-    (sym c.group_fits.ensures ∙ not-true _ c.if-not-group_fits.true) c.loop-at.invariant.2
+    (sym c.group_fits.ensures ∙ c.if-not-group_fits.true) c.loop-at.invariant.2
 
 group_end_requires : tie.Need-group_end-at-requires invariant_loop decreases_loop
 group_end_requires c κs = says_fits c.args.list.now c.loop-at.at (fitted c)
