@@ -2,13 +2,15 @@
 # for C at its limits and on damaged words alone, `make wire` holds its commands as bytes against protobuf,
 # `make trace` holds the trace player against the rules, `make rows` rows of calls against the same calls one by one,
 # `make examples` runs the library's callers, `make bench` times its calls and the player, `make edits` reads what a gate
-# run said of the must-fail edits, `make runs` is the gate without its proofs, `make install` puts it in place.
-.PHONY: run test runs faults wire trace rows examples bench edits install
+# run said of the must-fail edits, `make runs` is the gate without its proofs, `make library` and `make player` build the
+# library and the player alone, `make install` puts the library in place.
+.PHONY: run test runs library player faults wire trace rows examples bench edits install
 
+# The library for C, under the name that its callers know.
 LIBRARY = target/staticlib/libbroker.a
 
-# The trace player, which `rt check` builds.
-PLAYER = target/bin/player
+# The trace player, where `rt run` leaves it.
+PLAYER = crates/player/out/player
 
 # Where `make install` puts headers, library and pkg-config file; DESTDIR comes before it.
 PREFIX = /usr/local
@@ -73,27 +75,31 @@ endef
 
 # Prove and build what there is, the library for C too, and run the case runner and the market morning.
 run:
-	rt check
-	rt staticlib broker
-	target/bin/cases <crates/cases/stdin
+	rt all check
+	$(MAKE) --no-print-directory library
+	cd crates/cases && rt run <stdin
 	$(build-terminal)
 	target/terminal
 
-# The layout of the sources, the rooms as they are drawn, the proofs from nothing with the must-fail edits, then
-# what runs the library. The proofs come before it, so that it is built from what they leave; their verdict is
-# said again at the end, as the last line.
+# The crates as they are drawn, the proofs from nothing with the must-fail edits, then what runs the library.
 test:
-	rt fmt --check
-	tests/rooms
-	@work=$$(mktemp -d); trap 'rm -rf "$$work"' EXIT; \
-	{ rt ci || touch "$$work/failed"; } | tee "$$work/said"; \
-	[ ! -e "$$work/failed" ] && $(MAKE) --no-print-directory runs && tail -n 1 "$$work/said"
+	.ci/run
 
-# The library for C and the trace player, the runs of both and of broker.rs, the library's limits and faults, its commands
-# as bytes, what records traces, its examples, the check on changed words.
-runs:
-	rt staticlib broker
-	rt check player
+# The library for C: proved and built in its crate, and put where its callers look for it.
+library:
+	cd crates/broker_c && rt lib
+	mkdir -p target/staticlib
+	cp crates/broker_c/out/libbroker_c.a $(LIBRARY)
+
+# The trace player: proved, built, and run on its crate's input.
+player:
+	mkdir -p target
+	cd crates/player && rt run <stdin >../../target/player.out
+	cmp target/player.out crates/player/stdout
+
+# The runs of the library for C, of the trace player and of broker.rs, the library's limits and faults, its commands as
+# bytes, what records traces, its examples, the check on changed words.
+runs: library player
 	LIBBROKER=$(LIBRARY) CALLS=$(CALLS) ROWS=$(ROWS) PLAYER=$(PLAYER) RECORDS=$(RECORDS) reference/check
 	$(run-faults)
 	$(run-wire)
@@ -102,50 +108,42 @@ runs:
 	fuzz/run fuzz 1
 
 # The library for C at its limits and one past them, with lists and stores of every wrong shape.
-faults:
-	rt staticlib broker
+faults: library
 	$(run-faults)
 
 # Commands as bytes against fixed bytes, the rules and protobuf.
-wire:
-	rt staticlib broker
+wire: library
 	$(run-wire)
 
 # The trace player against the model of the rules, and what records traces.
-trace:
-	rt staticlib broker
-	rt check player
+trace: library player
 	LIBBROKER=$(LIBRARY) PLAYER=$(PLAYER) RECORDS=$(RECORDS) reference/trace
 	$(run-recording)
 
 # Rows of calls through broker_calls against the same calls one by one through the other exports.
-rows:
-	rt staticlib broker
+rows: library
 	LIBBROKER=$(LIBRARY) ROWS=$(ROWS) reference/rows
 
 # The library called as a maker would call it.
-examples:
-	rt staticlib broker
+examples: library
 	$(run-examples)
 
 # The time of every call beside a bare pass over the same words and beside broker.rs, of calls in rows beside both and a
 # plain counter, of the trace player beside the same calls through the library, and of the calls on bytes beside a plain
 # decoder and encoder.
-bench:
-	rt staticlib broker
-	rt check player
+bench: library player
 	LIBBROKER=$(LIBRARY) PLAYER=$(PLAYER) reference/bench
 	mkdir -p target/wire
 	gcc -std=c99 -O2 $(WARNINGS) -Iinclude tests/wire/speed.c tests/wire/plain.c $(LIBRARY) -o target/wire/speed
 	target/wire/speed
 
-# The must-fail edits that were refused by form alone, from the logs of the last gate run: there are none.
+# The must-fail edits that were refused by form alone, from what the last gate run said: there are none.
 edits:
 	tests/edits
 
 # The library that is there is installed; it is built first if there is none.
 $(LIBRARY):
-	rt staticlib broker
+	$(MAKE) --no-print-directory library
 
 install: $(LIBRARY)
 	install -d "$(DESTDIR)$(PREFIX)/include" "$(DESTDIR)$(PREFIX)/lib/pkgconfig"

@@ -1,6 +1,6 @@
 /*
  * The dispatch part for C: the consumer side of a Pulsar broker in one lent slice of 64-bit words.
- * Link with libbroker.a (`rt staticlib broker`). docs/STORE.md says what every word of a store means.
+ * Link with libbroker.a (`make library`). docs/STORE.md says what every word of a store means.
  *
  * Every call but the last three takes the store as a pointer and its length in words; those three read and
  * write commands as bytes and take no store. Every call returns one number: value * 256 + number, where the

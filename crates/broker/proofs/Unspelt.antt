@@ -8,9 +8,9 @@ use Rattle.layout.specs.Layout.{spells}
 use Rattle.layout.specs.Calls.{outcome, words_after, answer, after, with_records, made_words, list_after}
 
 -- the answer and the words
-pub unspelt : (ws : List ℕ) (x : Call) → spells ws ≡ false → (1 ≡ answer ws x) × (ws ≡ after ws x)
+pub unspelt : (ws : List ℕ) (x : Call) → spells ws ≡ false → record { answer : 1 ≡ answer ws x; words : ws ≡ after ws x }
 unfolding answer after outcome words_after answer_word
-unspelt ws x e = rw e (refl, refl)
+unspelt ws x e = rw e record { answer = refl; words = refl }
 
 -- and a lent list
 pub unspelt_list : (ws : List ℕ) (x : Call) (list : List ℕ) → spells ws ≡ false → list ≡ list_after list (outcome ws x)

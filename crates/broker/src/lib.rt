@@ -1,8 +1,9 @@
-// The exports for C: what makers' firmware links. Each here takes the store as a slice of words, a
-// pointer and a length, and answers value × 256 + number, the number 0 when done. No export
-// requires anything; the contracts are one equation for the answer and one for every lent slice.
+// What makers' firmware calls, as a library: the crates above use these functions, and broker_c exports them to C. Each here takes
+// the store as a slice of words, in C a pointer and a length, and answers value × 256 + number, the number 0 when done. None of
+// them requires anything; the contracts are one equation for the answer and one for every lent slice.
 // Every call here but opening first checks that the words spell a state, and answers 1 where they do not.
 #![tactic(auto)]
+
 pub mod commands;
 pub mod rows;
 
@@ -26,8 +27,7 @@ use subscribe::command::{Kind, Subscribe};
 use subscribe::subscribe;
 
 // Opens a store for `entries` entries per topic; the two switches are off at 0, else on.
-#[unsafe(no_mangle)]
-pub extern "C" fn broker_open(store: &mut [u64], entries: u64, leak: u64, noop: u64) -> u64
+pub fn broker_open(store: &mut [u64], entries: u64, leak: u64, noop: u64) -> u64
     ensures answer { result ≡ open_answer store.old entries leak noop }
     ensures words { store.new ≡ open_after store.old entries leak noop }
 {
@@ -35,8 +35,7 @@ pub extern "C" fn broker_open(store: &mut [u64], entries: u64, leak: u64, noop: 
 }
 
 // Appends a message of a batch size to a topic's ledger.
-#[unsafe(no_mangle)]
-pub extern "C" fn broker_append(
+pub fn broker_append(
     store: &mut [u64],
     topic: u8,
     ledger: u64,
@@ -54,8 +53,7 @@ pub extern "C" fn broker_append(
 }
 
 // Makes a consumer of a topic's subscription, or replaces a live one: kind 0 is plain, else shared.
-#[unsafe(no_mangle)]
-pub extern "C" fn broker_subscribe(
+pub fn broker_subscribe(
     store: &mut [u64],
     consumer: u64,
     kind: u64,
@@ -91,8 +89,7 @@ pub extern "C" fn broker_subscribe(
 }
 
 // Grants permits to a consumer. The value is its permits after, signed.
-#[unsafe(no_mangle)]
-pub extern "C" fn broker_flow(store: &mut [u64], consumer: u64, grant: u32) -> u64
+pub fn broker_flow(store: &mut [u64], consumer: u64, grant: u32) -> u64
     ensures answer { result ≡ answer store.old (Flow consumer grant) }
     ensures words { store.new ≡ after store.old (Flow consumer grant) }
 {
@@ -104,8 +101,7 @@ pub extern "C" fn broker_flow(store: &mut [u64], consumer: u64, grant: u32) -> u
 
 // Acknowledges entries: a list of groups of ledger, entry, n and n words of its ack set. The value is
 // mark-delete × 2, plus 1 if it moved; of a plain consumer 0.
-#[unsafe(no_mangle)]
-pub extern "C" fn broker_ack(store: &mut [u64], consumer: u64, list: &[u64]) -> u64
+pub fn broker_ack(store: &mut [u64], consumer: u64, list: &[u64]) -> u64
     ensures answer { result ≡ answer store.old (Ack consumer list.now) }
     ensures words { store.new ≡ after store.old (Ack consumer list.now) }
 {
@@ -116,14 +112,7 @@ pub extern "C" fn broker_ack(store: &mut [u64], consumer: u64, list: &[u64]) -> 
 }
 
 // Moves a consumer's cursor: target 0 is the start, else the id. The value is the cursor.
-#[unsafe(no_mangle)]
-pub extern "C" fn broker_seek(
-    store: &mut [u64],
-    consumer: u64,
-    target: u64,
-    ledger: u64,
-    entry: u64,
-) -> u64
+pub fn broker_seek(store: &mut [u64], consumer: u64, target: u64, ledger: u64, entry: u64) -> u64
     ensures answer { result ≡ answer store.old (Seek_call consumer (target_from target ledger entry)) }
     ensures words { store.new ≡ after store.old (Seek_call consumer (target_from target ledger entry)) }
 {
@@ -149,8 +138,7 @@ pub extern "C" fn broker_seek(
 }
 
 // Hands entries back: a list of groups of ledger, entry, n and n words, which are ignored.
-#[unsafe(no_mangle)]
-pub extern "C" fn broker_redeliver(store: &mut [u64], consumer: u64, list: &[u64]) -> u64
+pub fn broker_redeliver(store: &mut [u64], consumer: u64, list: &[u64]) -> u64
     ensures answer { result ≡ answer store.old (Redeliver consumer list.now) }
     ensures words { store.new ≡ after store.old (Redeliver consumer list.now) }
 {
@@ -161,8 +149,7 @@ pub extern "C" fn broker_redeliver(store: &mut [u64], consumer: u64, list: &[u64
 }
 
 // Closes a consumer. The value is 1 if one was live, else 0.
-#[unsafe(no_mangle)]
-pub extern "C" fn broker_close(store: &mut [u64], consumer: u64) -> u64
+pub fn broker_close(store: &mut [u64], consumer: u64) -> u64
     ensures answer { result ≡ answer store.old (Close consumer) }
     ensures words { store.new ≡ after store.old (Close consumer) }
 {
@@ -174,8 +161,7 @@ pub extern "C" fn broker_close(store: &mut [u64], consumer: u64) -> u64
 
 // Hands out all that is due. The list is filled with records of 13 words; the value is how many. With 15
 // the value is how many are due, and neither store nor list changes.
-#[unsafe(no_mangle)]
-pub extern "C" fn broker_push(store: &mut [u64], list: &mut [u64]) -> u64
+pub fn broker_push(store: &mut [u64], list: &mut [u64]) -> u64
     ensures answer { result ≡ answer store.old (Push (length list.old / 13)) }
     ensures words { store.new ≡ after store.old (Push (length list.old / 13)) }
     ensures records { list.new ≡ list_after list.old

@@ -2,6 +2,7 @@
 // two. Whether one is there, whether all are distinct, whether they ascend. Nothing here knows what the
 // words mean.
 #![tactic(auto)]
+
 ghost use Rattle.std.specs.Prelude.{◌≡◌, true, ◌+◌, ◌*◌, ◌≤◌, leb, length};
 ghost use Rattle.check_rows.specs.Below.{each_below};
 ghost use Rattle.check_rows.specs.Rows.{row, among, first_row, rows_distinct, two_among, twos_distinct, pair_above, above_last, twos_ascend};

@@ -2,6 +2,7 @@
 // needed words tests that they are spelt as the layout has them; then each record is tested against
 // the rules on states. Nothing is required of the words.
 #![tactic(auto)]
+
 mod valid_consumers;
 mod valid_dispatchers;
 mod valid_marks;

@@ -2,6 +2,7 @@
 // an entry, batch sizes at most 256, and no id twice in a ledger. The store is spelt as it should
 // be, so that counts are within their room; every word is below 2^64.
 #![tactic(auto)]
+
 ghost use Rattle.std.specs.Prelude.{◌≡◌, not, ◌&&◌, map, ◌+◌, ◌*◌, ◌≤◌, ◌<◌, eqb, length, get_or, take};
 ghost use Rattle.rules.specs.Table.{all, any, distinct};
 ghost use Rattle.rules.specs.State.{same_id, StoredMessage, Topic};

@@ -2,6 +2,7 @@
 // writer lays its bytes from a place on and answers the place after them. The digits are counted first, and then laid from
 // the last to the first.
 #![tactic(auto)]
+
 ghost use Rattle.std.specs.Prelude.{◌≡◌, ◌+◌, ◌≤◌, length};
 ghost use Rattle.std.proofs.Math.IntN.{sub_ℕ};
 ghost use Rattle.words.specs.Wrote.{Wrote};
@@ -10,7 +11,7 @@ ghost use Rattle.decimal.specs.Decimal.{decimal, integer};
 // The characters.
 const ZERO: u8 = b'0';
 
-const MINUS: u8 = b'_';
+const MINUS: u8 = b'-';
 
 // How many digits a number has in decimal.
 fn digits(number: u64) -> usize

@@ -1,5 +1,6 @@
 // The dispatcher of a shared subscription in a store.
 #![tactic(auto)]
+
 pub mod completion;
 pub mod flight;
 pub mod make;

@@ -3,6 +3,7 @@
 // the same move on a record that is lent; and above that stands one with plain parameters, for
 // callers that hold the record by value. Nothing here knows of a store.
 #![tactic(auto)]
+
 ghost use Rattle.std.specs.Prelude.{◌≡◌, ◌≤◌};
 ghost use Rattle.head.specs.Moves.{dispatched, advanced};
 

@@ -271,20 +271,25 @@ valid_now ws h = (says_valid (decode ws)).gives (spells_valid ws h)
 
 module _ (ws : List ℕ) (x : Call) (h : spells ws ≡ true) where
   -- a refusal is its number, and leaves the words
-  pub refused_with : {n : ℕ} → rule (decode ws) x ≡ refused n → (n ≡ answer ws x) × (ws ≡ after ws x)
+  pub refused_with : {n : ℕ} → rule (decode ws) x ≡ refused n → record { answer : n ≡ answer ws x; words : ws ≡ after ws x }
   unfolding answer after answer_word words_after
-  refused_with o = (rw (outcome_is ws x h, o), rw (outcome_is ws x h, o))
+  refused_with o = record { answer = rw (outcome_is ws x h, o); words = rw (outcome_is ws x h, o) }
 
   -- done, the answer is the value and the words are those of the state after
   pub done_with : {v : Value} {t : State} {vs : List ℕ} (n r : ℕ) → rule (decode ws) x ≡ done v t → value_number v ≡ n → r ≡ n % 2 ^ 56 * 256
-      → vs ≡ put_state ws t → (r ≡ answer ws x) × (vs ≡ after ws x)
+      → vs ≡ put_state ws t → record { answer : r ≡ answer ws x; words : vs ≡ after ws x }
   unfolding answer after answer_word words_after
-  done_with n r o q e f = (rw (outcome_is ws x h, o, q) e, rw (outcome_is ws x h, o) f)
+  done_with n r o q e f = record { answer = rw (outcome_is ws x h, o, q) e; words = rw (outcome_is ws x h, o) f }
 
   -- done with no value, the answer is 0
-  pub done_with_nothing : {t : State} {vs : List ℕ} → rule (decode ws) x ≡ done nothing t → vs ≡ put_state ws t → (0 ≡ answer ws x) × (vs ≡ after ws x)
+  pub done_with_nothing : {t : State} {vs : List ℕ} → rule (decode ws) x ≡ done nothing t → vs ≡ put_state ws t
+      → record { answer : 0 ≡ answer ws x; words : vs ≡ after ws x }
   unfolding value_number
   done_with_nothing o f = done_with 0 0 o refl refl f
+
+-- both clauses as a pair
+pub both : {A B : Type 0} → record { answer : A; words : B } → A × B
+both r = (r.answer, r.words)
 
 -- the values as numbers
 pub value_permits : (n : ℕ) → value_number (permits_after n) ≡ n

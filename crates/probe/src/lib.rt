@@ -1,5 +1,6 @@
 // The check of a store alone, for the fuzz: it is not part of what makers link.
 #![tactic(auto)]
+
 ghost use Rattle.std.specs.Prelude.{◌≡◌};
 ghost use Rattle.words.specs.Codec.{bit};
 ghost use Rattle.layout.specs.Layout.{spells};

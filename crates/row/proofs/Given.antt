@@ -127,13 +127,15 @@ left_short list o = let l = length-drop (length (made_words o)) list in omega ar
 pub as_many : (s : State) (list : List ℕ) (calls : List Call) → length (given s list calls) ≡ length calls
 unfolding given
 as_many s list [] = refl
-as_many s list (x ∷ calls) = ap suc (as_many _ _ calls)
+as_many s list (x ∷ calls) =
+    let o = rule s (with_room (length list / 13) x) in
+    ap suc (as_many (state_after s o) (left_of list o) calls)
 
 -- and as many answers
 pub answers_many : (s : State) (calls : List Call) → length (row_answers s calls) ≡ length calls
 unfolding row_answers
 answers_many s [] = refl
-answers_many s (x ∷ calls) = ap suc (answers_many _ calls)
+answers_many s (x ∷ calls) = ap suc (answers_many (state_after s (rule s x)) calls)
 
 -- their records have room in the list
 pub records_within : (s : State) (list : List ℕ) (calls : List Call) → length (row_records s (given s list calls)) ≤ length list

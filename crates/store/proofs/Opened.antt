@@ -55,16 +55,18 @@ opened_put ws e leak noop h =
 -- ---- the three ways an opening ends
 
 -- a refusal is its number, and leaves the words
-pub open_refused : (ws : List ℕ) (e leak noop k : ℕ) → open_outcome ws e leak noop ≡ refused k → (k ≡ open_answer ws e leak noop) × (ws ≡ open_after ws e leak noop)
+pub open_refused : (ws : List ℕ) (e leak noop k : ℕ) → open_outcome ws e leak noop ≡ refused k 
+    → record { answer : k ≡ open_answer ws e leak noop; words : ws ≡ open_after ws e leak noop }
 unfolding open_answer open_after answer_word words_after
-open_refused ws e leak noop k o = (rw o, rw o)
+open_refused ws e leak noop k o = record { answer = rw o; words = rw o }
 
 -- done, the answer is 0 and the words are the opened state's
 pub open_done : (ws : List ℕ) (e leak noop : ℕ) {l n : ℕ} → open_outcome ws e leak noop ≡ done nothing (opened e (not (eqb leak 0)) (not (eqb noop 0))) → needed e ≤ length ws
-    → l ≡ bit (not (eqb leak 0)) → n ≡ bit (not (eqb noop 0)) → (0 ≡ open_answer ws e leak noop) × (opened_words ws e (4096 + 128 * e) l n ≡ open_after ws e leak noop)
+    → l ≡ bit (not (eqb leak 0)) → n ≡ bit (not (eqb noop 0)) 
+    → record { answer : 0 ≡ open_answer ws e leak noop; words : opened_words ws e (4096 + 128 * e) l n ≡ open_after ws e leak noop }
 unfolding open_answer open_after answer_word words_after value_number
 open_done ws e leak noop o h p q =
-    (rw o, rw (o, p, q) (opened_put ws e (not (eqb leak 0)) (not (eqb noop 0)) h))
+    record { answer = rw o; words = rw (o, p, q) (opened_put ws e (not (eqb leak 0)) (not (eqb noop 0)) h) }
 
 -- 2 below the range
 pub open_low : (ws : List ℕ) (e leak noop : ℕ) → e < 1 → open_outcome ws e leak noop ≡ refused 2

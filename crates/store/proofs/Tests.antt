@@ -1,8 +1,7 @@
 -- Tests made one after the other: which decides, and what a call that answered says of its test.
 use mathlib.Core.Path.{◌≡◌, sym, ◌∙◌}
-use mathlib.Core.Bool.{Bool, true, false, not, ◌&&◌}
+use mathlib.Core.Bool.{Bool, true, false, ◌&&◌}
 use Prim.Native.Nat.{◌-◌}
-use borrow.Author.Tests.{not-true, not-false}
 
 -- a test that fails decides
 pub fails : {t : Bool} (u : Bool) → t ≡ false → false ≡ (t && u)
@@ -13,8 +12,8 @@ pub passes : {t u r : Bool} → t ≡ true → r ≡ u → r ≡ (t && u)
 passes e q = rw e q
 
 -- what a call that answered false, or true, says of its test
-pub answered_no : {r t : Bool} → r ≡ t → not r ≡ true → t ≡ false
-answered_no {r} e h = sym e ∙ not-true r h
+pub answered_no : {r t : Bool} → r ≡ t → r ≡ false → t ≡ false
+answered_no e h = sym e ∙ h
 
-pub answered_yes : {r t : Bool} → r ≡ t → not r ≡ false → t ≡ true
-answered_yes {r} e h = sym e ∙ not-false r h
+pub answered_yes : {r t : Bool} → r ≡ t → r ≡ true → t ≡ true
+answered_yes e h = sym e ∙ h

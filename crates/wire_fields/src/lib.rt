@@ -1,6 +1,7 @@
 // A message of the wire gone through field by field: a varint, a field, one walk over all fields that keeps what stands under
 // three numbers, and what a reader takes out of that. The walk is also the test that the message is well formed.
 #![tactic(auto)]
+
 pub mod base;
 pub mod field;
 pub mod lay;

@@ -13,7 +13,7 @@ use Rattle.rules.specs.Valid.{ValidDispatcher}
 use Rattle.layout.specs.Whole.{ShapedDispatcher}
 use Rattle.store.specs.Find.{slot}
 use Rattle.groups.specs.Walk.{groups_from}
-use Rattle.operation_laws.proofs.Frame.{refused_with, done_with, shared_found, dispatcher_found_valid, dispatcher_found_pair}
+use Rattle.operation_laws.proofs.Frame.{both, refused_with, done_with, shared_found, dispatcher_found_valid, dispatcher_found_pair}
 use Rattle.consumer.proofs.Found.{live_canon, live_in, live_valid, live_slot, live_consumer}
 use Rattle.ack.specs.Ackable.{Ackable}
 use Rattle.ack.proofs.Turns.{kept_groups, kept_fits}
@@ -35,13 +35,13 @@ own_slot c = live_slot c.requires.0 ∙ ap (λ (j : ℕ). slot by_id j (decode c
 
 -- it is valid
 valid_one : (c : tie.After-topic-number) → ValidDispatcher (decode c.args.store.now) (dispatcher_nth (decode c.args.store.now) c.dispatcher_of-d.result)
-valid_one c = dispatcher_found_valid (decode c.args.store.now) c.dispatcher_of-d.result _ c.dispatcher_of-d.ensures (live_valid c.requires.0) (there c.before.before)
+valid_one c = dispatcher_found_valid (decode c.args.store.now) c.dispatcher_of-d.result _ c.dispatcher_of-d.ensures (live_valid c.requires.0) (there c.before)
 
 -- so it may acknowledge
 ackable : (c : tie.After-topic-number) → Ackable c.args.e c.args.store.now c.dispatcher_of-d.result c.topic-number.result
 ackable c =
-    valid_ackable c.dispatcher_of-d.result c.topic-number.result (live_canon c.requires.0) (there c.before.before) (valid_one c)
-    (ap (λ (q : Pair). q.topic) (dispatcher_found_pair (decode c.args.store.now) c.dispatcher_of-d.result _ c.dispatcher_of-d.ensures (there c.before.before)) ∙ sym c.topic-number.ensures)
+    valid_ackable c.dispatcher_of-d.result c.topic-number.result (live_canon c.requires.0) (there c.before) (valid_one c)
+    (ap (λ (q : Pair). q.topic) (dispatcher_found_pair (decode c.args.store.now) c.dispatcher_of-d.result _ c.dispatcher_of-d.ensures (there c.before)) ∙ sym c.topic-number.ensures)
 
 -- 64 are not passed
 few : (c : tie.Else-passes_64) → length (ack_groups (ledger_of (decode c.args.store.now) c.topic-number.result) (dispatcher_nth (decode c.args.store.now) c.dispatcher_of-d.result) (groups_from c.args.list.now 0)).outside ≤ 64
@@ -69,7 +69,7 @@ within c =
     advance_within c.args.consumer (acked c) 4096 (omega arith) (omega arith)
 
 -- and it is that of the words written
-after_is : (c : tie.After-complete) → (dispatcher_nth (decode c.complete.new.0) c.dispatcher_of-d.result).mark_delete ≡ (advance_mark_delete (drop_complete c.args.consumer (acked c.before.before.before))).mark_delete
+after_is : (c : tie.After-complete) → (dispatcher_nth (decode c.complete.new.store) c.dispatcher_of-d.result).mark_delete ≡ (advance_mark_delete (drop_complete c.args.consumer (acked c.before.before.before))).mark_delete
 after_is c =
     ap (λ (x : Dispatcher). x.mark_delete)
     (written_is c.dispatcher_of-d.result c.args.consumer (advance_mark_delete (drop_complete c.args.consumer (acked c.before.before.before))) (ackable c.before.before.before.before.before).within (fits c.before.before.before) c.complete.ensures)
@@ -81,7 +81,7 @@ topic_requires : tie.Need-topic-number-requires
 topic_requires c κs = live_in c.requires.0
 
 passes_64_requires : tie.Need-passes_64-requires
-passes_64_requires c κs = ((ackable c.before).within, c.requires.2)
+passes_64_requires c κs = ((ackable c).within, c.requires.2)
 
 same_length : tie.Need-shape_of-store-then-passes_64
 same_length c = search rules
@@ -92,9 +92,9 @@ returns c =
     let p = c.requires in
     let h = p.0 in
     let s = decode a.store.now in
-    refused_with a.store.now _ h.spelt
+    both (refused_with a.store.now _ h.spelt
     (ack_over s a.i a.consumer a.list.now (own_slot c.before.before) h.there (groups_from a.list.now 0) p.2.reads p.3
-    c.dispatcher_of-d.result c.topic-number.result c.dispatcher_of-d.ensures (there c.before.before.before) c.topic-number.ensures (sym c.passes_64.ensures ∙ c.if-passes_64.true))
+    c.dispatcher_of-d.result c.topic-number.result c.dispatcher_of-d.ensures (there c.before.before.before) c.topic-number.ensures (sym c.passes_64.ensures ∙ c.if-passes_64.true)))
 
 mark_delete_requires : tie.Need-mark_delete-from-requires
 mark_delete_requires c κs = (ackable c.before.before).within
@@ -124,10 +124,10 @@ returns_2 c =
     let s = decode a.store.now in
     let from = c.mark_delete-from.ensures in
     let to = c.mark_delete.ensures ∙ after_is c.before.before.before.before in
-    done_with a.store.now _ h.spelt _ c.moved.result
+    both (done_with a.store.now _ h.spelt _ c.moved.result
     (ack_done s a.i a.consumer a.list.now (own_slot c.before.before.before.before.before.before.before.before.before) h.there (groups_from a.list.now 0) p.2.reads p.3
     c.dispatcher_of-d.result c.topic-number.result c.dispatcher_of-d.ensures (there c.before.before.before.before.before.before.before.before.before.before) c.topic-number.ensures (sym c.passes_64.ensures ∙ c.if-passes_64.false))
-    (value_moved _ _) (c.moved.ensures ∙ rw (from, to, entry_before_dispatcher_of_arg, topic_before_else1, else1_before_complete_arg, complete_before_mark_delete_arg2, dispatcher_of_before_else1, mark_delete_before_moved)) c.complete.ensures
+    (value_moved _ _) (c.moved.ensures ∙ rw (from, to)) c.complete.ensures)
 
 pub ack_shared_spec : {M : Type 1} → statement M
 ack_shared_spec = tie.close (tie.spec dispatcher_of_requires topic_requires passes_64_requires same_length returns mark_delete_requires complete_requires mark_delete_requires_2 moved_requires same_length_2 returns_2)

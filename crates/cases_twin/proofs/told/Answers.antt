@@ -1,11 +1,7 @@
 -- A refusal tells none; else the value, of at most 64.
-use native.Mathlib.Omega.{arith}
-use Prim.Native.Nat.{◌/◌, ◌%◌, ◌≤◌}
-use mathlib.Core.Path.{◌≡◌}
+use Rattle.std.proofs.Common.{◌%◌, arith}
 use borrow.Author.Tests.{lt-ltb, le-ltb}
 use Rattle.cases_twin.specs.Twin.{told}
-use Rattle.cases_twin.proofs.told.Reads as reads
-use Rattle.cases_twin.proofs.told.Lts as lts
 use Rattle.cases_twin.proofs.told.Goals as goal
 
 pub returns-then-answer-gt0 : goal.returns-then-answer-gt0

@@ -8,10 +8,10 @@ use Rattle.check_rows.proofs.repeated.Goals as goal
 pub returns-then-greatest-a : goal.returns-then-greatest-a
 returns-then-greatest-a c =
     let a = c.args in
-    sym (among_above a.store.now a.first a.width a.n a.a a.greatest c.requires.1 c.if-greatest-a.true)
+    sym (among_above a.store.now a.first a.width a.n a.a a.greatest c.requires.below c.if-greatest-a.true)
 
 pub row_of-requires : goal.row_of-requires
-row_of-requires c = c.requires.0
+row_of-requires c = c.requires.room
 
 pub returns : goal.returns
 returns c =

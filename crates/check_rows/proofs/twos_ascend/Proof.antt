@@ -92,10 +92,10 @@ unfolding twos_ascend
 returns_2 c =
     let x = c.args in
     let l = c.loop-i in
-    let h : 1 ≤ l.i = l.inv.0 in
+    let h : 1 ≤ l.i = l.invariant.0 in
     let k = c.loop-i-test.true in
     each_stop (two_ascends x.store.now x.first x.width) (x.n - 1) (l.i - 1) (omega arith)
-    (ascend_turn x.store.now x.first x.width l.i l.a l.b h l.inv.2 l.inv.3 (answered_no c.is_above.ensures c.if-not-is_above.true))
+    (ascend_turn x.store.now x.first x.width l.i l.a l.b h l.invariant.2 l.invariant.3 (answered_no c.is_above.ensures c.if-not-is_above.true))
 
 add_i : tie.Need-overflow_add-i invariant_loop decreases_loop
 add_i c = search rules
@@ -113,8 +113,8 @@ loop_again c =
       rw e,
       rw e,
       rw e
-          (ascend_next x.store.now x.first x.width l.i l.inv.0 l.inv.4
-          (ascend_turn x.store.now x.first x.width l.i l.a l.b l.inv.0 l.inv.2 l.inv.3 (answered_yes c.is_above.ensures c.if-not-is_above.false))),
+          (ascend_next x.store.now x.first x.width l.i l.invariant.0 l.invariant.4
+          (ascend_turn x.store.now x.first x.width l.i l.a l.b l.invariant.0 l.invariant.2 l.invariant.3 (answered_yes c.is_above.ensures c.if-not-is_above.false))),
     )
 
 returns_3 : tie.Need-returns invariant_loop decreases_loop

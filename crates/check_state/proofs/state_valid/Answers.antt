@@ -7,7 +7,7 @@ use borrow.Author.Rules.{rules}
 use Rattle.check_state.proofs.state_valid.Goals as goal
 
 pub topics_valid-requires : goal.topics_valid-requires
-topics_valid-requires c = (c.requires, (refl, known_nothing c.args.e c.args.store.now 9))
+topics_valid-requires c = record { canon = c.requires; orders = (refl, known_nothing c.args.e c.args.store.now 9) }
 
 pub returns-then-not-topics_valid : goal.returns-then-not-topics_valid
 returns-then-not-topics_valid c = fails _ (answered_no c.topics_valid.ensures.answer c.if-not-topics_valid.true) ∙ state_by_tables c.requires

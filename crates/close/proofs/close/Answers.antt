@@ -16,7 +16,7 @@ returns-in_default c =
     let ws = c.args.store.now in
     let id = c.args.consumer in
     done_with ws _ c.requires 0 0
-    (close_missing (decode ws) id (found_missing id (decode ws).consumers (sym c.in_default.is ∙ c.find_consumer.ensures.0)))
+    (close_missing (decode ws) id (found_missing id (decode ws).consumers (sym c.in_default.is ∙ c.find_consumer.ensures.slot)))
     value_not_closed refl (sym (put_decode (canon_of c.entries-e.result ws c.requires c.entries-e.ensures)))
 
 pub close_live-requires : goal.close_live-requires
@@ -24,5 +24,5 @@ close_live-requires c =
     let ws = c.args.store.now in
     let id = c.args.consumer in
     let i = c.in-Live.i in
-    let f = found_live id (decode ws).consumers i (sym c.in-Live.is ∙ c.find_consumer.ensures.0) in
+    let f = found_live id (decode ws).consumers i (sym c.in-Live.is ∙ c.find_consumer.ensures.slot) in
     (record { spelt = c.requires; E = c.entries-e.ensures; there = f.1 }, sym (consumer_found_id (decode ws) i id f.0 f.1))

@@ -7,7 +7,7 @@ use Rattle.layout.specs.Fields.{consumer_nth, dispatcher_nth}
 use Rattle.layout.proofs.Store.{canon_entries}
 use Rattle.layout.proofs.Placed.{dispatcher_in}
 use Rattle.rules.specs.Commands.{left_by}
-use Rattle.operation_laws.proofs.Frame.{refused_with, done_with, shared_found, dispatcher_found_valid}
+use Rattle.operation_laws.proofs.Frame.{both, refused_with, done_with, shared_found, dispatcher_found_valid}
 use Rattle.consumer.proofs.Found.{live_canon, live_in, live_valid, live_slot, live_consumer}
 use Rattle.dispatcher.proofs.Room.{room_for_all}
 use Rattle.close.proofs.Rings.{left_fits}
@@ -26,7 +26,7 @@ dispatcher_of_requires : tie.Need-dispatcher_of-d-requires
 dispatcher_of_requires c κs = live_in c.requires.0
 
 total_without_requires : tie.Need-total_without-total-requires
-total_without_requires c κs = (c.requires.0, c.dispatcher_of-d.ensures, there c.before)
+total_without_requires c κs = (c.requires.0, c.dispatcher_of-d.ensures, there c)
 
 in_range_requires : tie.Need-in_range-requires
 in_range_requires c κs = search rules
@@ -79,10 +79,10 @@ returns c =
     let r = room_for_all a.e s (dispatcher_nth s d) v there_in.lists_fit.marks_fit in
     let t = c.total_without-total.result in
     let o = sym c.in_range.ensures ∙ c.if-in_range.true in
-    done_with a.store.now _ h.spelt 1 256
+    both (done_with a.store.now _ h.spelt 1 256
     (close_shared s a.i a.id g c.requires.1 (live_valid h) h.there c.requires.2 d t f l c.total_without-total.ensures o)
     value_closed refl
-    (closed_words a.store.now a.i d (left_by a.id t (dispatcher_nth s d)) (live_canon h) (left_fits a.id d there_in m r t) (canon_entries (live_canon h)) c.leave.ensures c.remove_consumer.ensures)
+    (closed_words a.store.now a.i d (left_by a.id t (dispatcher_nth s d)) (live_canon h) (left_fits a.id d there_in m r t) (canon_entries (live_canon h)) c.leave.ensures c.remove_consumer.ensures))
 
 same_length_2 : tie.Need-shape_of-store
 same_length_2 c = search rules
@@ -93,8 +93,8 @@ returns_2 c =
     let h = c.requires.0 in
     let s = decode a.store.now in
     let o = sym c.in_range.ensures ∙ c.if-in_range.false in
-    refused_with a.store.now _ h.spelt
-    (close_over s a.i a.id (slot_of s a.i a.id (live_slot h) c.requires.1) c.requires.1 (live_valid h) h.there c.requires.2 c.dispatcher_of-d.result c.total_without-total.result c.dispatcher_of-d.ensures (there c.before.before.before) c.total_without-total.ensures o)
+    both (refused_with a.store.now _ h.spelt
+    (close_over s a.i a.id (slot_of s a.i a.id (live_slot h) c.requires.1) c.requires.1 (live_valid h) h.there c.requires.2 c.dispatcher_of-d.result c.total_without-total.result c.dispatcher_of-d.ensures (there c.before.before.before) c.total_without-total.ensures o))
 
 pub close_shared_spec : {M : Type 1} → statement M
 close_shared_spec = tie.close (tie.spec dispatcher_of_requires total_without_requires in_range_requires leave_requires remove_consumer_requires same_length returns same_length_2 returns_2)

@@ -18,12 +18,12 @@ pub returns-in_default : goal.returns-in_default
 returns-in_default c =
     let ws = c.args.store.now in
     let id = c.args.consumer in
-    refused_with ws _ c.requires (flow_missing (decode ws) id c.args.grant (found_missing id (decode ws).consumers (sym c.in_default.is ∙ c.find_consumer.ensures.0)))
+    refused_with ws _ c.requires (flow_missing (decode ws) id c.args.grant (found_missing id (decode ws).consumers (sym c.in_default.is ∙ c.find_consumer.ensures.slot)))
 
 pub flow_live-requires : goal.flow_live-requires
 flow_live-requires c =
     let ws = c.args.store.now in
-    let f = found_live c.args.consumer (decode ws).consumers c.in-Live.i (sym c.in-Live.is ∙ c.find_consumer.ensures.0) in
+    let f = found_live c.args.consumer (decode ws).consumers c.in-Live.i (sym c.in-Live.is ∙ c.find_consumer.ensures.slot) in
     (record { spelt = c.requires; E = c.entries-e.ensures; there = f.1 }, omega arith)
 
 pub returns : goal.returns
@@ -32,8 +32,6 @@ returns c =
     let id = c.args.consumer in
     let i = c.in-Live.i in
     let grant = c.args.grant in
-    let f = found_live id (decode ws).consumers i (sym c.in-Live.is ∙ c.find_consumer.ensures.0) in
-    let q = consumer_found_id (decode ws) i id f.0 f.1 in (
-      c.flow_live.ensures.0 ∙ ap (λ (j : ℕ). answer ws (Flow j grant)) q,
-      c.flow_live.ensures.1 ∙ ap (λ (j : ℕ). after ws (Flow j grant)) q,
-    )
+    let f = found_live id (decode ws).consumers i (sym c.in-Live.is ∙ c.find_consumer.ensures.slot) in
+    let q = consumer_found_id (decode ws) i id f.0 f.1 in
+    record { answer = c.flow_live.ensures.answer ∙ ap (λ (j : ℕ). answer ws (Flow j grant)) q; words = c.flow_live.ensures.words ∙ ap (λ (j : ℕ). after ws (Flow j grant)) q }

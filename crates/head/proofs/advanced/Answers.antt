@@ -1,5 +1,5 @@
 -- `advanced` meets its contract: the result is the record that `Moves.advanced` says, field by field, by definition.
-use mathlib.Core.Path.{refl}
+use Rattle.std.proofs.Common.{refl}
 use Rattle.head.specs.Moves.{advanced}
 use Rattle.head.proofs.advanced.Goals as goal
 

@@ -1,6 +1,5 @@
 -- `dispatched` meets its contract: the subtraction has its room by the `requires`, and the result is the record that `Moves.dispatched` says, by definition.
-use mathlib.Core.Path.{refl}
-use borrow.Author.Rules.{rules}
+use Rattle.std.proofs.Common.{refl}
 use Rattle.head.specs.Moves.{dispatched}
 use Rattle.head.proofs.dispatched.Goals as goal
 

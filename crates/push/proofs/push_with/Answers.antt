@@ -68,7 +68,7 @@ serve_plain-requires c =
     let f = fits_told d in
     let a = words_told d in
     let b = permits_told d in
-    let l : length c.push_pending_shared-m.new.1.1.1.0 ≡ length c.args.list.now = ap length (records_told d) ∙ filled_length c.args.list.now 0 (shared_records (decode ws)) in (
+    let l : length c.push_pending_shared-m.new.permits.1.1.0 ≡ length c.args.list.now = ap length (records_told d) ∙ filled_length c.args.list.now 0 (shared_records (decode ws)) in (
       canon_now ws p.0 p.1 f a,
       readable_on ws p.0 p.1 f a,
       permits_on ws p.0 p.1 f a b,
@@ -83,9 +83,9 @@ returns c =
     let f = fits_told d in
     let a = words_told d in
     let b = permits_told d in (
-      pushed_count ws p.0 p.1 f a b (value_told d) c.serve_plain.ensures.0,
+      pushed_count ws p.0 p.1 f a b (value_told d) c.serve_plain.ensures.value,
       (
-        pushed_words ws p.0 p.1 f a b c.serve_plain.ensures.1.0,
-        pushed_records ws p.0 p.1 f a b c.args.list.now c.push_pending_shared-m.result (value_told d) (records_told d) c.serve_plain.ensures.1.1,
+        pushed_words ws p.0 p.1 f a b c.serve_plain.ensures.words.0,
+        pushed_records ws p.0 p.1 f a b c.args.list.now c.push_pending_shared-m.result (value_told d) (records_told d) c.serve_plain.ensures.words.1,
       ),
     )

@@ -8,7 +8,7 @@ use Rattle.layout.specs.Layout.{decode, put}
 use Rattle.layout.specs.Fields.{consumer_nth, dispatcher_nth, set_dispatcher}
 use Rattle.layout.proofs.Placed.{dispatcher_in}
 use Rattle.groups.specs.Walk.{groups_from}
-use Rattle.operation_laws.proofs.Frame.{done_with_nothing, shared_found, dispatcher_found_valid}
+use Rattle.operation_laws.proofs.Frame.{both, done_with_nothing, shared_found, dispatcher_found_valid}
 use Rattle.consumer.proofs.Found.{live_canon, live_in, live_valid, live_slot, live_consumer}
 use Rattle.redeliver.proofs.Shared.{shared_hands}
 use borrow.Author.Rules.{rules}
@@ -46,10 +46,10 @@ returns c =
     let h = p.0 in
     let s = decode a.store.now in
     let d = c.dispatcher_of-d in
-    done_with_nothing a.store.now _ h.spelt
+    both (done_with_nothing a.store.now _ h.spelt
     (shared_hands s a.i a.consumer a.list.now (live_slot h ∙ rw p.1) (live_valid h) h.there p.2 p.3 d.result d.ensures (there c.before.before.before.before))
     (c.hand_back_all.ensures
-    ∙ ap (λ (n : ℕ). put a.store.now (set_dispatcher s d.result (redeliver_groups (ledger_of s n) a.consumer (dispatcher_nth s d.result) (groups_from a.list.now 0)))) c.topic-number.ensures)
+    ∙ ap (λ (n : ℕ). put a.store.now (set_dispatcher s d.result (redeliver_groups (ledger_of s n) a.consumer (dispatcher_nth s d.result) (groups_from a.list.now 0)))) c.topic-number.ensures))
 
 pub redeliver_shared_spec : {M : Type 1} → statement M
 redeliver_shared_spec = tie.close (tie.spec topic_requires dispatcher_of_requires hand_back_all_requires same_length returns)

@@ -33,7 +33,7 @@ next : (c : tie.After-words_filled-from invariant_loop decreases_loop)
     → let a = c.args in
     let l = c.loop-at in
     let made = c.call_at-answer in
-    Going a.script.now a.store.now a.answers.now a.list.now made.last.0 (set l.answers l.call made.result) made.last.1.1.1.0
+    Going a.script.now a.store.now a.answers.now a.list.now made.new.0 (set l.answers l.call made.result) made.new.1.1.1.0
     (l.at + call_size (get_or a.script.now (l.at + 1) 0)) (l.call + 1) (l.from + c.words_filled-from.result)
 next c =
     let i = c.before.before.before.before.before.before.before.before.before in
@@ -50,7 +50,7 @@ mul_answers : tie.Need-offset_bounds-answers-call invariant_loop decreases_loop
 mul_answers c = search rules
 
 slice_write_answers : tie.Need-bounds-answers-call invariant_loop decreases_loop
-slice_write_answers c = let i = c.before.before.before.before.before.before.before in has_place (going i) i.loop-at-test.taken
+slice_write_answers c = let i = c.before.before.before.before.before.before.before in has_place (going i) i.loop-at-test.true
 
 mul_words_filled : tie.Need-offset_bounds-script-at invariant_loop decreases_loop
 mul_words_filled c = search rules

@@ -30,7 +30,7 @@ make_calls_requires : tie.Need-make_calls-requires
 make_calls_requires c κs =
     let few = c.before.before.before in
     let known = few.before in
-    row_ready _ _ _ known.args.list.now known.requires _ (its_calls known) few.if-answers-calls.left
+    row_ready _ _ _ known.args.list.now known.requires _ (its_calls known) few.if-answers-calls.false
 
 value_requires_2 : tie.Need-value-requires-in-Calls
 value_requires_2 c κs = search rules
@@ -52,7 +52,7 @@ returns_2 c =
     let few = c.before.before.before.before.before.before.before.before.before.before.before in
     let known = few.before in
     rw c.value-in-Calls.ensures
-    (row_made _ _ _ _ known.requires _ (its_calls known) few.if-answers-calls.left c.make_calls.ensures)
+    (row_made _ _ _ _ known.requires _ (its_calls known) few.if-answers-calls.false c.make_calls.ensures)
 
 returns_3 : tie.Need-returns-in-Bad
 returns_3 c =

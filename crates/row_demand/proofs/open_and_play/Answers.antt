@@ -5,7 +5,7 @@ use Rattle.row_demand.proofs.open_and_play.Goals as goal
 
 pub returns : goal.returns
 returns c =
-    let is = c.broker_open.ensures.1 in
+    let is = c.broker_open.ensures.words in
     let left = c.broker_calls.ensures in
     let small = c.well_formed.1.1.1.1.1.0.0 in
     (row_opened _ _ _ _ _ _ _ _ _ _ is left small, accounted_opened _ _ _ _ _ _ _ _ _ _ is left small)

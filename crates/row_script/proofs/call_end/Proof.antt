@@ -20,7 +20,7 @@ tested c b e =
     let there = c.before.before.before in
     let few = there.before in
     let front = few.before.before in
-    is_there _ _ front.requires front.if-script-at-lt-FRONT_WORDS.left few.if-count-gt-MOST_WORDS.left there.if-script-begin.left b (sym e ∙ c.is_call.ensures)
+    is_there _ _ front.requires front.if-script-at-lt-FRONT_WORDS.false few.if-count-gt-MOST_WORDS.false there.if-script-begin.false b (sym e ∙ c.is_call.ensures)
 
 sub_if1 : tie.Need-overflow_sub-script
 sub_if1 c = search rules
@@ -49,7 +49,7 @@ sub_if3 c = search rules
 returns_3 : tie.Need-returns-then-script-begin
 returns_3 c =
     let front = c.before.before.before in
-    no_words _ _ front.requires front.if-script-at-lt-FRONT_WORDS.left c.if-count-gt-MOST_WORDS.false c.if-script-begin.true
+    no_words _ _ front.requires front.if-script-at-lt-FRONT_WORDS.false c.if-count-gt-MOST_WORDS.false c.if-script-begin.true
 
 add_end : tie.Need-overflow_add-end
 add_end c = search rules

@@ -69,7 +69,7 @@ loop_again c =
       within_script c,
       omega (arith, m.further),
       ap (λ (k : List ℕ). counted (l.calls + 1) (script_calls k)) (ap (λ (k : ℕ). drop k script) (sym there) ∙ sym (drop-drop (next - l.at) l.at script))
-          ∙ m.counts ∙ l.inv.2,
+          ∙ m.counts ∙ l.invariant.2,
     )
 
 returns_2 : tie.Need-returns invariant_loop decreases_loop

@@ -18,12 +18,12 @@ returns-in_default c =
     let ws = c.args.store.now in
     let id = c.args.command.consumer in
     refused_with ws _ c.requires
-    (seek_missing (decode ws) id (target_of c.args.command.target) (found_missing id (decode ws).consumers (sym c.in_default.is ∙ c.find_consumer.ensures.0)))
+    (seek_missing (decode ws) id (target_of c.args.command.target) (found_missing id (decode ws).consumers (sym c.in_default.is ∙ c.find_consumer.ensures.slot)))
 
 pub seek_live-requires : goal.seek_live-requires
 seek_live-requires c =
     let ws = c.args.store.now in
-    let f = found_live c.args.command.consumer (decode ws).consumers c.in-Live.i (sym c.in-Live.is ∙ c.find_consumer.ensures.0) in
+    let f = found_live c.args.command.consumer (decode ws).consumers c.in-Live.i (sym c.in-Live.is ∙ c.find_consumer.ensures.slot) in
     record { spelt = c.requires; E = c.entries-e.ensures; there = f.1 }
 
 pub returns : goal.returns
@@ -32,8 +32,6 @@ returns c =
     let id = c.args.command.consumer in
     let i = c.in-Live.i in
     let target = c.args.command.target in
-    let f = found_live id (decode ws).consumers i (sym c.in-Live.is ∙ c.find_consumer.ensures.0) in
-    let q = consumer_found_id (decode ws) i id f.0 f.1 in (
-      c.seek_live.ensures.0 ∙ ap (λ (j : ℕ). answer ws (seek_to j target)) q,
-      c.seek_live.ensures.1 ∙ ap (λ (j : ℕ). after ws (seek_to j target)) q,
-    )
+    let f = found_live id (decode ws).consumers i (sym c.in-Live.is ∙ c.find_consumer.ensures.slot) in
+    let q = consumer_found_id (decode ws) i id f.0 f.1 in
+    record { answer = c.seek_live.ensures.answer ∙ ap (λ (j : ℕ). answer ws (seek_to j target)) q; words = c.seek_live.ensures.words ∙ ap (λ (j : ℕ). after ws (seek_to j target)) q }

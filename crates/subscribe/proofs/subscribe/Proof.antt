@@ -9,7 +9,7 @@ use Rattle.rules.specs.Calls.Call.{Subscribe}
 use Rattle.layout.specs.Layout.{decode}
 use Rattle.layout.specs.Calls.{answer, after}
 use Rattle.layout.proofs.Store.{put_decode, spells_canon}
-use Rattle.operation_laws.proofs.Frame.{canon_of, refused_with, done_with_nothing}
+use Rattle.operation_laws.proofs.Frame.{both, canon_of, refused_with, done_with_nothing}
 use Rattle.subscribe.specs.declared.command.Kind as declared
 use Rattle.subscribe.specs.Commanded.{kind_of}
 use Rattle.subscribe.specs.Admitted.{Admitted}
@@ -46,7 +46,7 @@ same_length c = search rules
 
 returns : tie.Need-returns-then-is_idle
 returns c =
-    done_with_nothing c.args.store.now _ c.requires (subscribe_idle (decode c.args.store.now) c.args.command.consumer (kind_of c.args.command.kind) (record { topic = c.args.command.topic; subscription = c.args.command.subscription }) (idle c.before ∙ c.if-is_idle.true)) (sym (put_decode (spells_canon c.requires)))
+    both (done_with_nothing c.args.store.now _ c.requires (subscribe_idle (decode c.args.store.now) c.args.command.consumer (kind_of c.args.command.kind) (record { topic = c.args.command.topic; subscription = c.args.command.subscription }) (idle c.before ∙ c.if-is_idle.true)) (sym (put_decode (spells_canon c.requires))))
 
 is_full_requires : tie.Need-is_full-requires
 is_full_requires c κs =
@@ -57,7 +57,7 @@ same_length_2 c = search rules
 
 returns_2 : tie.Need-returns-then-is_full
 returns_2 c =
-    refused_with c.args.store.now _ c.requires (subscribe_full (decode c.args.store.now) c.args.command.consumer (kind_of c.args.command.kind) (record { topic = c.args.command.topic; subscription = c.args.command.subscription }) (idle c.before.before.before ∙ c.if-is_idle.false) (full c.before ∙ c.if-is_full.true))
+    both (refused_with c.args.store.now _ c.requires (subscribe_full (decode c.args.store.now) c.args.command.consumer (kind_of c.args.command.kind) (record { topic = c.args.command.topic; subscription = c.args.command.subscription }) (idle c.before.before.before ∙ c.if-is_idle.false) (full c.before ∙ c.if-is_full.true)))
 
 cast_topic : tie.Need-overflow_cast-topic
 cast_topic c = search rules

@@ -22,10 +22,10 @@ is_call_requires : tie.Need-is_call-requires
 is_call_requires c κs = search rules
 
 returns : tie.Need-returns-then-not-is_call
-returns c = not_made _ _ (none_there _ (same_there c.before.before.before.before.before ∙ sym c.is_call.ensures ∙ not-true _ c.if-not-is_call.true))
+returns c = not_made _ _ (none_there _ (same_there c.before.before.before.before.before ∙ sym c.is_call.ensures ∙ c.if-not-is_call.true))
 
 answer_call_requires : tie.Need-answer_call-requires
-answer_call_requires c κs = (c.requires, sym c.is_call.ensures ∙ not-false _ c.if-not-is_call.false)
+answer_call_requires c κs = (c.requires, sym c.is_call.ensures ∙ c.if-not-is_call.false)
 
 same_length : tie.Need-shape_of-store
 same_length c = search rules
@@ -36,7 +36,7 @@ same_length_2 c = search rules
 returns_2 : tie.Need-returns
 returns_2 c =
     let e = c.answer_call.ensures in
-    let there = same_there c.before.before.before.before.before.before.before.before.before.before.before.before ∙ sym c.is_call.ensures ∙ not-false _ c.if-not-is_call.false in
+    let there = same_there c.before.before.before.before.before.before.before.before.before.before.before.before ∙ sym c.is_call.ensures ∙ c.if-not-is_call.false in
     (is_made _ _ there e.0, e.1)
 
 pub make_call_spec : {M : Type 1} → statement M

@@ -27,7 +27,7 @@ returns : tie.Need-returns-then-words-eq0
 unfolding target_of
 returns c =
     let t = c.before.before.before.before.before in
-    is_answered _ (to_start _ t.requires.1 t.if-words-eq0.taken) c.seek.ensures
+    is_answered _ (to_start _ t.requires.1 t.if-words-eq0.true) c.seek.ensures
 
 shared_slice_read_t4 : tie.Need-bounds-words-0-2
 shared_slice_read_t4 c = omega (arith, (its_words c.before.before.before.before.before.before).two)
@@ -48,7 +48,7 @@ returns_2 : tie.Need-returns
 unfolding target_of
 returns_2 c =
     let e = c.before.before.before.before.before.before.before in
-    is_answered _ (to_an_id _ e.requires.1 e.if-words-eq0.left) c.seek-2.ensures
+    is_answered _ (to_an_id _ e.requires.1 e.if-words-eq0.false) c.seek-2.ensures
 
 pub make_seek_spec : {M : Type 1} → statement M
 make_seek_spec = tie.close (tie.spec shared_slice_read_if1 shared_slice_read_t9 seek_requires same_length returns shared_slice_read_t4 shared_slice_read_t16 shared_slice_read_t18 seek_requires_2 same_length_2 returns_2)

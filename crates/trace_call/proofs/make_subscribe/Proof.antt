@@ -39,7 +39,7 @@ returns : tie.Need-returns-then-words-eq0
 unfolding kind_of
 returns c =
     let t = c.before.before.before.before.before.before.before in
-    is_answered _ (is_plain _ t.requires.1 t.if-words-eq0.taken) c.subscribe.ensures
+    is_answered _ (is_plain _ t.requires.1 t.if-words-eq0.true) c.subscribe.ensures
 
 shared_slice_read_t4 : tie.Need-bounds-words-0-2
 shared_slice_read_t4 c = omega (arith, (its_words c.before.before.before.before.before.before).four)
@@ -66,7 +66,7 @@ returns_2 : tie.Need-returns
 unfolding kind_of
 returns_2 c =
     let e = c.before.before.before.before.before.before.before in
-    is_answered _ (is_shared _ e.requires.1 e.if-words-eq0.left) c.subscribe-2.ensures
+    is_answered _ (is_shared _ e.requires.1 e.if-words-eq0.false) c.subscribe-2.ensures
 
 pub make_subscribe_spec : {M : Type 1} → statement M
 make_subscribe_spec = tie.close (tie.spec shared_slice_read_if1 shared_slice_read_t9 shared_slice_read_t12 cast_t13 shared_slice_read_t15 cast_t16 subscribe_requires same_length returns shared_slice_read_t4 shared_slice_read_t23 cast_t24 shared_slice_read_t26 cast_t27 subscribe_requires_2 same_length_2 returns_2)

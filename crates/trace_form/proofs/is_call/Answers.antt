@@ -43,5 +43,5 @@ returns c =
     let e = c in
     let d = e in
     none_is
-    (no_kind 0 _ _ e.if-kind-eq-APPEND.left e.if-kind-eq-SUBSCRIBE.left d.if-kind-eq-FLOW.left d.if-kind-eq-ACK.left c.if-kind-eq-SEEK.false e.if-kind-eq-REDELIVER.left c.if-kind-eq-CLOSE.false
-    (ne_eqb _ PUSH d.if-kind-eq-PUSH.left))
+    (no_kind 0 _ _ e.if-kind-eq-APPEND.false e.if-kind-eq-SUBSCRIBE.false d.if-kind-eq-FLOW.false d.if-kind-eq-ACK.false c.if-kind-eq-SEEK.false e.if-kind-eq-REDELIVER.false c.if-kind-eq-CLOSE.false
+    (ne_eqb _ PUSH d.if-kind-eq-PUSH.false))

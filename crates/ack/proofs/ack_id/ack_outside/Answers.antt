@@ -11,11 +11,11 @@ use Rattle.ack.proofs.ack_id.ack_outside.Goals as goal
 pub insert_outside-requires : goal.insert_outside-requires
 insert_outside-requires c =
     let a = c.args in
-    let n = sym c.is_outside.ensures ∙ not-true _ c.if-not-is_outside.true in
+    let n = sym c.is_outside.ensures ∙ c.if-not-is_outside.true in
     (c.requires.0, last_room (id_of a.ledger a.entry) (dispatcher_nth (decode a.store.now) a.d) n c.requires.1)
 
 pub returns-then-not-is_outside : goal.returns-then-not-is_outside
-returns-then-not-is_outside c = let n = sym c.is_outside.ensures ∙ not-true _ c.if-not-is_outside.true in rw n c.insert_outside.ensures
+returns-then-not-is_outside c = let n = sym c.is_outside.ensures ∙ c.if-not-is_outside.true in rw n c.insert_outside.ensures
 
 pub returns-else-not-is_outside : goal.returns-else-not-is_outside
-returns-else-not-is_outside c = let n = sym c.is_outside.ensures ∙ not-false _ c.if-not-is_outside.false in rw n (unchanged c.args.d c.requires.0)
+returns-else-not-is_outside c = let n = sym c.is_outside.ensures ∙ c.if-not-is_outside.false in rw n (unchanged c.args.d c.requires.0)

@@ -26,7 +26,7 @@ loop_holds : tie.Need-loop-at-init invariant_loop decreases_loop
 loop_holds c = (c.requires, refl)
 
 same_id_requires : tie.Need-same_id-requires invariant_loop decreases_loop
-same_id_requires c κs = let f = (turn c).ranges.head_inside in omega arith
+same_id_requires c κs = let f = (turn c).fits.head_inside in omega arith
 
 returns : tie.Need-returns-then-same_id invariant_loop decreases_loop
 returns c =

@@ -28,7 +28,7 @@ loop_holds : tie.Need-loop-at-init invariant_loop decreases_loop
 loop_holds c = (c.requires.1, omega arith)
 
 new_here_requires : tie.Need-new_here-count-requires invariant_loop decreases_loop
-new_here_requires c κs = (c.requires.0, (turn c).ranges, (turn c).next)
+new_here_requires c κs = (c.requires.0, (turn c).fits, (turn c).next)
 
 add_count : tie.Need-overflow_add-count invariant_loop decreases_loop
 add_count c =

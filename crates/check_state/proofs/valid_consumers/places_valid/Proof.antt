@@ -71,7 +71,7 @@ returns_2 c =
     let a = c.args in
     let n = ledger c.before.before.before in
     let r = cursor c.before.before in
-    passes (le-leb (consumer_nth (decode a.store.now) a.i).cursor _ (rw (n, r, entry_before_ledger_length, ledger_length_before_nacked_valid) at c.if-n-word.false))
+    passes (le-leb (consumer_nth (decode a.store.now) a.i).cursor _ (rw (n, r) at c.if-n-word.false))
     (c.nacked_valid.ensures ∙ ap (λ (k : ℕ). nacked_valid k (consumer_nth (decode a.store.now) a.i)) n)
 
 pub places_valid_spec : {M : Type 1} → statement M

@@ -127,7 +127,7 @@ rest_valid_requires c κs =
     let f = ledger_fits c.requires.0 t in
     let n : c.ledger_length-entries.result ≡ length (ledger_of (decode a.store.now) t) = c.ledger_length-entries.ensures in
     let m : c.find_topic-t.result ≡ slot by_number t (decode a.store.now).topics = c.find_topic-t.ensures in
-    let g : 2326 + c.find_topic-t.result * (4 + 4 * a.e) + c.ledger_length-entries.result * 4 ≤ length a.store.now = rw (m, n, ledger_length_before_shared_slice_known4, entry_before_slice_known, slice_known_before_front_valid_arg) (ledger_room c.requires.0 t) in (
+    let g : 2326 + c.find_topic-t.result * (4 + 4 * a.e) + c.ledger_length-entries.result * 4 ≤ length a.store.now = rw (m, n) (ledger_room c.requires.0 t) in (
       room c.before.before.before.before.before.before.before.before.before,
       ((omega arith, g), known_ledger c.requires.0 a.orders.now t c.find_topic-t.result c.ledger_length-entries.result c.requires.1.1.0.1 m n),
     )

@@ -49,7 +49,7 @@ twos_distinct_requires : tie.Need-twos_distinct-requires
 twos_distinct_requires c κs =
     let n = counted c in
     let r = table_room c.requires.0 in
-    let l : 2355 + 32 * c.args.e + c.word-n.result * (176 + 9 * c.args.e) ≤ length c.args.store.now = rw (n, entry_before_word) r in
+    let l : 2355 + 32 * c.args.e + c.word-n.result * (176 + 9 * c.args.e) ≤ length c.args.store.now = rw (n) r in
     (search rules, l)
 
 returns : tie.Need-returns-then-not-twos_distinct

@@ -18,18 +18,18 @@ use Rattle.check_state.proofs.valid_dispatchers.each_valid.Goals as goal
 
 pub loop-d-init : goal.loop-d-init
 unfolding each_below
-loop-d-init c = (search rules, c.requires.1.1.1.0, c.requires.1.1.1.1, refl)
+loop-d-init c = (search rules, c.requires.stamps.0, c.requires.stamps.1, refl)
 
 pub dispatcher_valid-requires : goal.dispatcher_valid-requires
 dispatcher_valid-requires c =
-    let n = c.requires.1.0 in
+    let n = c.requires.count in
     let t = c.loop-d-test.true in
-    (c.requires.0, (omega arith, (c.requires.1.1.0, (c.loop-d.invariant.1, c.loop-d.invariant.2))))
+    record { canon = c.requires.canon; there = omega arith; orders = c.requires.orders; stamps = (c.loop-d.invariant.1, c.loop-d.invariant.2) }
 
 pub returns-then-not-dispatcher_valid : goal.returns-then-not-dispatcher_valid
 returns-then-not-dispatcher_valid c =
     let s = decode c.args.store.now in
-    let n = c.requires.1.0 in
+    let n = c.requires.count in
     let l = c.loop-d-test.true in
     let t : c.loop-d.d < length s.dispatchers = omega arith in
     each_stop (λ j. valid_dispatcher s (dispatcher_nth s j)) (length s.dispatchers) c.loop-d.d t
@@ -49,7 +49,7 @@ loop-d-preserved c =
 pub returns : goal.returns
 returns c =
     let s = decode c.args.store.now in
-    let n = c.requires.1.0 in
+    let n = c.requires.count in
     let l : length s.dispatchers ≤ c.loop-d.d = let t = c.loop-d-test.false in omega arith in
     let m : c.loop-d.d ≤ length s.dispatchers = let t = c.loop-d.invariant.0 in omega arith in
     each_end (λ j. valid_dispatcher s (dispatcher_nth s j)) (length s.dispatchers) c.loop-d.d m l c.loop-d.invariant.3

@@ -14,7 +14,7 @@ returns-then-not-head_valid c =
     record {
       answer = fails _ (answered_no c.head_valid.ensures c.if-not-head_valid.true);
       others = under_more c.args.stamps.now c.args.stamp
-          c.requires.1.1;
+          c.requires.under;
     }
 
 pub returns-then-not-ring_valid : goal.returns-then-not-ring_valid
@@ -24,7 +24,7 @@ returns-then-not-ring_valid c =
       answer = passes (answered_yes c.head_valid.ensures c.if-not-head_valid.false)
           (fails _ (answered_no c.ring_valid.ensures c.if-not-ring_valid.true));
       others = under_more c.args.stamps.now c.args.stamp
-          c.requires.1.1;
+          c.requires.under;
     }
 
 pub places_valid-requires : goal.places_valid-requires
@@ -32,7 +32,7 @@ places_valid-requires c =
     let a = c.args in
     let l = head_cursor a.store.now a.at a.entries (answered_yes c.head_valid.ensures
     c.if-not-head_valid.false) in
-    (c.requires.0, (omega arith, c.requires.1.1))
+    record { room = c.requires.room; cursor = omega arith; under = c.requires.under }
 
 pub returns : goal.returns
 unfolding front_right

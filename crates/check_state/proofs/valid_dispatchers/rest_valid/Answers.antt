@@ -9,7 +9,7 @@ unfolding rest_right
 returns-then-not-marks_valid c = rw (← c.word.ensures) (fails _ (answered_no c.marks_valid.ensures c.if-not-marks_valid.true))
 
 pub outside_valid-requires : goal.outside_valid-requires
-outside_valid-requires c = (search rules, c.requires.1.1)
+outside_valid-requires c = record { room = search rules; ascend = c.requires.ascend }
 
 pub returns : goal.returns
 unfolding rest_right

@@ -15,7 +15,11 @@ returns-then-not-twos_ascend c = rw (← c.word-n.ensures) (fails _ (answered_no
 pub ids_absent-requires : goal.ids_absent-requires
 ids_absent-requires c =
     let e = c.word-n.ensures in
-    ((omega arith, search rules), (answered_yes c.twos_ascend.ensures c.if-not-twos_ascend.false, c.requires.1))
+    record {
+      room = (omega arith, search rules);
+      ids = answered_yes c.twos_ascend.ensures c.if-not-twos_ascend.false;
+      ascend = c.requires.ascend;
+    }
 
 pub returns : goal.returns
 unfolding outside_right

@@ -11,9 +11,9 @@ returns-then-not-flight_fresh c =
     let a = c.args in
     record {
       answer =
-          flight_wrong a.store.now a.e a.at c.word-count.ensures c.word-n.ensures refl c.word-cursor.ensures a.stamp c.requires.1.1
-          c.flight_fresh.ensures (not-true _ c.if-not-flight_fresh.true);
-      others = c.flight_fresh.ensures.others (under_more a.stamps.now a.stamp c.requires.1.1);
+          flight_wrong a.store.now a.e a.at c.word-count.ensures c.word-n.ensures refl c.word-cursor.ensures a.stamp c.requires.under
+          c.flight_fresh.ensures (c.if-not-flight_fresh.true);
+      others = c.flight_fresh.ensures.others (under_more a.stamps.now a.stamp c.requires.under);
     }
 
 pub returns : goal.returns
@@ -22,8 +22,8 @@ returns c =
     let m = c.word-cursor.ensures in
     record {
       answer =
-          queue_decides a.store.now a.e a.at c.word-count.ensures c.word-n.ensures c.word.ensures m a.stamp c.requires.1.1
-          c.flight_fresh.ensures (omega arith) (not-false _ c.if-not-flight_fresh.false) c.places_fresh.ensures;
+          queue_decides a.store.now a.e a.at c.word-count.ensures c.word-n.ensures c.word.ensures m a.stamp c.requires.under
+          c.flight_fresh.ensures (omega arith) (c.if-not-flight_fresh.false) c.places_fresh.ensures;
       others = c.places_fresh.ensures.others
-          (c.flight_fresh.ensures.others (under_more a.stamps.now a.stamp c.requires.1.1));
+          (c.flight_fresh.ensures.others (under_more a.stamps.now a.stamp c.requires.under));
     }

@@ -8,7 +8,7 @@ use Rattle.consumer.proofs.make.make_consumer.Statement.{statement}
 use Rattle.consumer.proofs.make.make_consumer.Tie as tie
 
 -- its words lie in the store
-room : (c : tie.After-consumer_at-at) → c.consumer_at-at.result + 72 ≤ length c.clear_nacked.new.0
+room : (c : tie.After-consumer_at-at) → c.consumer_at-at.result + 72 ≤ length c.clear_nacked.new.store
 room c =
     let a = c.consumer_at-at.ensures in
     let i = c.requires.0.inside in

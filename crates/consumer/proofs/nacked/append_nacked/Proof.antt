@@ -18,7 +18,7 @@ use Rattle.store.proofs.stretch.word.Reads as word_reads
 
 -- the count is the number of nacked positions
 counted : (c : tie.After-word-n) → c.word-n.result ≡ length (consumer_nth (decode c.args.store.now) c.args.i).nacked
-counted c = c.word-n.ensures ∙ rw (c.consumer_at-at.ensures, entry_before_word) (read_nacked_count c.requires.0.canon c.args.i c.requires.0.there)
+counted c = c.word-n.ensures ∙ rw (c.consumer_at-at.ensures) (read_nacked_count c.requires.0.canon c.args.i c.requires.0.there)
 
 consumer_at_requires : tie.Need-consumer_at-at-requires
 consumer_at_requires c κs = search rules

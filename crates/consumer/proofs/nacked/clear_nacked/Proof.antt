@@ -12,7 +12,7 @@ use Rattle.consumer.proofs.nacked.clear_nacked.Tie as tie
 
 -- the count is the number of nacked positions
 counted : (c : tie.After-word-n) → c.word-n.result ≡ length (consumer_nth (decode c.args.store.now) c.args.i).nacked
-counted c = c.word-n.ensures ∙ rw (c.consumer_at-at.ensures, entry_before_word) (read_nacked_count c.requires.canon c.args.i c.requires.there)
+counted c = c.word-n.ensures ∙ rw (c.consumer_at-at.ensures) (read_nacked_count c.requires.canon c.args.i c.requires.there)
 
 consumer_at_requires : tie.Need-consumer_at-at-requires
 consumer_at_requires c κs = search rules

@@ -13,7 +13,7 @@ use Rattle.consumer.proofs.nacked.drop_nacked.Tie as tie
 
 -- the count is the number of nacked positions
 counted : (c : tie.After-word-count) → c.word-count.result ≡ length (consumer_nth (decode c.args.store.now) c.args.i).nacked
-counted c = c.word-count.ensures ∙ rw (c.consumer_at-at.ensures, entry_before_word) (read_nacked_count c.requires.0.canon c.args.i c.requires.0.there)
+counted c = c.word-count.ensures ∙ rw (c.consumer_at-at.ensures) (read_nacked_count c.requires.0.canon c.args.i c.requires.0.there)
 
 -- so many are there
 there : (c : tie.After-word-count) → c.args.n ≤ c.word-count.result

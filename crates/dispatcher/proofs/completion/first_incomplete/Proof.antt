@@ -36,12 +36,12 @@ is_complete_requires c κs = (c.requires, let n = c.mark_count-n.ensures in omeg
 -- the entry is not complete
 incomplete : (c : tie.Then-not-is_complete invariant_loop decreases_loop) → (get_or (dispatcher_nth (decode c.args.store.now) c.args.d).marks c.loop-k.k new_mark).acked.complete ≡ false
 unfolding complete_at mark_at
-incomplete c = sym c.is_complete.ensures ∙ not-true _ c.if-not-is_complete.true
+incomplete c = sym c.is_complete.ensures ∙ c.if-not-is_complete.true
 
 -- or it is
 complete : (c : tie.Else-not-is_complete invariant_loop decreases_loop) → (get_or (dispatcher_nth (decode c.args.store.now) c.args.d).marks c.loop-k.k new_mark).acked.complete ≡ true
 unfolding complete_at mark_at
-complete c = sym c.is_complete.ensures ∙ not-false _ c.if-not-is_complete.false
+complete c = sym c.is_complete.ensures ∙ c.if-not-is_complete.false
 
 returns : tie.Need-returns-then-not-is_complete invariant_loop decreases_loop
 returns c =

@@ -12,9 +12,9 @@ use Rattle.dispatcher.proofs.make.make_dispatcher.Tie as tie
 
 -- its words lie in the store
 inside : (c : tie.After-dispatcher_at-at) → c.dispatcher_at-at.result + (176 + 9 * c.args.e) ≤ reserved_at c.args.e
-inside c = rw (c.dispatcher_at-at.ensures, entry_before_dispatcher_at) (dispatcher_inside c.args.e c.args.n c.requires.2)
+inside c = rw (c.dispatcher_at-at.ensures) (dispatcher_inside c.args.e c.args.n c.requires.2)
 
-room : (c : tie.After-dispatcher_at-at) → c.dispatcher_at-at.result + (176 + 9 * c.args.e) ≤ length c.raise_dispatchers.new.0
+room : (c : tie.After-dispatcher_at-at) → c.dispatcher_at-at.result + (176 + 9 * c.args.e) ≤ length c.raise_dispatchers.new.store
 room c =
     let i = inside c in
     let l = c.requires.0.long in
@@ -77,7 +77,7 @@ same_length c = search rules
 returns : tie.Need-returns
 returns c =
     let at : c.dispatcher_at-at.result + 175 + 3 * c.args.e ≡ dispatcher_at c.args.e c.args.n + marks_in c.args.e = let a = c.dispatcher_at-at.ensures in omega arith in
-    rw (at, c.dispatcher_at-at.ensures, entry_before_dispatcher_at)
+    rw (at, c.dispatcher_at-at.ensures)
     (made_dispatcher c.args.n c.args.topic c.args.subscription c.args.entries c.requires.0 c.requires.1 c.requires.2 c.requires.3 c.raise_dispatchers.ensures)
 
 pub make_dispatcher_spec : {M : Type 1} → statement M

@@ -8,4 +8,4 @@ use Rattle.store.proofs.stretch.word.Reads as word_reads
 use Rattle.dispatcher.proofs.numbers.load_head.Goals as goal
 
 pub returns : goal.returns
-returns c = rw (c.word.ensures, c.word-2.ensures, c.word-3.ensures, word_before_shared_slice_known2) (head_here c.args.d c.dispatcher_at-at.result c.requires c.dispatcher_at-at.ensures)
+returns c = rw (c.word.ensures, c.word-2.ensures, c.word-3.ensures) (head_here c.args.d c.dispatcher_at-at.result c.requires c.dispatcher_at-at.ensures)

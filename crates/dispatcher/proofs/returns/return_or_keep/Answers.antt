@@ -12,11 +12,6 @@ use Rattle.layout.specs.Layout.{decode, put}
 use Rattle.layout.specs.Fields.{zero_held, dispatcher_nth, set_dispatcher}
 use Rattle.dispatcher.proofs.Returning.{looked_own, looked_other}
 use borrow.Author.Rules.{rules}
-use Rattle.dispatcher.proofs.returns.return_or_keep.Reads as reads
-use Rattle.dispatcher.proofs.returns.return_or_keep.Lts as lts
-use Rattle.dispatcher.proofs.flight.load_held.Reads as load_held_reads
-use Rattle.dispatcher.proofs.flight.save_held.Reads as save_held_reads
-use Rattle.dispatcher.proofs.queue.append_queue.Reads as append_queue_reads
 use Rattle.dispatcher.proofs.returns.return_or_keep.Goals as goal
 
 pub returns-then-h-id : goal.returns-then-h-id
@@ -24,12 +19,13 @@ returns-then-h-id c =
     let x = dispatcher_nth (decode c.args.store.now) c.args.d in
     let h = get_or x.in_flight c.args.j zero_held in
     let q = c.load_held-h.ensures in
-    let t : eqb c.args.id h.holder ≡ true = eq-eqb c.args.id h.holder (sym c.if-h-id.true ∙ ap (λ (a : Held). a.holder) q) in (
-      rw t,
-      c.append_queue.ensures
+    let t : eqb c.args.id h.holder ≡ true = eq-eqb c.args.id h.holder (sym c.if-h-id.true ∙ ap (λ (a : Held). a.holder) q) in
+    record {
+      count = rw t;
+      words = c.append_queue.ensures
           ∙ ap (λ (y : Dispatcher). put c.args.store.now (set_dispatcher (decode c.args.store.now) c.args.d y))
-          (ap (λ (a : Held). with_places x (x.redelivery ++ a.position ∷ []) x.in_flight) q ∙ looked_own c.args.id c.args.j c.args.kept x t),
-    )
+          (ap (λ (a : Held). with_places x (x.redelivery ++ a.position ∷ []) x.in_flight) q ∙ looked_own c.args.id c.args.j c.args.kept x t);
+    }
 
 pub save_held-requires : goal.save_held-requires
 save_held-requires c = let p = c.requires in let a = p.1 in let b = p.2 in (p.0, omega (arith, a, b))
@@ -39,9 +35,10 @@ returns c =
     let x = dispatcher_nth (decode c.args.store.now) c.args.d in
     let h = get_or x.in_flight c.args.j zero_held in
     let q = c.load_held-h.ensures in
-    let t : eqb c.args.id h.holder ≡ false = ne_eqb c.args.id h.holder (λ z. c.if-h-id.false (ap (λ (a : Held). a.holder) q ∙ sym z)) in (
-      rw t,
-      c.save_held.ensures
+    let t : eqb c.args.id h.holder ≡ false = ne_eqb c.args.id h.holder (λ z. c.if-h-id.false (ap (λ (a : Held). a.holder) q ∙ sym z)) in
+    record {
+      count = rw t;
+      words = c.save_held.ensures
           ∙ ap (λ (y : Dispatcher). put c.args.store.now (set_dispatcher (decode c.args.store.now) c.args.d y))
-          (ap (λ (a : Held). with_places x x.redelivery (set x.in_flight c.args.kept a)) q ∙ looked_other c.args.id c.args.j c.args.kept x t),
-    )
+          (ap (λ (a : Held). with_places x x.redelivery (set x.in_flight c.args.kept a)) q ∙ looked_other c.args.id c.args.j c.args.kept x t);
+    }

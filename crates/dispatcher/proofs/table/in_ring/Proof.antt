@@ -41,7 +41,7 @@ returns c =
     let s = decode c.args.store.now in
     let p : Pair = wanted c.before.before.before.before.before in
     let e : c.find_dispatcher-d.result ≡ slot by_pair p s.dispatchers = c.find_dispatcher-d.ensures in
-    let h : slot by_pair p s.dispatchers < length s.dispatchers = rw (e, entry_before_then1) at (here c.before) in
+    let h : slot by_pair p s.dispatchers < length s.dispatchers = rw (e) at (here c.before) in
     c.ring_holds.ensures
     ∙ ap (λ (k : ℕ). member c.args.id (dispatcher_nth s k).attached) e
     ∙ ap (λ (d : Dispatcher). member c.args.id d.attached) (sym (dispatcher_is s p h))

@@ -25,7 +25,7 @@ decreases_loop list at₀ left₀ at left = length list - at
 
 -- the group of a turn fits
 fitted : (c : tie.Else-not-group_fits invariant_loop decreases_loop) → group_fits c.args.list.now c.loop-at.at ≡ true
-fitted c = sym c.group_fits.ensures ∙ not-false _ c.if-not-group_fits.false
+fitted c = sym c.group_fits.ensures ∙ c.if-not-group_fits.false
 
 loop_holds : tie.Need-loop-at-init invariant_loop decreases_loop
 loop_holds c = (search rules, search rules, formed_start c.args.list.now)
@@ -39,7 +39,7 @@ group_fits_requires c κs = search rules
 returns_2 : tie.Need-returns-then-not-group_fits invariant_loop decreases_loop
 returns_2 c =
     formed_broken c.args.list.now c.loop-at.at (omega arith) c.loop-at.left
-    (sym c.group_fits.ensures ∙ not-true _ c.if-not-group_fits.true) c.loop-at.invariant.2
+    (sym c.group_fits.ensures ∙ c.if-not-group_fits.true) c.loop-at.invariant.2
 
 group_end_requires : tie.Need-group_end-at-requires invariant_loop decreases_loop
 group_end_requires c κs = says_fits c.args.list.now c.loop-at.at (fitted c)

@@ -2,9 +2,6 @@
 use Prim.Native.Nat.{◌*◌}
 use native.Mathlib.Nat.{add-zero}
 use Rattle.push_records.specs.Listed.{record_at}
-use borrow.Author.Rules.{rules}
-use Rattle.push_records.proofs.fill.read_record.Reads as reads
-use Rattle.push_records.proofs.fill.read_record.Lts as lts
 use Rattle.push_records.proofs.fill.read_record.Goals as goal
 
 pub returns : goal.returns

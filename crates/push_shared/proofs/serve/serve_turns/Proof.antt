@@ -34,17 +34,17 @@ decreases_loop store₀ e d t n ring permits₀ list₀ from head₀ taken₀ m�
 
 -- the turn stopped
 told_stop : (c : tie.In-Stop invariant_loop decreases_loop)
-    → stop (local_from c.take_turn.new.1.1.1.1.1.1.0 c.in-Stop.last c.in-Stop.count)
+    → stop (local_from c.take_turn.new.permits c.in-Stop.last c.in-Stop.count)
     ≡ local_turn (fixed c.loop-last.store c.args.d) (local_from c.loop-last.permits c.loop-last.head c.loop-last.taken)
 unfolding turn_of
-told_stop c = sym (ap (λ (t : turns.Turn). turn_of c.take_turn.new.1.1.1.1.1.1.0 t) c.in-Stop.is) ∙ c.take_turn.ensures.0
+told_stop c = sym (ap (λ (t : turns.Turn). turn_of c.take_turn.new.permits t) c.in-Stop.is) ∙ c.take_turn.ensures.0
 
 -- or it handed out an entry
 told_move : (c : tie.In-Move invariant_loop decreases_loop)
-    → move (step_of c.in-Move.step) (local_from c.take_turn.new.1.1.1.1.1.1.0 c.in-Move.moved c.in-Move.count)
+    → move (step_of c.in-Move.step) (local_from c.take_turn.new.permits c.in-Move.moved c.in-Move.count)
     ≡ local_turn (fixed c.loop-last.store c.args.d) (local_from c.loop-last.permits c.loop-last.head c.loop-last.taken)
 unfolding turn_of
-told_move c = sym (ap (λ (t : turns.Turn). turn_of c.take_turn.new.1.1.1.1.1.1.0 t) c.in-Move.is) ∙ c.take_turn.ensures.0
+told_move c = sym (ap (λ (t : turns.Turn). turn_of c.take_turn.new.permits t) c.in-Move.is) ∙ c.take_turn.ensures.0
 
 -- mark-delete is as it was, where the turn stopped
 kept_stop : (c : tie.In-Stop invariant_loop decreases_loop) → c.in-Stop.last.mark_delete ≡ c.loop-last.head.mark_delete
@@ -82,7 +82,7 @@ finish_requires : tie.Need-finish-requires invariant_loop decreases_loop
 finish_requires c κs =
     let p = c.requires in
     let w = c.loop-last.invariant.3 in
-    let rs = c.take_turn.new.1.1.1.1.1.1.0 in
+    let rs = c.take_turn.new.permits in
     let k = c.in-Stop.last in
     let n = c.in-Stop.count in
     let t = told_stop c.before in
@@ -101,7 +101,7 @@ returns : tie.Need-returns-in-Stop invariant_loop decreases_loop
 returns c =
     let p = c.requires in
     let w = c.loop-last.invariant.3 in
-    let rs = c.take_turn.new.1.1.1.1.1.1.0 in
+    let rs = c.take_turn.new.permits in
     let k = c.in-Stop.last in
     let n = c.in-Stop.count in
     let t = told_stop c.before.before.before.before in
@@ -116,7 +116,7 @@ deliver_requires c κs =
     let p = c.requires in
     let w = c.loop-last.invariant.3 in
     let z = step_of c.in-Move.step in
-    let rs = c.take_turn.new.1.1.1.1.1.1.0 in
+    let rs = c.take_turn.new.permits in
     let k = c.in-Move.moved in
     let n = c.in-Move.count in
     let t = told_move c.before.before in
@@ -127,7 +127,7 @@ add_m c =
     let p = c.requires in
     let w = c.loop-last.invariant.3 in
     let z = step_of c.in-Move.step in
-    let rs = c.take_turn.new.1.1.1.1.1.1.0 in
+    let rs = c.take_turn.new.permits in
     let r = list_room p.0 w z rs c.in-Move.moved c.in-Move.count (told_move c.before.before.before.before.before.before.before) p.5 in
     let l = c.well_formed.1.1.1.1.1.1.1.0.0 in
     let i = c.loop-last.invariant.2 in
@@ -138,7 +138,7 @@ loop_less c =
     let p = c.requires in
     let w = c.loop-last.invariant.3 in
     let z = step_of c.in-Move.step in
-    let rs = c.take_turn.new.1.1.1.1.1.1.0 in
+    let rs = c.take_turn.new.permits in
     left_on p.0 w z rs c.in-Move.moved c.in-Move.count (told_move c.before.before.before.before.before.before.before)
 
 loop_again : tie.Need-loop-last-preserved invariant_loop decreases_loop
@@ -146,7 +146,7 @@ loop_again c =
     let p = c.requires in
     let w = c.loop-last.invariant.3 in
     let z = step_of c.in-Move.step in
-    let rs = c.take_turn.new.1.1.1.1.1.1.0 in
+    let rs = c.take_turn.new.permits in
     let k = c.in-Move.moved in
     let n = c.in-Move.count in (
       search rules,

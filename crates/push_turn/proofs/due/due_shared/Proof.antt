@@ -74,7 +74,7 @@ loop_again c =
       search rules,
       search rules,
       carried_on (decode a.store.now) a.permits.now c.loop-d.permits c.loop-d.d c.loop-d.count c.loop-d.invariant.2
-          c.due_of-count.new.1.1.1.0 c.due_of-count.result (here c.before.before.before.before) c.due_of-count.ensures.0 c.due_of-count.ensures.1 (small c),
+          c.due_of-count.new.permits c.due_of-count.result (here c.before.before.before.before) c.due_of-count.ensures.0 c.due_of-count.ensures.1 (small c),
     )
 
 same_length : tie.Need-shape_of-permits invariant_loop decreases_loop

@@ -27,14 +27,14 @@ decreases_loop store e d t n ring permits₀ head₀ taken₀ count₀ permits h
     left (fixed_of (decode store) (dispatcher_nth (decode store) d)) (local_from permits head taken)
 
 -- what the turn came to: a stop
-stopped : (c : tie.In_default invariant_loop decreases_loop) → local_turn (fixed_of (decode c.args.store.now) (dispatcher_nth (decode c.args.store.now) c.args.d)) (local_from c.loop-h.permits c.loop-h.head c.loop-h.taken) ≡ stop (local_from c.take_turn-turn.new.1.1.1.1.1.1.0 c.in_default.field-0 c.in_default.field-1)
+stopped : (c : tie.In_default invariant_loop decreases_loop) → local_turn (fixed_of (decode c.args.store.now) (dispatcher_nth (decode c.args.store.now) c.args.d)) (local_from c.loop-h.permits c.loop-h.head c.loop-h.taken) ≡ stop (local_from c.take_turn-turn.new.permits c.in_default.field-0 c.in_default.field-1)
 unfolding turn_of
-stopped c = sym c.take_turn-turn.ensures.0 ∙ ap (λ (t : turns.Turn). turn_of c.take_turn-turn.new.1.1.1.1.1.1.0 t) c.in_default.is
+stopped c = sym c.take_turn-turn.ensures.0 ∙ ap (λ (t : turns.Turn). turn_of c.take_turn-turn.new.permits t) c.in_default.is
 
 -- or a move
-moved : (c : tie.In-Move invariant_loop decreases_loop) → local_turn (fixed_of (decode c.args.store.now) (dispatcher_nth (decode c.args.store.now) c.args.d)) (local_from c.loop-h.permits c.loop-h.head c.loop-h.taken) ≡ move (step_of c.in-Move.field-0) (local_from c.take_turn-turn.new.1.1.1.1.1.1.0 c.in-Move.h c.in-Move.k)
+moved : (c : tie.In-Move invariant_loop decreases_loop) → local_turn (fixed_of (decode c.args.store.now) (dispatcher_nth (decode c.args.store.now) c.args.d)) (local_from c.loop-h.permits c.loop-h.head c.loop-h.taken) ≡ move (step_of c.in-Move.field-0) (local_from c.take_turn-turn.new.permits c.in-Move.h c.in-Move.k)
 unfolding turn_of
-moved c = sym c.take_turn-turn.ensures.0 ∙ ap (λ (t : turns.Turn). turn_of c.take_turn-turn.new.1.1.1.1.1.1.0 t) c.in-Move.is
+moved c = sym c.take_turn-turn.ensures.0 ∙ ap (λ (t : turns.Turn). turn_of c.take_turn-turn.new.permits t) c.in-Move.is
 
 load_head_requires : tie.Need-load_head-head-requires invariant_loop decreases_loop
 load_head_requires c κs = c.requires.0.here
@@ -68,7 +68,7 @@ returns : tie.Need-returns-in_default invariant_loop decreases_loop
 unfolding local_from
 returns c =
     let a = c.args in
-    let r = since_stop (fixed_of (decode a.store.now) (dispatcher_nth (decode a.store.now) a.d)) (local_from a.permits.now (head_of (dispatcher_nth (decode a.store.now) a.d)) 0) (local_from c.loop-h.permits c.loop-h.head c.loop-h.taken) c.loop-h.count c.loop-h.invariant.1 (local_from c.take_turn-turn.new.1.1.1.1.1.1.0 c.in_default.field-0 c.in_default.field-1) (stopped c) in
+    let r = since_stop (fixed_of (decode a.store.now) (dispatcher_nth (decode a.store.now) a.d)) (local_from a.permits.now (head_of (dispatcher_nth (decode a.store.now) a.d)) 0) (local_from c.loop-h.permits c.loop-h.head c.loop-h.taken) c.loop-h.count c.loop-h.invariant.1 (local_from c.take_turn-turn.new.permits c.in_default.field-0 c.in_default.field-1) (stopped c) in
     let s = served_turns (decode a.store.now) (dispatcher_nth (decode a.store.now) a.d) a.permits.now in (
       r.0 ∙ ap (λ (x : Steps). length x.made) (sym s),
       ap (λ (m : Local). m.permits) r.1 ∙ ap (λ (x : Steps). x.after.permits) (sym s),
@@ -90,12 +90,12 @@ add_count c =
 loop_less : tie.Need-loop-h-smaller invariant_loop decreases_loop
 loop_less c =
     let a = c.args in
-    turn_less (fixed_of (decode a.store.now) (dispatcher_nth (decode a.store.now) a.d)) (local_from c.loop-h.permits c.loop-h.head c.loop-h.taken) (step_of c.in-Move.field-0) (local_from c.take_turn-turn.new.1.1.1.1.1.1.0 c.in-Move.h c.in-Move.k) (moved c)
+    turn_less (fixed_of (decode a.store.now) (dispatcher_nth (decode a.store.now) a.d)) (local_from c.loop-h.permits c.loop-h.head c.loop-h.taken) (step_of c.in-Move.field-0) (local_from c.take_turn-turn.new.permits c.in-Move.h c.in-Move.k) (moved c)
 
 loop_again : tie.Need-loop-h-preserved invariant_loop decreases_loop
 loop_again c =
     let a = c.args in
-    (search rules, since_move (fixed_of (decode a.store.now) (dispatcher_nth (decode a.store.now) a.d)) (local_from a.permits.now (head_of (dispatcher_nth (decode a.store.now) a.d)) 0) (local_from c.loop-h.permits c.loop-h.head c.loop-h.taken) c.loop-h.count c.loop-h.invariant.1 (step_of c.in-Move.field-0) (local_from c.take_turn-turn.new.1.1.1.1.1.1.0 c.in-Move.h c.in-Move.k) (moved c))
+    (search rules, since_move (fixed_of (decode a.store.now) (dispatcher_nth (decode a.store.now) a.d)) (local_from a.permits.now (head_of (dispatcher_nth (decode a.store.now) a.d)) 0) (local_from c.loop-h.permits c.loop-h.head c.loop-h.taken) c.loop-h.count c.loop-h.invariant.1 (step_of c.in-Move.field-0) (local_from c.take_turn-turn.new.permits c.in-Move.h c.in-Move.k) (moved c))
 
 pub due_turns_spec : {M : Type 1} → statement M
 due_turns_spec = tie.close (tie.spec invariant_loop decreases_loop load_head_requires loop_holds take_turn_requires enum_known_turn enum_told same_length returns add_count loop_less loop_again)

@@ -12,7 +12,7 @@ pub returns-in_default : goal.returns-in_default
 returns-in_default c =
     let ws = c.args.store.now in
     let id = c.args.id in
-    let m = found_missing id (decode ws).consumers (sym c.in_default.is ∙ c.find_consumer.ensures.0) in
+    let m = found_missing id (decode ws).consumers (sym c.in_default.is ∙ c.find_consumer.ensures.slot) in
     let n = c.consumer_count.ensures in
     let l = slot_le by_id id (decode ws).consumers in
     omega arith
@@ -20,4 +20,4 @@ returns-in_default c =
 pub returns : goal.returns
 returns c =
     let ws = c.args.store.now in
-    (found_live c.args.id (decode ws).consumers c.in-Live.i (sym c.in-Live.is ∙ c.find_consumer.ensures.0)).0
+    (found_live c.args.id (decode ws).consumers c.in-Live.i (sym c.in-Live.is ∙ c.find_consumer.ensures.slot)).0

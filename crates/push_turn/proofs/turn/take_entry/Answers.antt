@@ -31,8 +31,8 @@ returns-then-taken-queue_count c =
     let n = c.queue_count.ensures in
     let t = c.if-taken-queue_count.true in
     let e : a.taken + 1 ≡ suc a.taken = omega arith in (
-      c.hand_over.ensures.0 ∙ entry_queued (fixed_of (decode a.store.now) (dispatcher_nth (decode a.store.now) a.d)) (local_from a.permits.now a.head a.taken) a.next a.c (a.taken + 1) c.queued-k.result (omega arith) e c.queued-k.ensures,
-      c.hand_over.ensures.1,
+      c.hand_over.ensures.turn ∙ entry_queued (fixed_of (decode a.store.now) (dispatcher_nth (decode a.store.now) a.d)) (local_from a.permits.now a.head a.taken) a.next a.c (a.taken + 1) c.queued-k.result (omega arith) e c.queued-k.ensures,
+      c.hand_over.ensures.mark_delete,
     )
 
 pub returns-then-cursor-n : goal.returns-then-cursor-n
@@ -44,8 +44,8 @@ returns-then-cursor-n c =
     let u = c.if-cursor-n.true in
     let m = c.requires.0.ledger_length in
     let e : a.head.cursor + 1 ≡ suc a.head.cursor = omega arith in (
-      c.hand_over-then-cursor-n.ensures.0 ∙ entry_waiting (fixed_of (decode a.store.now) (dispatcher_nth (decode a.store.now) a.d)) (local_from a.permits.now a.head a.taken) a.next a.c (a.head.cursor + 1) (omega arith) (omega arith) e,
-      c.hand_over-then-cursor-n.ensures.1,
+      c.hand_over-then-cursor-n.ensures.turn ∙ entry_waiting (fixed_of (decode a.store.now) (dispatcher_nth (decode a.store.now) a.d)) (local_from a.permits.now a.head a.taken) a.next a.c (a.head.cursor + 1) (omega arith) (omega arith) e,
+      c.hand_over-then-cursor-n.ensures.mark_delete,
     )
 
 pub returns : goal.returns

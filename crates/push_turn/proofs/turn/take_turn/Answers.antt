@@ -58,8 +58,8 @@ returns c =
     let u = c.if-head-le-ZERO_PERMITS.false in
     let v = c.if-place-size.false in
     let w = c.choose-place.ensures.1 in (
-      c.take_entry.ensures.0
+      c.take_entry.ensures.turn
           ∙ ap (λ (n : ℕ). take_entry (fixed_of (decode a.store.now) (dispatcher_nth (decode a.store.now) a.d)) (local_from a.permits.now a.head a.taken) n (get_or a.ring.now c.choose-place.result 0)) c.place_after-next.ensures
           ∙ at_place (fixed_of (decode a.store.now) (dispatcher_nth (decode a.store.now) a.d)) (local_from a.permits.now a.head a.taken) a.ring.now p.1 c.choose-place.result c.choose-place.ensures.0 (omega arith) (omega arith),
-      c.take_entry.ensures.1,
+      c.take_entry.ensures.mark_delete,
     )

@@ -44,7 +44,7 @@ loop_holds : tie.Need-loop-at-init invariant_loop decreases_loop
 loop_holds c = (c.requires.1, omega arith)
 
 found_here_requires : tie.Need-found_here-count-requires invariant_loop decreases_loop
-found_here_requires c κs = (c.requires.0, (turn c).ranges)
+found_here_requires c κs = (c.requires.0, (turn c).fits)
 
 add_count : tie.Need-overflow_add-count invariant_loop decreases_loop
 add_count c =

@@ -37,7 +37,7 @@ returns c =
     let ws = a.store.now in
     let t = c.find_topic-t.result in
     let e : t ≡ slot by_number a.topic (decode ws).topics = c.find_topic-t.ensures in
-    let h : slot by_number a.topic (decode ws).topics < length (decode ws).topics = rw (e, entry_before_then1) at (here c.before) in
+    let h : slot by_number a.topic (decode ws).topics < length (decode ws).topics = rw (e) at (here c.before) in
     c.message_count.ensures
     ∙ ap (λ (k : ℕ). length (topic_nth (decode ws) k).messages) e
     ∙ ap (λ (l : List StoredMessage). length l) (sym (ledger_at (decode ws) a.topic h))

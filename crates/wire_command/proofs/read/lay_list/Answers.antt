@@ -20,7 +20,7 @@ pub returns-then-kind-eq-REDELIVER : goal.returns-then-kind-eq-REDELIVER
 unfolding ids_words
 returns-then-kind-eq-REDELIVER c =
     let then2 = c in
-    c.lay_ids-then-kind-eq-REDELIVER.ensures ∙ rw (ne_eqb _ 10 then2.if-kind-eq-ACK.left, eq-eqb _ 20 then2.if-kind-eq-REDELIVER.taken)
+    c.lay_ids-then-kind-eq-REDELIVER.ensures ∙ rw (ne_eqb _ 10 then2.if-kind-eq-ACK.false, eq-eqb _ 20 then2.if-kind-eq-REDELIVER.true)
 
 pub returns-else-kind-eq-REDELIVER : goal.returns-else-kind-eq-REDELIVER
 unfolding ids_words lay

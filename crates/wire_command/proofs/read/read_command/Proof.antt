@@ -27,7 +27,7 @@ typed c = told_base _ _ _ (sym c.in-Of.is ∙ c.read_base.ensures)
 
 -- it is taken
 taken : (c : tie.Else-not-takes) → takes_command c.in-Of.kind ≡ true
-taken c = sym c.takes.ensures ∙ not-false _ c.if-not-takes.false
+taken c = sym c.takes.ensures ∙ c.if-not-takes.false
 
 -- its message was looked for
 looked_for : (c : tie.Else-not-takes)
@@ -69,7 +69,7 @@ returns_3 : tie.Need-returns-then-not-takes
 returns_3 c =
     let k = c.before.before in
     let a = k.args in
-    let t = sym c.takes.ensures ∙ not-true _ c.if-not-takes.true in
+    let t = sym c.takes.ensures ∙ c.if-not-takes.true in
     refused_done 17 a.command.now a.list.now (other_type _ _ (enough k.before.before) (typed k).0 t)
 
 enum_known_place : tie.Need-enum_known-place

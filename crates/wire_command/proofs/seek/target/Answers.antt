@@ -27,7 +27,7 @@ returns-in_default-required_part c =
     let x = i in
     let w = walked_as x.in-Fields.is x.pick.ensures in
     let p = part_bad w.at_a (sym c.in_default-required_part.is ∙ c.required_part.ensures) in
-    rw (w.all_fields, target_none _ w.at_a i.if-x-eq0.left p)
+    rw (w.all_fields, target_none _ w.at_a i.if-x-eq0.false p)
 
 pub target_in-requires : goal.target_in-requires
 target_in-requires c =

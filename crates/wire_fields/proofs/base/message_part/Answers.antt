@@ -16,4 +16,4 @@ returns c =
     let p = c in
     let w = walked _ _ _ _ _ _ _ (sym c.in-Fields.is ∙ p.pick.ensures) in
     let kind = p.args.kind in
-    c.required_part.ensures ∙ seen_placed _ kind p.if-kind-ge-TYPES_END.left w.fs w.all_fields _ (saw_part kind w.fs w.at_a)
+    c.required_part.ensures ∙ seen_placed _ kind p.if-kind-ge-TYPES_END.false w.fs w.all_fields _ (saw_part kind w.fs w.at_a)

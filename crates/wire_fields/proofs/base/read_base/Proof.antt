@@ -19,7 +19,7 @@ picked_whole c = rw (whole c.args.m.now) at c.pick.ensures
 message : (c : tie.In-Fields)
     → Walked c.args.m.now (wanted_of 8) (wanted_of (c.likely_type-likely.result * 8 + 2)) (wanted_of 0)
     c.in-Fields.x c.in-Fields.y c.in-Fields.field-2
-message c = walked _ _ _ _ _ _ _ (sym c.in-Fields.is ∙ picked_whole c)
+message c = walked _ _ _ _ _ _ _ (sym c.in-Fields.is ∙ picked_whole c.before)
 
 likely_type_requires : tie.Need-likely_type-likely-requires
 likely_type_requires c κs = search rules

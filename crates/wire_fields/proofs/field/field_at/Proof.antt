@@ -15,7 +15,7 @@ bytes : (c : tie.After-wide-size)
     TwoBytes e.args.m.now e.args.at t c.wide-size.result × (t % 8 ≡ 2))
 bytes c =
     let e = c.before.before in
-    part_bytes _ _ _ _ (omega arith) e.part_tag-tag.ensures e.if-tag-eq0.left c.wide-size.ensures
+    part_bytes _ _ _ _ (omega arith) e.part_tag-tag.ensures e.if-tag-eq0.false c.wide-size.ensures
 
 sub_if1 : tie.Need-overflow_sub-m
 sub_if1 c = search rules

@@ -27,9 +27,9 @@ returns-then-wide-ge-MORE c =
     let w = e in
     rw (
       ← w.wide-tag.ensures,
-      le-leb _ _ e.if-tag-lt-WIRE_TYPES.left,
-      lt-ltb _ _ e.if-tag-ge-MORE.left,
-      eq-eqb _ _ d.if-tag-ne-DELIMITED.left,
+      le-leb _ _ e.if-tag-lt-WIRE_TYPES.false,
+      lt-ltb _ _ e.if-tag-ge-MORE.false,
+      eq-eqb _ _ d.if-tag-ne-DELIMITED.false,
       ← c.wide.ensures,
       le-ltb _ _ c.if-wide-ge-MORE.true,
     )
@@ -42,9 +42,9 @@ returns c =
     let w = e in
     rw (
       ← w.wide-tag.ensures,
-      le-leb _ _ e.if-tag-lt-WIRE_TYPES.left,
-      lt-ltb _ _ e.if-tag-ge-MORE.left,
-      eq-eqb _ _ d.if-tag-ne-DELIMITED.left,
+      le-leb _ _ e.if-tag-lt-WIRE_TYPES.false,
+      lt-ltb _ _ e.if-tag-ge-MORE.false,
+      eq-eqb _ _ d.if-tag-ne-DELIMITED.false,
       ← c.wide.ensures,
       lt-ltb _ _ c.if-wide-ge-MORE.false,
     )

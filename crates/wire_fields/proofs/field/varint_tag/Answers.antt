@@ -12,7 +12,7 @@ pub returns-then-tag-ge-MORE : goal.returns-then-tag-ge-MORE
 unfolding varint_tag
 returns-then-tag-ge-MORE c =
     let i = c in
-    rw (lt-ltb _ _ i.if-m-at.left, ← c.wide-tag.ensures, le-ltb _ _ c.if-tag-ge-MORE.true)
+    rw (lt-ltb _ _ i.if-m-at.false, ← c.wide-tag.ensures, le-ltb _ _ c.if-tag-ge-MORE.true)
 
 pub returns-then-tag-ne-VARINT : goal.returns-then-tag-ne-VARINT
 unfolding varint_tag

@@ -45,7 +45,7 @@ same_length c = search rules
 returns : tie.Need-returns-in_default invariant_loop decreases_loop
 returns c =
     let l = c.loop-at in
-    formed_not_bad _ _ (omega arith) (stands_not _ _ (sym c.in_default.is ∙ c.field_at.ensures)) l.inv.formed
+    formed_not_bad _ _ (omega arith) (stands_not _ _ (sym c.in_default.is ∙ c.field_at.ensures)) l.invariant.formed
 
 lay_number_requires : tie.Need-lay_number-next-requires invariant_loop decreases_loop
 lay_number_requires c κs =
@@ -58,7 +58,7 @@ loop_less c = let f = field c.before.before.before.before in omega (arith, f.mor
 loop_again : tie.Need-loop-at-preserved invariant_loop decreases_loop
 loop_again c =
     let f = c.before.before.before.before in
-    laying_on _ _ _ _ f.loop-at.inv _ (omega arith) (field f) _ _
+    laying_on _ _ _ _ f.loop-at.invariant _ (omega arith) (field f) _ _
     (rw (field f).same at c.lay_number-next.ensures)
 
 same_length_2 : tie.Need-shape_of-list invariant_loop decreases_loop

@@ -27,7 +27,7 @@ short : (c : tie.After-wide-value invariant_loop decreases_loop)
     → (let t = c.before.before in let l = t.before.before.before in
     (l.loop-at.at + 2 ≤ length l.args.m.now) × Stands l.args.m.now l.loop-at.at
     (record { number = t.short_tag-tag.result / 8; wire = 0; value = c.wide-value.result; start = l.loop-at.at + 1; next = l.loop-at.at + 2 }))
-short c = let t = c.before.before in short_stands _ _ _ _ t.short_tag-tag.ensures t.if-tag-ne0.taken c.wide-value.ensures
+short c = let t = c.before.before in short_stands _ _ _ _ t.short_tag-tag.ensures t.if-tag-ne0.true c.wide-value.ensures
 
 -- the field of a turn, of another form
 field : (c : tie.In-Is invariant_loop decreases_loop)
@@ -82,7 +82,7 @@ loop_again c =
     let w = c.before.before.before in
     let l = w.loop-at in
     rw (c.with-z.ensures, c.with-y.ensures, c.with-x.ensures)
-    (partly_on _ _ _ _ l.inv (omega (arith, (short w).0)) _ (short w).1)
+    (partly_on _ _ _ _ l.invariant (omega (arith, (short w).0)) _ (short w).1)
 
 field_at_requires : tie.Need-field_at-requires invariant_loop decreases_loop
 field_at_requires c κs = c.loop-at.invariant.inside
@@ -96,7 +96,7 @@ enum_told c = search rules
 returns : tie.Need-returns-in_default invariant_loop decreases_loop
 returns c =
     let l = c.loop-at in
-    partly_bad _ _ _ _ l.inv (omega arith) (stands_not _ _ (sym c.in_default.is ∙ c.field_at.ensures))
+    partly_bad _ _ _ _ l.invariant (omega arith) (stands_not _ _ (sym c.in_default.is ∙ c.field_at.ensures))
 
 first_of_requires : tie.Need-first_of-first-requires invariant_loop decreases_loop
 first_of_requires c κs = search rules
@@ -120,7 +120,7 @@ loop_again_2 c =
     let f = i.before in
     let l = f.loop-at in
     rw (c.with-z-in-loop-at.ensures, c.with-y-in-loop-at.ensures, c.with-x-in-loop-at.ensures, i.first_of-first.ensures)
-    (partly_on _ _ _ _ l.inv (omega arith) _ (field f))
+    (partly_on _ _ _ _ l.invariant (omega arith) _ (field f))
 
 returns_2 : tie.Need-returns invariant_loop decreases_loop
 returns_2 c = partly_end _ _ _ _ c.loop-at.invariant (omega arith)

@@ -11,13 +11,13 @@ use Rattle.wire_fields.proofs.select.required_count.Tie as tie
 
 -- one field of the right wire type was seen
 one : (c : tie.Else-not-is_one) → is_one c.args.s ≡ true
-one c = sym c.is_one.ensures ∙ not-false _ c.if-not-is_one.false
+one c = sym c.is_one.ensures ∙ c.if-not-is_one.false
 
 is_one_requires : tie.Need-is_one-requires
 is_one_requires c κs = search rules
 
 returns : tie.Need-returns-then-not-is_one
-returns c = not_one_bad count c.args.s (sym c.is_one.ensures ∙ not-true _ c.if-not-is_one.true)
+returns c = not_one_bad count c.args.s (sym c.is_one.ensures ∙ c.if-not-is_one.true)
 
 returns_2 : tie.Need-returns-then-s-ge-INT32_END
 unfolding count

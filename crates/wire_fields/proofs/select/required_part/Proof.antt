@@ -9,7 +9,7 @@ use Rattle.wire_fields.proofs.select.required_part.Tie as tie
 
 -- one field of the right wire type was seen
 one : (c : tie.Else-not-is_one) → is_one c.args.s ≡ true
-one c = sym c.is_one.ensures ∙ not-false _ c.if-not-is_one.false
+one c = sym c.is_one.ensures ∙ c.if-not-is_one.false
 
 is_one_requires : tie.Need-is_one-requires
 is_one_requires c κs = search rules
@@ -17,7 +17,7 @@ is_one_requires c κs = search rules
 returns : tie.Need-returns-then-not-is_one
 unfolding place
 returns c =
-    let e : is_one c.args.s ≡ false = sym c.is_one.ensures ∙ not-true _ c.if-not-is_one.true in rw e
+    let e : is_one c.args.s ≡ false = sym c.is_one.ensures ∙ c.if-not-is_one.true in rw e
 
 returns_2 : tie.Need-returns
 unfolding place

@@ -52,7 +52,7 @@ shl_t13 c = omega arith
 add_t14 : tie.Need-overflow_add-result invariant_loop decreases_loop
 add_t14 c =
     let l = c.loop-size in
-    record { fits = sum_fits l.value l.size c.wide-b.result l.inv.small (omega arith) c.if-b-lt-MORE.true }
+    record { fits = sum_fits l.value l.size c.wide-b.result l.invariant.small (omega arith) c.if-b-lt-MORE.true }
 
 add_t15 : tie.Need-overflow_add-result-then-b-lt-MORE invariant_loop decreases_loop
 add_t15 c = omega arith
@@ -65,7 +65,7 @@ returns_2 c =
     let l = c.loop-size in
     let b = c.wide-b.result in
     let few : l.size < 9 = omega arith in
-    ends l.inv b c.wide-b.ensures (omega arith) few c.if-b-lt-MORE.true _ (moved l.size b few c.if-b-lt-MORE.true) _ refl
+    ends l.invariant b c.wide-b.ensures (omega arith) few c.if-b-lt-MORE.true _ (moved l.size b few c.if-b-lt-MORE.true) _ refl
 
 mul_value : tie.Need-overflow_mul-value invariant_loop decreases_loop
 mul_value c = omega arith
@@ -76,7 +76,7 @@ shl_value c = omega arith
 add_value : tie.Need-overflow_add-value invariant_loop decreases_loop
 add_value c =
     let l = c.loop-size in
-    record { fits = sum_fits l.value l.size (c.wide-b.result - 128) l.inv.small (omega arith) (seven c) }
+    record { fits = sum_fits l.value l.size (c.wide-b.result - 128) l.invariant.small (omega arith) (seven c) }
 
 add_size : tie.Need-overflow_add-size invariant_loop decreases_loop
 add_size c = omega arith
@@ -90,7 +90,7 @@ loop_again c =
     let b = c.wide-b.result in
     let few : l.size < 9 = omega arith in
     rw (moved l.size (b - 128) few (seven c))
-    (goes_on l.inv b c.wide-b.ensures (omega arith) few (omega arith) (byte c))
+    (goes_on l.invariant b c.wide-b.ensures (omega arith) few (omega arith) (byte c))
 
 last_byte_requires : tie.Need-last_byte-requires invariant_loop decreases_loop
 last_byte_requires c κs =

@@ -36,13 +36,13 @@ tagged : (c : tie.In-Read invariant_loop decreases_loop) → (let t = c.before.b
     Stands (bytes l) l.loop-at.at (tag_field l.loop-at.at t.varint_tag-tag.result c.in-Read.field-0 c.in-Read.next))
 tagged c =
     let t = c.before.before in
-    tag_stands _ _ _ t.varint_tag-tag.ensures t.if-tag-ne0.taken _ _ (sym c.in-Read.is ∙ c.varint_of_any_size.ensures)
+    tag_stands _ _ _ t.varint_tag-tag.ensures t.if-tag-ne0.true _ _ (sym c.in-Read.is ∙ c.varint_of_any_size.ensures)
 
 untagged : (c : tie.In_default invariant_loop decreases_loop) → (let l = c.before.before.before.before.before.before.before in
     wire.field (bytes l) l.loop-at.at ≡ none)
 untagged c =
     let t = c.before.before in
-    tag_bad _ _ _ t.varint_tag-tag.ensures t.if-tag-ne0.taken (sym c.in_default.is ∙ c.varint_of_any_size.ensures)
+    tag_bad _ _ _ t.varint_tag-tag.ensures t.if-tag-ne0.true (sym c.in_default.is ∙ c.varint_of_any_size.ensures)
 
 -- any other
 other : (c : tie.In-Is invariant_loop decreases_loop) → (let l = c.before.before.before.before.before.before.before in
@@ -85,7 +85,7 @@ enum_told : tie.Need-enum_told-1 invariant_loop decreases_loop
 enum_told c = search rules
 
 returns : tie.Need-returns-in_default invariant_loop decreases_loop
-returns c = partly_bad _ c.loop-at.inv (omega arith) (untagged c)
+returns c = partly_bad _ c.loop-at.invariant (omega arith) (untagged c)
 
 with_requires_2 : tie.Need-with-p-requires-then-tag-ne0 invariant_loop decreases_loop
 with_requires_2 c κs = search rules
@@ -96,7 +96,7 @@ loop_less_2 c = let f = tagged c.before in omega (arith, f.more, f.ends)
 loop_again_2 : tie.Need-loop-at-preserved-then-tag-ne0 invariant_loop decreases_loop
 loop_again_2 c =
     let n = c.before in
-    partly_on _ n.loop-at.inv (omega arith) _ (tagged n) _ c.with-p-then-tag-ne0.ensures
+    partly_on _ n.loop-at.invariant (omega arith) _ (tagged n) _ c.with-p-then-tag-ne0.ensures
 
 field_at_requires : tie.Need-field_at-requires invariant_loop decreases_loop
 field_at_requires c κs = c.loop-at.invariant.inside
@@ -109,7 +109,7 @@ enum_told_2 c = search rules
 
 returns_2 : tie.Need-returns-in_default-field_at invariant_loop decreases_loop
 returns_2 c =
-    partly_bad _ c.loop-at.inv (omega arith)
+    partly_bad _ c.loop-at.invariant (omega arith)
     (stands_not _ _ (sym c.in_default-field_at.is ∙ c.field_at.ensures))
 
 with_requires_3 : tie.Need-with-p-requires-in-loop-at invariant_loop decreases_loop
@@ -121,7 +121,7 @@ loop_less_3 c = let f = other c.before in omega (arith, f.more, f.ends)
 loop_again_3 : tie.Need-loop-at-preserved invariant_loop decreases_loop
 loop_again_3 c =
     let f = c.before in
-    partly_on _ f.loop-at.inv (omega arith) _ (other f) _ c.with-p-in-loop-at.ensures
+    partly_on _ f.loop-at.invariant (omega arith) _ (other f) _ c.with-p-in-loop-at.ensures
 
 returns_3 : tie.Need-returns-then-p-ne1 invariant_loop decreases_loop
 returns_3 c = no_ledger _ c.loop-at.invariant (omega arith) c.if-p-ne1.true

@@ -28,14 +28,14 @@ two_bytes c = (short_stands _ _ _ _ c.short_tag-short.ensures c.if-short-ne0.tru
 
 short : (c : tie.After-wide invariant_loop decreases_loop) → (let t = c.before.before.before in let l = t.before.before.before in
     Stands (bytes l) l.loop-at.at (tag_field l.loop-at.at t.short_tag-short.result c.wide.result (l.loop-at.at + 2)))
-short c = let t = c.before.before.before in (short_stands _ _ _ _ t.short_tag-short.ensures t.if-short-ne0.taken c.wide.ensures).1
+short c = let t = c.before.before.before in (short_stands _ _ _ _ t.short_tag-short.ensures t.if-short-ne0.true c.wide.ensures).1
 
 -- one whose tag has one byte
 tagged : (c : tie.In-Read invariant_loop decreases_loop) → (let t = c.before.before in let l = t.before.before.before.before.before in
     Stands (bytes l) l.loop-at.at (tag_field l.loop-at.at t.varint_tag-tag.result c.in-Read.value c.in-Read.next))
 tagged c =
     let t = c.before.before in
-    tag_stands _ _ _ t.varint_tag-tag.ensures t.if-tag-ne0.taken _ _ (sym c.in-Read.is ∙ c.varint_of_any_size.ensures)
+    tag_stands _ _ _ t.varint_tag-tag.ensures t.if-tag-ne0.true _ _ (sym c.in-Read.is ∙ c.varint_of_any_size.ensures)
 
 -- any other
 other : (c : tie.In-Is invariant_loop decreases_loop) → (let l = c.before.before.before.before.before.before.before in
@@ -62,7 +62,7 @@ wide_requires : tie.Need-wide-requires invariant_loop decreases_loop
 wide_requires c κs = search rules
 
 put_requires : tie.Need-put-n-requires invariant_loop decreases_loop
-put_requires c κs = filling_room _ _ _ c.loop-at.inv _ (omega arith) (short c)
+put_requires c κs = filling_room _ _ _ c.loop-at.invariant _ (omega arith) (short c)
 
 add_at : tie.Need-overflow_add-at-then-short-ne0 invariant_loop decreases_loop
 add_at c = omega (arith, two_bytes c.before.before.before.before.before.before)
@@ -73,7 +73,7 @@ loop_less c = omega (arith, two_bytes c.before.before.before.before.before.befor
 loop_again : tie.Need-loop-at-preserved-then-short-ne0 invariant_loop decreases_loop
 loop_again c =
     let w = c.before.before.before in
-    filling_on _ _ _ w.loop-at.inv _ (omega arith) (short w) _ _ c.put-n.ensures
+    filling_on _ _ _ w.loop-at.invariant _ (omega arith) (short w) _ _ c.put-n.ensures
 
 varint_tag_requires : tie.Need-varint_tag-tag-requires invariant_loop decreases_loop
 varint_tag_requires c κs = search rules
@@ -91,18 +91,18 @@ enum_told : tie.Need-enum_told-1 invariant_loop decreases_loop
 enum_told c = search rules
 
 same_length : tie.Need-shape_of-list-in_default invariant_loop decreases_loop
-same_length c = c.loop-at.inv.size
+same_length c = c.loop-at.invariant.size
 
 returns : tie.Need-returns-in_default invariant_loop decreases_loop
 returns c =
     let t = c.before.before in
-    filling_bad _ _ _ t.loop-at.inv (omega arith)
-    (tag_bad _ _ _ t.varint_tag-tag.ensures t.if-tag-ne0.taken (sym c.in_default.is ∙ c.varint_of_any_size.ensures))
+    filling_bad _ _ _ t.loop-at.invariant (omega arith)
+    (tag_bad _ _ _ t.varint_tag-tag.ensures t.if-tag-ne0.true (sym c.in_default.is ∙ c.varint_of_any_size.ensures))
 
 put_requires_2 : tie.Need-put-n-requires-then-tag-ne0 invariant_loop decreases_loop
 put_requires_2 c κs =
     let v = c.before in
-    filling_room _ _ _ v.loop-at.inv _ (omega arith) (tagged v)
+    filling_room _ _ _ v.loop-at.invariant _ (omega arith) (tagged v)
 
 loop_less_2 : tie.Need-loop-at-smaller-then-tag-ne0 invariant_loop decreases_loop
 loop_less_2 c = let f = tagged c.before.before.before.before in omega (arith, f.more, f.ends)
@@ -110,7 +110,7 @@ loop_less_2 c = let f = tagged c.before.before.before.before in omega (arith, f.
 loop_again_2 : tie.Need-loop-at-preserved-then-tag-ne0 invariant_loop decreases_loop
 loop_again_2 c =
     let v = c.before.before.before.before in
-    filling_on _ _ _ v.loop-at.inv _ (omega arith) (tagged v) _ _ c.put-n-then-tag-ne0.ensures
+    filling_on _ _ _ v.loop-at.invariant _ (omega arith) (tagged v) _ _ c.put-n-then-tag-ne0.ensures
 
 field_at_requires : tie.Need-field_at-requires invariant_loop decreases_loop
 field_at_requires c κs = c.loop-at.invariant.inside
@@ -122,17 +122,17 @@ enum_told_2 : tie.Need-enum_told-in_default-field_at invariant_loop decreases_lo
 enum_told_2 c = search rules
 
 same_length_2 : tie.Need-shape_of-list-in_default-field_at invariant_loop decreases_loop
-same_length_2 c = c.loop-at.inv.size
+same_length_2 c = c.loop-at.invariant.size
 
 returns_2 : tie.Need-returns-in_default-field_at invariant_loop decreases_loop
 returns_2 c =
-    filling_bad _ _ _ c.loop-at.inv (omega arith)
+    filling_bad _ _ _ c.loop-at.invariant (omega arith)
     (stands_not _ _ (sym c.in_default-field_at.is ∙ c.field_at.ensures))
 
 put_requires_3 : tie.Need-put-n-requires-in-loop-at invariant_loop decreases_loop
 put_requires_3 c κs =
     let f = c.before in
-    filling_room _ _ _ f.loop-at.inv _ (omega arith) (other f)
+    filling_room _ _ _ f.loop-at.invariant _ (omega arith) (other f)
 
 loop_less_3 : tie.Need-loop-at-smaller invariant_loop decreases_loop
 loop_less_3 c = let f = other c.before.before.before.before in omega (arith, f.more, f.ends)
@@ -140,7 +140,7 @@ loop_less_3 c = let f = other c.before.before.before.before in omega (arith, f.m
 loop_again_3 : tie.Need-loop-at-preserved invariant_loop decreases_loop
 loop_again_3 c =
     let f = c.before.before.before.before in
-    filling_on _ _ _ f.loop-at.inv _ (omega arith) (other f) _ _ c.put-n-in-loop-at.ensures
+    filling_on _ _ _ f.loop-at.invariant _ (omega arith) (other f) _ _ c.put-n-in-loop-at.ensures
 
 add_list : tie.Need-overflow_add-list invariant_loop decreases_loop
 add_list c = omega (arith, room c.before)

@@ -45,7 +45,7 @@ loop_less c = omega (arith, (passed c).0)
 loop_again : tie.Need-loop-at-preserved-then-passed_by invariant_loop decreases_loop
 loop_again c =
     let l = c.loop-at in
-    listing_on _ _ _ l.inv _ (omega (arith, (passed c).0)) (passed c).1 _ _ (lays_nothing _ _ _ (field_other _ _ _ (passed c).2))
+    listing_on _ _ _ l.invariant _ (omega (arith, (passed c).0)) (passed c).1 _ _ (lays_nothing _ _ _ (field_other _ _ _ (passed c).2))
 
 field_at_requires : tie.Need-field_at-requires invariant_loop decreases_loop
 field_at_requires c κs = c.loop-at.invariant.laying.inside
@@ -62,7 +62,7 @@ same_length c = search rules
 returns : tie.Need-returns-in_default invariant_loop decreases_loop
 returns c =
     let l = c.loop-at in
-    formed_not_bad _ _ (omega arith) (stands_not _ _ (sym c.in_default.is ∙ c.field_at.ensures)) l.inv.laying.formed
+    formed_not_bad _ _ (omega arith) (stands_not _ _ (sym c.in_default.is ∙ c.field_at.ensures)) l.invariant.laying.formed
 
 lay_field_requires : tie.Need-lay_field-to-requires invariant_loop decreases_loop
 lay_field_requires c κs =
@@ -74,7 +74,7 @@ loop_less_2 c = let f = field c.before.before.before.before in omega (arith, f.m
 loop_again_2 : tie.Need-loop-at-preserved invariant_loop decreases_loop
 loop_again_2 c =
     let f = c.before.before.before.before in
-    listing_on _ _ _ f.loop-at.inv _ (omega arith) (field f) _ _ c.lay_field-to.ensures
+    listing_on _ _ _ f.loop-at.invariant _ (omega arith) (field f) _ _ c.lay_field-to.ensures
 
 same_length_2 : tie.Need-shape_of-list invariant_loop decreases_loop
 same_length_2 c = search rules

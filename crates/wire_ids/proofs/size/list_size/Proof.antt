@@ -44,7 +44,7 @@ loop_less c = omega (arith, (passed c).0)
 loop_again : tie.Need-loop-at-preserved-then-passed_by invariant_loop decreases_loop
 loop_again c =
     let l = c.loop-at in
-    counted_past _ _ l.inv _ (omega (arith, (passed c).0)) (passed c).1 (passed c).2
+    counted_past _ _ l.invariant _ (omega (arith, (passed c).0)) (passed c).1 (passed c).2
 
 field_at_requires : tie.Need-field_at-requires invariant_loop decreases_loop
 field_at_requires c κs = c.loop-at.invariant.inside
@@ -58,11 +58,11 @@ enum_told c = search rules
 returns : tie.Need-returns-in_default invariant_loop decreases_loop
 returns c =
     let l = c.loop-at in
-    counted_unformed _ _ l.inv (omega arith) (stands_not _ _ (sym c.in_default.is ∙ c.field_at.ensures))
+    counted_unformed _ _ l.invariant (omega arith) (stands_not _ _ (sym c.in_default.is ∙ c.field_at.ensures))
 
 with_field_requires : tie.Need-with_field-requires invariant_loop decreases_loop
 with_field_requires c κs =
-    let f = field c in (f.starts, f.ends, c.loop-at.inv.room)
+    let f = field c in (f.starts, f.ends, c.loop-at.invariant.room)
 
 enum_known_u : tie.Need-enum_known-u invariant_loop decreases_loop
 enum_known_u c = search rules
@@ -73,16 +73,15 @@ enum_told_2 c = search rules
 returns_2 : tie.Need-returns-in_default-with_field invariant_loop decreases_loop
 returns_2 c =
     let f = c.before.before in
-    counted_bad _ _ f.loop-at.inv _ (omega arith) (field f) (sym c.in_default-with_field.is ∙ c.with_field.ensures)
+    counted_bad _ _ f.loop-at.invariant _ (omega arith) (field f) (sym c.in_default-with_field.is ∙ c.with_field.ensures)
 
 loop_less_2 : tie.Need-loop-at-smaller invariant_loop decreases_loop
 loop_less_2 c = let f = field c.before.before in omega (arith, f.more, f.ends)
 
 loop_again_2 : tie.Need-loop-at-preserved invariant_loop decreases_loop
 loop_again_2 c =
-    let u = c in
-    let f = u.before.before.before in
-    counted_on _ _ f.loop-at.inv _ (omega arith) (field f) _ (sym u.u-1.given.1 ∙ u.with_field.ensures)
+    let f = c.before.before in
+    counted_on _ _ f.loop-at.invariant _ (omega arith) (field f) _ (sym c.in-Is-with_field.is ∙ c.with_field.ensures)
 
 returns_3 : tie.Need-returns invariant_loop decreases_loop
 returns_3 c = counted_end _ _ c.loop-at.invariant (omega arith)

@@ -24,4 +24,4 @@ unfolding tally_id
 returns c =
     let n = c in
     let i = n in
-    rw (eq-eqb _ _ i.if-wire-ne-DELIMITED.left, ne_eqb _ _ i.if-t-eq0.left, tallied_some _ _ _ n.id_words_in-n.ensures n.if-n-gt-MOST_WORDS.left)
+    rw (eq-eqb _ _ i.if-wire-ne-DELIMITED.false, ne_eqb _ _ i.if-t-eq0.false, tallied_some _ _ _ n.id_words_in-n.ensures n.if-n-gt-MOST_WORDS.false)

@@ -10,7 +10,7 @@ use Rattle.wire_write.proofs.message.write_command.Statement.{statement}
 use Rattle.wire_write.proofs.message.write_command.Tie as tie
 
 -- the buffer is as long after the content as it was
-same_long : (c : tie.After-slice_known-3-1) → length c.write_content-end.new.0 ≡ length c.args.buffer.now
+same_long : (c : tie.After-slice_known-3-1) → length c.write_content-end.new.buffer ≡ length c.args.buffer.now
 same_long c = c.write_content-end.ensures.long ∙ simp length-set c.write_number-at.ensures.long
 
 write_number_requires : tie.Need-write_number-at-requires

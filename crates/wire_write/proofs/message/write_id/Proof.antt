@@ -8,7 +8,7 @@ use Rattle.wire_write.proofs.message.write_id.Statement.{statement}
 use Rattle.wire_write.proofs.message.write_id.Tie as tie
 
 -- the buffer is as long after the numbers as it was
-same_long : (c : tie.After-slice_known-2-1) → length c.write_id_numbers-end.new.0 ≡ length c.args.buffer.now
+same_long : (c : tie.After-slice_known-2-1) → length c.write_id_numbers-end.new.buffer ≡ length c.args.buffer.now
 same_long c = c.write_id_numbers-end.ensures.long ∙ simp length-set
 
 slice_write_buffer : tie.Need-bounds-buffer-at

@@ -10,7 +10,7 @@ use Rattle.wire_write.proofs.message.write_message.Tie as tie
 
 -- past the tests the record can be written
 right : (c : tie.Else-not-can_write) → writable c.args.«record».now ≡ true
-right c = sym c.can_write.ensures ∙ not-false _ c.if-not-can_write.false
+right c = sym c.can_write.ensures ∙ c.if-not-can_write.false
 
 returns : tie.Need-returns-then-buffer-lt-BUFFER_BYTES
 returns c = refuses_buffer c.args.buffer.now c.args.«record».now c.if-buffer-lt-BUFFER_BYTES.true
@@ -21,7 +21,7 @@ can_write_requires c κs = search rules
 returns_2 : tie.Need-returns-then-not-can_write
 returns_2 c =
     refuses_record c.args.buffer.now c.args.«record».now
-    (sym c.can_write.ensures ∙ not-true _ c.if-not-can_write.true)
+    (sym c.can_write.ensures ∙ c.if-not-can_write.true)
 
 write_command_requires : tie.Need-write_command-requires
 write_command_requires c κs =

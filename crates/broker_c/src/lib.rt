@@ -1,0 +1,119 @@
+// The exports for C: what makers' firmware links. Each calls broker's function of its name and states that function's clauses again.
+// Each here takes the store as a slice of words, a pointer and a length, and answers value × 256 + number, the number 0 when done.
+// No export requires anything; the contracts are one equation for the answer and one for every lent slice.
+// Every call here but opening first checks that the words spell a state, and answers 1 where they do not.
+#![tactic(auto)]
+
+pub mod commands;
+pub mod rows;
+
+ghost use Rattle.std.specs.Prelude.{◌≡◌, ◌/◌, length};
+ghost use Rattle.rules.specs.Calls.Call.{Append, Flow, Ack, Redeliver, Close, Push, Seek as Seek_call, Subscribe as Subscribe_call};
+ghost use Rattle.layout.specs.Fields.{pair_of};
+ghost use Rattle.layout.specs.Calls.{outcome, answer, after, list_after, open_answer, open_after};
+ghost use Rattle.topic.specs.Ids.{message_of};
+ghost use Rattle.rules.specs.Calls.{target_from, kind_from};
+
+// Opens a store for `entries` entries per topic; the two switches are off at 0, else on.
+#[unsafe(no_mangle)]
+pub extern "C" fn broker_open(store: &mut [u64], entries: u64, leak: u64, noop: u64) -> u64
+    ensures answer { result ≡ open_answer store.old entries leak noop }
+    ensures words { store.new ≡ open_after store.old entries leak noop }
+{
+    broker::broker_open(store, entries, leak, noop)
+}
+
+// Appends a message of a batch size to a topic's ledger.
+#[unsafe(no_mangle)]
+pub extern "C" fn broker_append(
+    store: &mut [u64],
+    topic: u8,
+    ledger: u64,
+    entry: u64,
+    handle: u64,
+    batch: u64,
+) -> u64
+    ensures answer { result ≡ answer store.old (Append topic (message_of ledger entry handle batch)) }
+    ensures words { store.new ≡ after store.old (Append topic (message_of ledger entry handle batch)) }
+{
+    broker::broker_append(store, topic, ledger, entry, handle, batch)
+}
+
+// Makes a consumer of a topic's subscription, or replaces a live one: kind 0 is plain, else shared.
+#[unsafe(no_mangle)]
+pub extern "C" fn broker_subscribe(
+    store: &mut [u64],
+    consumer: u64,
+    kind: u64,
+    topic: u8,
+    subscription: u8,
+) -> u64
+    ensures answer { result ≡ answer store.old (Subscribe_call consumer (kind_from kind) (pair_of topic subscription)) }
+    ensures words { store.new ≡ after store.old (Subscribe_call consumer (kind_from kind) (pair_of topic subscription)) }
+{
+    broker::broker_subscribe(store, consumer, kind, topic, subscription)
+}
+
+// Grants permits to a consumer. The value is its permits after, signed.
+#[unsafe(no_mangle)]
+pub extern "C" fn broker_flow(store: &mut [u64], consumer: u64, grant: u32) -> u64
+    ensures answer { result ≡ answer store.old (Flow consumer grant) }
+    ensures words { store.new ≡ after store.old (Flow consumer grant) }
+{
+    broker::broker_flow(store, consumer, grant)
+}
+
+// Acknowledges entries: a list of groups of ledger, entry, n and n words of its ack set. The value is
+// mark-delete × 2, plus 1 if it moved; of a plain consumer 0.
+#[unsafe(no_mangle)]
+pub extern "C" fn broker_ack(store: &mut [u64], consumer: u64, list: &[u64]) -> u64
+    ensures answer { result ≡ answer store.old (Ack consumer list.now) }
+    ensures words { store.new ≡ after store.old (Ack consumer list.now) }
+{
+    broker::broker_ack(store, consumer, list)
+}
+
+// Moves a consumer's cursor: target 0 is the start, else the id. The value is the cursor.
+#[unsafe(no_mangle)]
+pub extern "C" fn broker_seek(
+    store: &mut [u64],
+    consumer: u64,
+    target: u64,
+    ledger: u64,
+    entry: u64,
+) -> u64
+    ensures answer { result ≡ answer store.old (Seek_call consumer (target_from target ledger entry)) }
+    ensures words { store.new ≡ after store.old (Seek_call consumer (target_from target ledger entry)) }
+{
+    broker::broker_seek(store, consumer, target, ledger, entry)
+}
+
+// Hands entries back: a list of groups of ledger, entry, n and n words, which are ignored.
+#[unsafe(no_mangle)]
+pub extern "C" fn broker_redeliver(store: &mut [u64], consumer: u64, list: &[u64]) -> u64
+    ensures answer { result ≡ answer store.old (Redeliver consumer list.now) }
+    ensures words { store.new ≡ after store.old (Redeliver consumer list.now) }
+{
+    broker::broker_redeliver(store, consumer, list)
+}
+
+// Closes a consumer. The value is 1 if one was live, else 0.
+#[unsafe(no_mangle)]
+pub extern "C" fn broker_close(store: &mut [u64], consumer: u64) -> u64
+    ensures answer { result ≡ answer store.old (Close consumer) }
+    ensures words { store.new ≡ after store.old (Close consumer) }
+{
+    broker::broker_close(store, consumer)
+}
+
+// Hands out all that is due. The list is filled with records of 13 words; the value is how many. With 15
+// the value is how many are due, and neither store nor list changes.
+#[unsafe(no_mangle)]
+pub extern "C" fn broker_push(store: &mut [u64], list: &mut [u64]) -> u64
+    ensures answer { result ≡ answer store.old (Push (length list.old / 13)) }
+    ensures words { store.new ≡ after store.old (Push (length list.old / 13)) }
+    ensures records { list.new ≡ list_after list.old
+        (outcome store.old (Push (length list.old / 13))) }
+{
+    broker::broker_push(store, list)
+}

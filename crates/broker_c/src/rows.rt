@@ -1,0 +1,17 @@
+// A row of calls under one check: the store is checked, and the calls of a script are made on it one after the other.
+ghost use Rattle.row.specs.Row.{RowLeft};
+
+// Makes the calls of a script, each a kind, a count and as many words; each call's answer goes into its word of the answers,
+// and the records of pushes one after the other into the list. The value is how many calls were made.
+#[unsafe(no_mangle)]
+pub extern "C" fn broker_calls(
+    store: &mut [u64],
+    script: &[u64],
+    answers: &mut [u64],
+    list: &mut [u64],
+) -> u64
+    ensures { RowLeft store.old script.now answers.old list.old
+        result store.new answers.new list.new }
+{
+    broker::rows::broker_calls(store, script, answers, list)
+}
