@@ -1,6 +1,5 @@
 -- Each dispatcher's slot lies in the table.
-use Rattle.std.proofs.Common.{◌≡◌, ◌<◌, length, arith}
-use Rattle.layout.specs.Layout.{decode}
+use Rattle.std.proofs.Common.{arith}
 use Rattle.layout.proofs.Placed.{dispatcher_in}
 use Rattle.cases.proofs.balances.show_each.Goals as goal
 
