@@ -14,6 +14,5 @@ returns-then-held-eq0 c =
 
 pub returns : goal.returns
 returns c =
-    let w = c in
-    let a = w.args in
-    let e = ended_inside (omega arith) a.number a.held.now (search rules) (search rules) w.write_bad-2.ensures in (e.0, (e.1, e.2))
+    let a = c.args in
+    let e = ended_inside (omega arith) a.number a.held.now (search rules) (search rules) c.write_bad-2.ensures in (e.0, (e.1, e.2))

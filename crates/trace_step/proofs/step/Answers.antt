@@ -5,9 +5,7 @@ use Rattle.trace_step.proofs.step.Goals as goal
 
 pub returns-then-number-eq0 : goal.returns-then-number-eq0
 returns-then-number-eq0 c =
-    let h = c in
-    let a = h in
-    clauses (with_store a.args.store.now a.args.number h.if-number-eq0.true a.requires.0 h.step_header.ensures)
+    clauses (with_store c.args.store.now c.args.number c.if-number-eq0.true c.requires.0 c.step_header.ensures)
 
 pub returns : goal.returns
 returns c = clauses c.step_record.ensures
