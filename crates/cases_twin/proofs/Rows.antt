@@ -1,11 +1,11 @@
 -- Words compared and copied one after the other.
 use mathlib.Core.Path.{◌≡◌, refl, sym, ap, ◌∙◌}
 use mathlib.Core.Bool.{Bool, true, false, ◌&&◌}
-use mathlib.Core.List.{List, [], ◌∷◌, ◌++◌, append-nil}
+use mathlib.Core.List.{List, [], ◌∷◌, ◌++◌}
 use Prim.Native.Nat.{ℕ, zero, suc, ◌≤◌, ◌<◌}
 use lib.Dec.{eqb}
 use lib.ListN.{length, get_or, set, drop, drop_of_length-le}
-use lib.Seq.{drop-cons, drop-length, append_snoc, set_at}
+use lib.Seq.{drop-cons, append_snoc, set_at}
 use Rattle.cases_line.specs.Words.{same_words, first_words}
 
 and_false : (t : Bool) → (t && false) ≡ false
@@ -62,8 +62,3 @@ module _ (from to : List ℕ) where
       ∙ set_at (first_words i from) (get_or to i 0) (drop (suc i) to) (get_or from i 0) i (first_length from i)
       ∙ sym (append_snoc (first_words i from) (get_or from i 0) (drop (suc i) to))
       ∙ ap (λ (l : List ℕ). l ++ drop (suc i) to) (sym (first_more from i))
-
-  pub copied_end : (i : ℕ) → i ≡ length to → copied i ≡ first_words (length to) from
-  copied_end i e =
-      ap (λ (k : ℕ). copied k) e ∙ ap (λ (l : List ℕ). first_words (length to) from ++ l) (drop-length to)
-      ∙ append-nil (first_words (length to) from)

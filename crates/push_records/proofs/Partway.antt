@@ -1,11 +1,11 @@
--- A list of dispatches whose first records are read from flat words and whose later ones are as they were: its length, and
--- how storing one more record takes it a record further.
+-- A list of dispatches whose first records are read from flat words and whose later ones are as they were: storing one more
+-- record takes it a record further.
 use mathlib.Core.Path.{◌≡◌, refl, sym, ◌∙◌, ap}
 use mathlib.Core.List.{List, [], ◌∷◌, ◌++◌}
-use Prim.Native.Nat.{ℕ, zero, suc, ◌+◌, ◌≤◌, ◌<◌}
+use Prim.Native.Nat.{ℕ, zero, suc, ◌+◌, ◌<◌}
 use native.Mathlib.Numerals.{add-one}
 use lib.ListN.{length, get_or, drop, set, length-append}
-use lib.Seq.{length-take-le, length_front, drop-cons, append_snoc, set_at}
+use lib.Seq.{drop-cons, append_snoc, set_at}
 use Rattle.record.specs.declared.Dispatch.{Dispatch}
 use Rattle.push_records.specs.Listed.{record_at, records_in}
 
@@ -23,9 +23,6 @@ module _ (ws : List ℕ) where
     pub partway_start : xs ≡ partway 0
     unfolding records_in
     partway_start = refl
-
-    pub partway_length : (i : ℕ) → i ≤ length xs → length (partway i) ≡ length xs
-    partway_length i h = length_front xs (records_in ws i) i (length_records i ∙ sym (length-take-le i xs h))
 
     pub partway_next : (i : ℕ) → i < length xs → set (partway i) i (record_at ws i) ≡ partway (suc i)
     unfolding records_in

@@ -12,7 +12,7 @@ pub returns-then-not-spells : goal.returns-then-not-spells
 returns-then-not-spells c =
     let e = answered_no c.spells.ensures c.if-not-spells.true in
     let r = unspelt c.args.store.now _ e in
-    (r.0, (r.1, unspelt_list _ _ c.args.list.now e))
+    record { answer = r.answer; words = r.words; records = unspelt_list _ _ c.args.list.now e }
 
 pub push-requires : goal.push-requires
 push-requires c = answered_yes c.spells.ensures c.if-not-spells.false

@@ -1,6 +1,6 @@
 -- The part of the list that is lent has as many words as the room says.
 use Rattle.cases_twin.specs.Twin.{no_dispatches}
-use Rattle.cases_twin.proofs.Twins.{answer_lent, after_lent, flat_lent, listed_lent}
+use Rattle.cases_twin.proofs.Twins.{flat_lent, listed_lent}
 use Rattle.cases_twin.proofs.push_twin.Goals as goal
 
 pub returns-clause-flat : goal.returns-clause-flat

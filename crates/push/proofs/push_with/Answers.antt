@@ -18,30 +18,22 @@ use borrow.Author.Rules.{rules}
 use Rattle.push.proofs.push_with.Goals as goal
 
 -- what the shared part leaves, by the permits in the store
-module _ (c : tie.After-push-pending-shared) where
-  abbrev ws : List ℕ
-  ws = (entry_before_push_pending_shared c).args.store.now
+module _ (s : State) {q : List ℕ} (loaded : q ≡ permits_now s) where
+  value_told : {n : ℕ} → n ≡ length (all_service_records s (services s s.dispatchers q)) → n ≡ length (shared_records s)
+  value_told {n} h = subst (λ (p : List ℕ). n ≡ length (all_service_records s (services s s.dispatchers p))) loaded h
 
-  abbrev s : State
-  s = decode ws
+  words_told : (ws : List ℕ) {t : List ℕ} → t ≡ put ws (with_dispatchers s (map (served_dispatcher s) (services s s.dispatchers q)))
+      → t ≡ put ws (with_dispatchers s (served_rows s))
+  words_told ws {t} h = subst (λ (p : List ℕ). t ≡ put ws (with_dispatchers s (map (served_dispatcher s) (services s s.dispatchers p)))) loaded h
 
-  loaded : (load_permits_before_push_pending_shared c).load_permits.new.1.1.0 ≡ permits_now s
-  loaded = (load_permits_before_push_pending_shared c).load_permits.ensures
+  permits_told : {t : List ℕ} → t ≡ permits_left q (services s s.dispatchers q) → t ≡ left s
+  permits_told {t} h = subst (λ (p : List ℕ). t ≡ permits_left p (services s s.dispatchers p)) loaded h
 
-  value_told : c.push_pending_shared.result ≡ length (shared_records s)
-  value_told = subst (λ (q : List ℕ). c.push_pending_shared.result ≡ length (all_service_records s (services s s.dispatchers q))) loaded c.push_pending_shared.ensures.0
+  records_told : (l : List ℕ) {t : List ℕ} → t ≡ filled l 0 (all_service_records s (services s s.dispatchers q)) → t ≡ filled l 0 (shared_records s)
+  records_told l {t} h = subst (λ (p : List ℕ). t ≡ filled l 0 (all_service_records s (services s s.dispatchers p))) loaded h
 
-  words_told : c.push_pending_shared.new.0 ≡ put ws (with_dispatchers s (served_rows s))
-  words_told = subst (λ (q : List ℕ). c.push_pending_shared.new.0 ≡ put ws (with_dispatchers s (map (served_dispatcher s) (services s s.dispatchers q)))) loaded c.push_pending_shared.ensures.1.0
-
-  permits_told : c.push_pending_shared.new.1.1.0 ≡ left s
-  permits_told = subst (λ (q : List ℕ). c.push_pending_shared.new.1.1.0 ≡ permits_left q (services s s.dispatchers q)) loaded c.push_pending_shared.ensures.1.1.0
-
-  records_told : c.push_pending_shared.new.1.1.1.0 ≡ filled (entry_before_push_pending_shared c).args.list.now 0 (shared_records s)
-  records_told = subst (λ (q : List ℕ). c.push_pending_shared.new.1.1.1.0 ≡ filled (entry_before_push_pending_shared c).args.list.now 0 (all_service_records s (services s s.dispatchers q))) loaded c.push_pending_shared.ensures.1.1.1.0
-
-  fits_told : All (ShapedDispatcher (entry_before_push_pending_shared c).args.e) (served_rows s)
-  fits_told = subst (λ (q : List ℕ). All (ShapedDispatcher (entry_before_push_pending_shared c).args.e) (map (served_dispatcher s) (services s s.dispatchers q))) loaded c.push_pending_shared.ensures.1.1.1.1
+  fits_told : (e : ℕ) → All (ShapedDispatcher e) (map (served_dispatcher s) (services s s.dispatchers q)) → All (ShapedDispatcher e) (served_rows s)
+  fits_told e h = subst (λ (p : List ℕ). All (ShapedDispatcher e) (map (served_dispatcher s) (services s s.dispatchers p))) loaded h
 
 pub load_permits-requires : goal.load_permits-requires
 load_permits-requires c = (canon_of c.args.e c.args.store.now c.requires.0 c.requires.1, c.requires.2)
@@ -62,30 +54,34 @@ push_pending_shared-m-requires c =
 
 pub serve_plain-requires : goal.serve_plain-requires
 serve_plain-requires c =
-    let d = c in
     let p = c.requires in
     let ws = c.args.store.now in
-    let f = fits_told d in
-    let a = words_told d in
-    let b = permits_told d in
-    let l : length c.push_pending_shared-m.new.permits.1.1.0 ≡ length c.args.list.now = ap length (records_told d) ∙ filled_length c.args.list.now 0 (shared_records (decode ws)) in (
+    let loaded = c.load_permits.ensures in
+    let shared = c.push_pending_shared-m.ensures in
+    let f = fits_told (decode ws) loaded c.args.e shared.fits in
+    let a = words_told (decode ws) loaded ws shared.words in
+    let b = permits_told (decode ws) loaded shared.permits in
+    let r = records_told (decode ws) loaded c.args.list.now shared.records in
+    let l : length c.push_pending_shared-m.new.list ≡ length c.args.list.now = ap length r ∙ filled_length c.args.list.now 0 (shared_records (decode ws)) in (
       canon_now ws p.0 p.1 f a,
       readable_on ws p.0 p.1 f a,
       permits_on ws p.0 p.1 f a b,
-      room_on ws p.0 p.1 f a b (value_told d) (rw l p.3),
+      room_on ws p.0 p.1 f a b (value_told (decode ws) loaded shared.value) (rw l p.3),
     )
 
 pub returns : goal.returns
 returns c =
-    let d = c in
     let p = c.requires in
     let ws = c.args.store.now in
-    let f = fits_told d in
-    let a = words_told d in
-    let b = permits_told d in (
-      pushed_count ws p.0 p.1 f a b (value_told d) c.serve_plain.ensures.value,
-      (
-        pushed_words ws p.0 p.1 f a b c.serve_plain.ensures.words.0,
-        pushed_records ws p.0 p.1 f a b c.args.list.now c.push_pending_shared-m.result (value_told d) (records_told d) c.serve_plain.ensures.words.1,
-      ),
-    )
+    let loaded = c.load_permits.ensures in
+    let shared = c.push_pending_shared-m.ensures in
+    let plain = c.serve_plain.ensures in
+    let f = fits_told (decode ws) loaded c.args.e shared.fits in
+    let a = words_told (decode ws) loaded ws shared.words in
+    let b = permits_told (decode ws) loaded shared.permits in
+    let v = value_told (decode ws) loaded shared.value in
+    record {
+      value = pushed_count ws p.0 p.1 f a b v plain.value;
+      words = pushed_words ws p.0 p.1 f a b plain.words;
+      records = pushed_records ws p.0 p.1 f a b c.args.list.now c.push_pending_shared-m.result v (records_told (decode ws) loaded c.args.list.now shared.records) plain.records;
+    }

@@ -26,10 +26,9 @@ returns c =
     let a = c.args in
     let s = decode a.store.now in
     let x = consumer_nth s a.i in
-    let n = c.plain_due-n.ensures in (
-      ap (λ (k : ℕ). a.m + k) n,
-      (
-        c.take_entries.ensures ∙ ap (λ (y : Consumer). put a.store.now (set_consumer s a.i y)) (charged_served s x a.permits n),
-        c.serve_due.ensures ∙ ap (λ (k : ℕ). filled a.list.now a.m (plain_records (ledger_for s x) (with_permits x a.permits) k)) n,
-      ),
-    )
+    let n = c.plain_due-n.ensures in
+    record {
+      value = ap (λ (k : ℕ). a.m + k) n;
+      words = c.take_entries.ensures ∙ ap (λ (y : Consumer). put a.store.now (set_consumer s a.i y)) (charged_served s x a.permits n);
+      records = c.serve_due.ensures ∙ ap (λ (k : ℕ). filled a.list.now a.m (plain_records (ledger_for s x) (with_permits x a.permits) k)) n;
+    }

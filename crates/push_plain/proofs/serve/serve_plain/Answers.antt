@@ -23,7 +23,7 @@ loop-i-preserved c =
     let g = c.loop-i.invariant.1 in
     let h : c.loop-i.i < length (decode c.args.store.now).consumers = omega (arith, p.2) in
     let e = c.serve_consumer-at.ensures in
-    (search rules, going_on p.0 g h e.0 e.1.0 e.1.1)
+    (search rules, going_on p.0 g h e.value e.words e.records)
 
 pub shape_of-store : goal.shape_of-store
 shape_of-store c = going_long c.requires.0 c.loop-i.invariant.1
@@ -36,4 +36,4 @@ returns c =
     let p = c.requires in
     let g = c.loop-i.invariant.1 in
     let h : length (decode c.args.store.now).consumers ≤ c.loop-i.i = omega (arith, p.2) in
-    (going_count g h, (going_words g h, going_records g h))
+    record { value = going_count g h; words = going_words g h; records = going_records g h }

@@ -1,6 +1,6 @@
 -- `push_records::listed::push_flat` meets its contract: the first words of the flat list, as many as there is room for
 -- records, are lent to the push, and what it leaves there is what it leaves in the whole list.
-use Rattle.std.proofs.Common.{◌≡◌, ◌+◌, ◌*◌, ◌/◌, ◌≤◌, ℕ, List, ◌++◌, length, take, drop, refl, sym, ap, ◌∙◌, Fits, w64, arith}
+use Rattle.std.proofs.Common.{◌≡◌, ◌*◌, ◌/◌, ◌≤◌, ℕ, List, ◌++◌, length, take, drop, sym, ap, ◌∙◌, arith}
 use lib.Seq.{length-take-le}
 use Rattle.rules.specs.Calls.Call.{Push}
 use Rattle.layout.specs.Calls.{outcome, answer, after, list_after}

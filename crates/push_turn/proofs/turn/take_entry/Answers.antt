@@ -30,10 +30,11 @@ returns-then-taken-queue_count c =
     let a = c.args in
     let n = c.queue_count.ensures in
     let t = c.if-taken-queue_count.true in
-    let e : a.taken + 1 ≡ suc a.taken = omega arith in (
-      c.hand_over.ensures.turn ∙ entry_queued (fixed_of (decode a.store.now) (dispatcher_nth (decode a.store.now) a.d)) (local_from a.permits.now a.head a.taken) a.next a.c (a.taken + 1) c.queued-k.result (omega arith) e c.queued-k.ensures,
-      c.hand_over.ensures.mark_delete,
-    )
+    let e : a.taken + 1 ≡ suc a.taken = omega arith in
+    record {
+      turn = c.hand_over.ensures.turn ∙ entry_queued (fixed_of (decode a.store.now) (dispatcher_nth (decode a.store.now) a.d)) (local_from a.permits.now a.head a.taken) a.next a.c (a.taken + 1) c.queued-k.result (omega arith) e c.queued-k.ensures;
+      mark_delete = c.hand_over.ensures.mark_delete;
+    }
 
 pub returns-then-cursor-n : goal.returns-then-cursor-n
 unfolding local_from fixed_of
@@ -43,10 +44,11 @@ returns-then-cursor-n c =
     let t = c.if-taken-queue_count.false in
     let u = c.if-cursor-n.true in
     let m = c.requires.0.ledger_length in
-    let e : a.head.cursor + 1 ≡ suc a.head.cursor = omega arith in (
-      c.hand_over-then-cursor-n.ensures.turn ∙ entry_waiting (fixed_of (decode a.store.now) (dispatcher_nth (decode a.store.now) a.d)) (local_from a.permits.now a.head a.taken) a.next a.c (a.head.cursor + 1) (omega arith) (omega arith) e,
-      c.hand_over-then-cursor-n.ensures.mark_delete,
-    )
+    let e : a.head.cursor + 1 ≡ suc a.head.cursor = omega arith in
+    record {
+      turn = c.hand_over-then-cursor-n.ensures.turn ∙ entry_waiting (fixed_of (decode a.store.now) (dispatcher_nth (decode a.store.now) a.d)) (local_from a.permits.now a.head a.taken) a.next a.c (a.head.cursor + 1) (omega arith) (omega arith) e;
+      mark_delete = c.hand_over-then-cursor-n.ensures.mark_delete;
+    }
 
 pub returns : goal.returns
 unfolding turn_of numbers_of local_from fixed_of dispatched
@@ -55,8 +57,9 @@ returns c =
     let n = c.queue_count.ensures in
     let t = c.if-taken-queue_count.false in
     let u = c.if-cursor-n.false in
-    let m = c.requires.0.ledger_length in (
-      ap (λ (h : numbers.Head). stop (local_from a.permits.now h a.taken)) c.dispatch_from.ensures
-          ∙ entry_none (fixed_of (decode a.store.now) (dispatcher_nth (decode a.store.now) a.d)) (local_from a.permits.now a.head a.taken) a.next a.c (omega arith) (omega arith),
-      ap (λ (h : numbers.Head). h.mark_delete) c.dispatch_from.ensures,
-    )
+    let m = c.requires.0.ledger_length in
+    record {
+      turn = ap (λ (h : numbers.Head). stop (local_from a.permits.now h a.taken)) c.dispatch_from.ensures
+          ∙ entry_none (fixed_of (decode a.store.now) (dispatcher_nth (decode a.store.now) a.d)) (local_from a.permits.now a.head a.taken) a.next a.c (omega arith) (omega arith);
+      mark_delete = ap (λ (h : numbers.Head). h.mark_delete) c.dispatch_from.ensures;
+    }

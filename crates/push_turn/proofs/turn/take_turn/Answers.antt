@@ -19,7 +19,7 @@ returns-then-size-eq0 c =
     let a = c.args in
     let n = ap (λ (m : List ℕ). length m) c.requires.1 in
     let t = c.if-size-eq0.true in
-    (turn_empty (fixed_of (decode a.store.now) (dispatcher_nth (decode a.store.now) a.d)) (local_from a.permits.now a.head a.taken) (omega arith), refl)
+    record { turn = turn_empty (fixed_of (decode a.store.now) (dispatcher_nth (decode a.store.now) a.d)) (local_from a.permits.now a.head a.taken) (omega arith); mark_delete = refl }
 
 pub returns-then-head-le-ZERO_PERMITS : goal.returns-then-head-le-ZERO_PERMITS
 unfolding turn_of numbers_of local_from
@@ -28,7 +28,7 @@ returns-then-head-le-ZERO_PERMITS c =
     let n = ap (λ (m : List ℕ). length m) c.requires.1 in
     let t = c.if-size-eq0.false in
     let u = c.if-head-le-ZERO_PERMITS.true in
-    (turn_spent (fixed_of (decode a.store.now) (dispatcher_nth (decode a.store.now) a.d)) (local_from a.permits.now a.head a.taken) (omega arith) (omega arith), refl)
+    record { turn = turn_spent (fixed_of (decode a.store.now) (dispatcher_nth (decode a.store.now) a.d)) (local_from a.permits.now a.head a.taken) (omega arith) (omega arith); mark_delete = refl }
 
 pub returns-then-place-size : goal.returns-then-place-size
 unfolding turn_of numbers_of local_from
@@ -37,7 +37,7 @@ returns-then-place-size c =
     let t = c.if-size-eq0.false in
     let u = c.if-head-le-ZERO_PERMITS.false in
     let v = c.if-place-size.true in
-    (no_place (fixed_of (decode a.store.now) (dispatcher_nth (decode a.store.now) a.d)) (local_from a.permits.now a.head a.taken) a.ring.now c.requires.1 c.choose-place.result c.choose-place.ensures.0 (omega arith) (omega arith) (omega arith), refl)
+    record { turn = no_place (fixed_of (decode a.store.now) (dispatcher_nth (decode a.store.now) a.d)) (local_from a.permits.now a.head a.taken) a.ring.now c.requires.1 c.choose-place.result c.choose-place.ensures.0 (omega arith) (omega arith) (omega arith); mark_delete = refl }
 
 pub take_entry-requires : goal.take_entry-requires
 unfolding local_from
@@ -57,9 +57,10 @@ returns c =
     let p = c.requires in
     let u = c.if-head-le-ZERO_PERMITS.false in
     let v = c.if-place-size.false in
-    let w = c.choose-place.ensures.1 in (
-      c.take_entry.ensures.turn
+    let w = c.choose-place.ensures.1 in
+    record {
+      turn = c.take_entry.ensures.turn
           ∙ ap (λ (n : ℕ). take_entry (fixed_of (decode a.store.now) (dispatcher_nth (decode a.store.now) a.d)) (local_from a.permits.now a.head a.taken) n (get_or a.ring.now c.choose-place.result 0)) c.place_after-next.ensures
-          ∙ at_place (fixed_of (decode a.store.now) (dispatcher_nth (decode a.store.now) a.d)) (local_from a.permits.now a.head a.taken) a.ring.now p.1 c.choose-place.result c.choose-place.ensures.0 (omega arith) (omega arith),
-      c.take_entry.ensures.mark_delete,
-    )
+          ∙ at_place (fixed_of (decode a.store.now) (dispatcher_nth (decode a.store.now) a.d)) (local_from a.permits.now a.head a.taken) a.ring.now p.1 c.choose-place.result c.choose-place.ensures.0 (omega arith) (omega arith);
+      mark_delete = c.take_entry.ensures.mark_delete;
+    }
