@@ -1,6 +1,6 @@
 -- What a book is told by a row's script, answers and list is what it is told by the calls of the row one by one: each call's
 -- answer is in its place, and its records stand in front of what is left of the list.
-use Prim.Native.Nat.{ℕ, ◌+◌, ◌*◌, ◌/◌, ◌^◌, ◌<◌}
+use Prim.Native.Nat.{ℕ, ◌*◌, ◌/◌, ◌^◌, ◌<◌}
 use mathlib.Core.Path.{◌≡◌, refl, sym, ap, ap₂, ◌∙◌, subst}
 use mathlib.Core.Bool.{Bool, true, false, cond, not, ◌&&◌, true≢false}
 use mathlib.Core.List.{List, [], ◌∷◌, ◌++◌, append_assoc}
@@ -19,14 +19,14 @@ use Rattle.rules.specs.Push.{push, push_pending, flat_records}
 use Rattle.rules.specs.Calls.{Call, fits, rule, state_after, answer_word, number_in}
 use Rattle.rules.specs.Calls.Call.{Append, Subscribe, Flow, Ack, Seek, Redeliver, Close, Push}
 use Rattle.rules.specs.Valid.{Valid}
-use Rattle.rules.specs.Book.{Book, Told, enter, enter_done, told, records_of}
+use Rattle.rules.specs.Book.{Book, Told, enter, enter_done, records_of}
 use Rattle.rules.specs.Book.Told.{told_refused, told_done}
 use Rattle.rules.specs.Demand as rules
 use Rattle.rules.specs.Demand.{Reached, is_done, subscribes_live}
 use Rattle.rules.proofs.Valid.{says_valid}
 use Rattle.rules.proofs.Answers.{Numbered, is_push, by_push, number_done, value_made, flats_length}
 use Rattle.layout.specs.Layout.{decode, spells}
-use Rattle.layout.specs.Calls.{run, after, answer, made_words}
+use Rattle.layout.specs.Calls.{run, made_words}
 use Rattle.layout.specs.Demand.{Lent, room_of_list, can_be_given, told_by, WordsReached, after_call, after_calls, replaces, never_replaces}
 use Rattle.layout.proofs.Store.{spells_valid}
 use Rattle.layout.proofs.Calls.{answer_is, decode_after, spells_after}

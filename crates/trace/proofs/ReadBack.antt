@@ -3,7 +3,7 @@ use Prim.Native.Nat.{ℕ, zero, suc, ◌+◌, ◌*◌, ◌/◌, ◌%◌, ◌^◌
 use mathlib.Core.Path.{◌≡◌, refl, sym, ap, ap₂, ◌∙◌}
 use mathlib.Core.Bool.{Bool, true, ◌&&◌}
 use mathlib.Core.List.{List, [], ◌∷◌, ◌++◌, map, append_assoc}
-use mathlib.Core.Option.{Option, none, some, bind}
+use mathlib.Core.Option.{Option, some, bind}
 use native.Mathlib.Nat.{pow-suc, div-lt_iff_lt-mul}
 use native.Mathlib.Omega.{arith}
 use lib.Dec.{leb, ltb}
@@ -21,7 +21,7 @@ use Rattle.rules.specs.Valid.{is_byte, is_word, valid_id}
 use Rattle.rules.specs.Calls.{Call, fits, target_fits, kind_from, target_from}
 use Rattle.rules.specs.Calls.Call.{Append, Subscribe, Flow, Ack, Seek, Redeliver, Close, Push}
 use Rattle.trace.specs.Format.{number_from, number, number_bytes, header, Record, MOST_WORDS, record_size}
-use Rattle.trace.specs.Format.{record_reach, words_in, record_in, records, words_bytes, record_bytes}
+use Rattle.trace.specs.Format.{record_reach, words_in, record_in, words_bytes, record_bytes}
 use Rattle.trace.specs.Format.Reach.{ends}
 use Rattle.trace.specs.Calls.{if_so, append_from, subscribe_from, flow_from, ack_from, seek_from, redeliver_from, close_from}
 use Rattle.trace.specs.Calls.{push_from, call_from, that_fits, call_of, kind_of, kind_word, target_words, words_of, record_of}

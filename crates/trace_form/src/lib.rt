@@ -1,6 +1,7 @@
 // Whether a kind and its words are a call, as a record of a trace or of a script has them: they have as many words as the kind
 // asks for, and none is too wide for its field. This is the one place where code reads the forms of calls; no call is made here.
 #![tactic(auto)]
+
 ghost use Rattle.std.specs.Prelude.{◌≡◌};
 ghost use Rattle.std.proofs.Math.Option.{bind};
 ghost use Rattle.rules.specs.Table.{is_some};

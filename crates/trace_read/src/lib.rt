@@ -1,6 +1,7 @@
 // The bytes of a trace read, all numbers high byte first: how far a header or a record reaches from the front of some bytes, and
 // the words of a record that is whole. Nothing is taken out before it is known to be there.
 #![tactic(auto)]
+
 ghost use Rattle.std.specs.Prelude.{◌≡◌, ◌+◌, ◌≤◌, length, take, drop};
 ghost use Rattle.words.specs.Wrote.{Wrote};
 ghost use Rattle.trace.specs.Format.{MOST_WORDS as most_words, number, header_reach, record_reach, record_in};

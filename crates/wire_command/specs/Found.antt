@@ -16,13 +16,9 @@ use Rattle.wire_ids.specs.Groups.{ids_there, Listed}
 use Rattle.wire_command.specs.declared.command.Name.{Name}
 use Rattle.wire_command.specs.declared.command.Target.{Target}
 use Rattle.wire_command.specs.declared.command.Command.{Command}
-use Rattle.wire_command.specs.declared.command.Command.TheVariants as Command
 use Rattle.wire_command.specs.declared.command.Content.{Content}
-use Rattle.wire_command.specs.declared.command.Content.TheVariants as Content
 use Rattle.wire_command.specs.declared.numbers.Two.{Two}
-use Rattle.wire_command.specs.declared.numbers.Two.TheVariants as Two
 use Rattle.wire_command.specs.declared.seek.TargetRead.{TargetRead}
-use Rattle.wire_command.specs.declared.seek.TargetRead.TheVariants as TargetRead
 
 -- ---- two numbers
 

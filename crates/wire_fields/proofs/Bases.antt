@@ -21,7 +21,6 @@ use Rattle.wire_fields.specs.declared.base.Base.TheVariants as Base
 use Rattle.wire_fields.specs.declared.pick.Seen.{Seen}
 use Rattle.wire_fields.specs.declared.select.Number.TheVariants as Number
 use Rattle.wire_fields.specs.declared.select.Place.{Place}
-use Rattle.wire_fields.specs.declared.select.Place.TheVariants as Place
 use Rattle.wire_fields.proofs.Selections.{Saw, required_is, required_bad, place_law}
 
 -- all of a message is a part of it

@@ -14,10 +14,8 @@ use Rattle.wire.specs.Fields.{field, field_of, varint_field, delimited_field, fi
 use Rattle.wire.proofs.Varint.{varint_bounds}
 use Rattle.wire_fields.specs.Found.{found_varint, varint_at, as_field, found_field, part_tag, TwoBytes}
 use Rattle.wire_fields.proofs.Varints.{one_byte}
-use Rattle.wire_fields.specs.declared.varint.Varint.{Varint}
 use Rattle.wire_fields.specs.declared.varint.Varint.TheVariants.{Read, Bad}
 use Rattle.wire_fields.specs.declared.field.FieldAt.{FieldAt}
-use Rattle.wire_fields.specs.declared.field.FieldAt.TheVariants as FieldAt
 
 -- a varint was read at a place: its number, and the place after it, which lies inside the message
 pub record Was (m : List ℕ) (at value next : ℕ) : Type 0 where

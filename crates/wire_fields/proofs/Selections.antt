@@ -20,9 +20,7 @@ use Rattle.wire_fields.specs.Selected.{is_one, number, optional_number, place, a
 use Rattle.wire_fields.specs.declared.pick.Seen.{Seen}
 use Rattle.wire_fields.specs.declared.pick.Picked.TheVariants.{Fields, Bad}
 use Rattle.wire_fields.specs.declared.select.Number.{Number}
-use Rattle.wire_fields.specs.declared.select.Number.TheVariants as Number
 use Rattle.wire_fields.specs.declared.select.Place.{Place}
-use Rattle.wire_fields.specs.declared.select.Place.TheVariants as Place
 
 -- ---- what was seen of a list of fields
 

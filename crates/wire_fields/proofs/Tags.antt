@@ -2,7 +2,7 @@
 -- walk over the fields.
 use Prim.Native.Nat.{ℕ, zero, suc, ◌+◌, ◌/◌, ◌%◌, ◌<◌, ◌≤◌}
 use mathlib.Core.Path.{◌≡◌, refl, sym, ◌∙◌}
-use mathlib.Core.Bool.{true, false, ◌&&◌, true≢false, and-eq-true_iff}
+use mathlib.Core.Bool.{true, ◌&&◌, true≢false, and-eq-true_iff}
 use mathlib.Core.List.{List}
 use mathlib.Core.Option.{none}
 use native.Mathlib.Omega.{arith}

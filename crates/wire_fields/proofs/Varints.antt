@@ -3,7 +3,7 @@
 use Prim.Native.Nat.{ℕ, suc, ◌+◌, ◌-◌, ◌*◌, ◌%◌, ◌^◌, ◌<◌, ◌≤◌}
 use mathlib.Core.Path.{◌≡◌, refl, sym, ap, ◌∙◌}
 use mathlib.Core.Bool.{Bool, true, false, cond}
-use mathlib.Core.List.{List, [], ◌∷◌}
+use mathlib.Core.List.{List}
 use mathlib.Core.Option.{Option, none, some, map, bind}
 use native.Mathlib.Nat.{mul_comm, mul_assoc, mul-add, add-zero, add_assoc, mul-le-mul_right}
 use native.Mathlib.Numerals.{add-one}
@@ -16,7 +16,6 @@ use borrow.Author.Tests.{lt-ltb, le-ltb, ltb-true}
 use Rattle.wire.specs.Varint.{followed, varint_within, of_64_bits, varint}
 use Rattle.wire.specs.Varint as wire
 use Rattle.wire_fields.specs.Found.{found_varint, varint_at, after, Partway}
-use Rattle.wire_fields.specs.declared.varint.Varint.{Varint}
 use Rattle.wire_fields.specs.declared.varint.Varint.TheVariants.{Read, Bad}
 
 -- what is left of a varint at a place inside the message

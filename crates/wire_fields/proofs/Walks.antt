@@ -2,7 +2,7 @@
 -- that are left decide what is seen in all.
 use Prim.Native.Nat.{ℕ, ◌<◌, ◌≤◌}
 use mathlib.Core.Path.{◌≡◌, refl, sym, ap, ◌∙◌}
-use mathlib.Core.List.{List, [], ◌∷◌}
+use mathlib.Core.List.{List, ◌∷◌}
 use mathlib.Core.Option.{Option, none, some, map, bind}
 use native.Mathlib.Omega.{arith}
 use lib.ListN.{length}
@@ -13,7 +13,6 @@ use Rattle.wire_fields.specs.Found.{as_field, found_field}
 use Rattle.wire_fields.specs.Picked.{Wanted, nothing_seen, seen_field, seen_after, picked_after, picked}
 use Rattle.wire_fields.specs.declared.field.Field.{Field}
 use Rattle.wire_fields.specs.declared.field.FieldAt.{FieldAt}
-use Rattle.wire_fields.specs.declared.field.FieldAt.TheVariants as FieldAt
 use Rattle.wire_fields.specs.declared.pick.Seen.{Seen}
 use Rattle.wire_fields.specs.declared.pick.Picked.TheVariants.{Fields, Bad}
 

@@ -6,7 +6,6 @@ use Rattle.wire.specs.Varint as wire
 use Rattle.wire.specs.Fields as wire_fields
 use Rattle.wire_fields.specs.declared.field.Field.{Field}
 use Rattle.wire_fields.specs.declared.field.FieldAt.{FieldAt}
-use Rattle.wire_fields.specs.declared.field.FieldAt.TheVariants as FieldAt
 use Rattle.wire_fields.specs.declared.varint.Varint.{Varint}
 use Rattle.wire_fields.specs.declared.varint.Varint.TheVariants.{Read, Bad}
 

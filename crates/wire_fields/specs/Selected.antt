@@ -5,12 +5,9 @@ use Rattle.std.proofs.Math.Option.{Option, none, some}
 use Rattle.wire.specs.Fields.{Field}
 use Rattle.wire.specs.Commands.{message_of}
 use Rattle.wire_fields.specs.declared.base.Base.{Base}
-use Rattle.wire_fields.specs.declared.base.Base.TheVariants as Base
 use Rattle.wire_fields.specs.declared.pick.Seen.{Seen}
 use Rattle.wire_fields.specs.declared.select.Number.{Number}
-use Rattle.wire_fields.specs.declared.select.Number.TheVariants as Number
 use Rattle.wire_fields.specs.declared.select.Place.{Place}
-use Rattle.wire_fields.specs.declared.select.Place.TheVariants as Place
 
 -- one field was seen, of the right wire type
 unfoldable pub is_one : Seen → Bool

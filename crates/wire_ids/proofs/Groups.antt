@@ -1,6 +1,6 @@
 -- Ids laid field by field: what the loop of `lay_ids` turns on, by the laws of `Laying`. Every field of the number is an id, since
 -- the ids were read.
-use Prim.Native.Nat.{ℕ, ◌+◌, ◌-◌, ◌<◌}
+use Prim.Native.Nat.{ℕ, ◌-◌, ◌<◌}
 use mathlib.Core.Path.{◌≡◌, refl, ap}
 use mathlib.Core.Bool.{Bool, true, and-eq-true_iff}
 use mathlib.Core.List.{List, [], ◌∷◌, ◌++◌}

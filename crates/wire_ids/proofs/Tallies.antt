@@ -22,13 +22,11 @@ use Rattle.wire.proofs.Ids.{group_short}
 use Rattle.wire_fields.specs.Found.{as_field}
 use Rattle.wire_fields.specs.declared.field.Field.{Field}
 use Rattle.wire_fields.specs.declared.select.Number.{Number}
-use Rattle.wire_fields.specs.declared.select.Number.TheVariants as Number
 use Rattle.wire_fields.proofs.Walks.{Stands, left_on, left_bad}
 use Rattle.wire_ids.specs.Parts.{found_words}
 use Rattle.wire_ids.specs.Sizes.{ids_of, found_size, tallied, tally_id, tally_with}
 use Rattle.wire_ids.specs.declared.size.Tally.{Tally}
 use Rattle.wire_ids.specs.declared.size.Tallied.{Tallied}
-use Rattle.wire_ids.specs.declared.size.Tallied.TheVariants as Tallied
 
 -- at most one more field of a repeated one
 up_to_on : (k : ℕ) (f : wire.Field) (l : List wire.Field) → eqb f.wire 2 ≡ true

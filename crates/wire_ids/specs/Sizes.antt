@@ -8,10 +8,8 @@ use Rattle.wire.specs.Select.{numbered}
 use Rattle.wire.specs.Ids.{group_of, id_list, list_words}
 use Rattle.wire_fields.specs.declared.field.Field.{Field}
 use Rattle.wire_fields.specs.declared.select.Number.{Number}
-use Rattle.wire_fields.specs.declared.select.Number.TheVariants as Number
 use Rattle.wire_ids.specs.declared.size.Tally.{Tally}
 use Rattle.wire_ids.specs.declared.size.Tallied.{Tallied}
-use Rattle.wire_ids.specs.declared.size.Tallied.TheVariants as Tallied
 
 -- the ids under a number of a message
 unfoldable pub ids_of : List ℕ → ℕ → Option (List Group)

@@ -19,7 +19,6 @@ use Rattle.wire_fields.specs.Selected.{at_most, found_number}
 use Rattle.wire_fields.specs.Values.{all_of, values, values_of}
 use Rattle.wire_fields.specs.declared.pick.Seen.{Seen}
 use Rattle.wire_fields.specs.declared.select.Number.{Number}
-use Rattle.wire_fields.specs.declared.select.Number.TheVariants as Number
 use Rattle.wire_fields.proofs.Selections.{Saw, several_is, several_bad}
 use Rattle.wire_message.specs.Found.{batch_id, id_of_bytes, ack_count, head_of, found_id, found_content}
 use Rattle.wire_message.specs.declared.content.BatchId.{BatchId}

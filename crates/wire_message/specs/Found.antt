@@ -10,10 +10,8 @@ use Rattle.wire.specs.Answers.{record_of}
 use Rattle.record.specs.declared.Dispatch.{Dispatch}
 use Rattle.wire_message.specs.declared.content.BatchId.{BatchId}
 use Rattle.wire_message.specs.declared.content.IdRead.{IdRead}
-use Rattle.wire_message.specs.declared.content.IdRead.TheVariants as IdRead
 use Rattle.wire_message.specs.declared.content.Head.{Head}
 use Rattle.wire_message.specs.declared.content.Content.{Content}
-use Rattle.wire_message.specs.declared.content.Content.TheVariants as Content
 
 -- an id with its batch size
 abbrev pub batch_id : Id → ℕ → BatchId

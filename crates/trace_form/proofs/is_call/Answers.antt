@@ -3,7 +3,6 @@ use borrow.Author.Tests.{ne_eqb}
 use Rattle.trace.specs.Calls.{PUSH, call_from, call_of}
 use Rattle.trace.proofs.Calls.{no_kind}
 use Rattle.trace_form.proofs.Tested.{none_is, is_ack, is_redeliver, is_close, is_push_of_none}
-use borrow.Author.Rules.{rules}
 use Rattle.trace_form.proofs.is_call.Goals as goal
 
 pub returns-then-kind-eq-FLOW : goal.returns-then-kind-eq-FLOW
@@ -40,8 +39,6 @@ returns-then-kind-eq-CLOSE c = rw c.if-kind-eq-CLOSE.true (is_close _ (λ k. (c.
 
 pub returns : goal.returns
 returns c =
-    let e = c in
-    let d = e in
     none_is
-    (no_kind 0 _ _ e.if-kind-eq-APPEND.false e.if-kind-eq-SUBSCRIBE.false d.if-kind-eq-FLOW.false d.if-kind-eq-ACK.false c.if-kind-eq-SEEK.false e.if-kind-eq-REDELIVER.false c.if-kind-eq-CLOSE.false
-    (ne_eqb _ PUSH d.if-kind-eq-PUSH.false))
+    (no_kind 0 _ _ c.if-kind-eq-APPEND.false c.if-kind-eq-SUBSCRIBE.false c.if-kind-eq-FLOW.false c.if-kind-eq-ACK.false c.if-kind-eq-SEEK.false c.if-kind-eq-REDELIVER.false c.if-kind-eq-CLOSE.false
+    (ne_eqb _ PUSH c.if-kind-eq-PUSH.false))

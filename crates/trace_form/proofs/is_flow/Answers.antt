@@ -4,7 +4,6 @@ use Rattle.trace.specs.Calls.{flow_from}
 use Rattle.trace.proofs.Calls.{not_passed, too_wide, is_call}
 use Rattle.trace.proofs.Widths.{flow_fits, grant_wide}
 use Rattle.trace_form.proofs.Tested.{none_is, some_is}
-use borrow.Author.Rules.{rules}
 use Rattle.trace_form.proofs.is_flow.Goals as goal
 
 pub returns-then-words-ne2 : goal.returns-then-words-ne2

@@ -3,7 +3,6 @@ use borrow.Author.Tests.{ne_eqb}
 use Rattle.trace.specs.Calls.{seek_from}
 use Rattle.trace.proofs.Calls.{not_passed}
 use Rattle.trace_form.proofs.Tested.{none_is, seek_of_two, seek_of_four}
-use borrow.Author.Rules.{rules}
 use Rattle.trace_form.proofs.is_seek.Goals as goal
 
 pub returns-then-words-eq2 : goal.returns-then-words-eq2

@@ -1,6 +1,5 @@
 -- `trace_read::kind_of` meets its contract: a whole record has its kind in front.
 use native.Mathlib.Omega.{arith}
-use borrow.Author.Rules.{rules}
 use Rattle.trace.specs.Format.{record_in}
 use Rattle.trace.proofs.Format.{whole}
 use Rattle.trace_read.proofs.kind_of.Goals as goal

@@ -1,8 +1,6 @@
 -- `trace_read::read_words` meets its contract. The loop's invariant: the words from the n-th on, laid from there on, finish all.
-use Prim.Native.Nat.{◌-◌}
-use lib.ListN.{length}
 use borrow.Author.Rules.{rules}
-use Rattle.trace_read.proofs.Words.{Begun, begun_start, begun_on, begun_end}
+use Rattle.trace_read.proofs.Words.{begun_start, begun_on, begun_end}
 use Rattle.trace_read.proofs.read_words.Goals as goal
 
 pub loop-at-init : goal.loop-at-init

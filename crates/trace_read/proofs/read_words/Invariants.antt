@@ -1,8 +1,7 @@
 -- `trace_read::read_words` meets its contract. The loop's invariant: the words from the n-th on, laid from there on, finish all.
 use Prim.Native.Nat.{◌-◌}
 use lib.ListN.{length}
-use borrow.Author.Rules.{rules}
-use Rattle.trace_read.proofs.Words.{Begun, begun_start, begun_on, begun_end}
+use Rattle.trace_read.proofs.Words.{Begun}
 use Rattle.trace_read.proofs.read_words.Given as goal
 
 abbrev pub invariant-loop-at : goal.invariant-loop-at

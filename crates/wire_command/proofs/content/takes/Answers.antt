@@ -11,51 +11,36 @@ returns-then-kind-eq-SUBSCRIBE c =
 pub returns-then-kind-eq-ACK : goal.returns-then-kind-eq-ACK
 unfolding takes_command
 returns-then-kind-eq-ACK c =
-    let else1 = c in
-    rw (ne_eqb _ 4 else1.if-kind-eq-SUBSCRIBE.false, eq-eqb _ 10 c.if-kind-eq-ACK.true)
+    rw (ne_eqb _ 4 c.if-kind-eq-SUBSCRIBE.false, eq-eqb _ 10 c.if-kind-eq-ACK.true)
 
 pub returns-then-kind-eq-FLOW : goal.returns-then-kind-eq-FLOW
 unfolding takes_command
 returns-then-kind-eq-FLOW c =
-    let else2 = c in
-    let else1 = else2 in
-    rw (ne_eqb _ 4 else1.if-kind-eq-SUBSCRIBE.false, ne_eqb _ 10 else2.if-kind-eq-ACK.false, eq-eqb _ 11 c.if-kind-eq-FLOW.true)
+    rw (ne_eqb _ 4 c.if-kind-eq-SUBSCRIBE.false, ne_eqb _ 10 c.if-kind-eq-ACK.false, eq-eqb _ 11 c.if-kind-eq-FLOW.true)
 
 pub returns-then-kind-eq-CLOSE_CONSUMER : goal.returns-then-kind-eq-CLOSE_CONSUMER
 unfolding takes_command
 returns-then-kind-eq-CLOSE_CONSUMER c =
-    let else3 = c in
-    let else2 = else3 in
-    let else1 = else2 in
-    rw (ne_eqb _ 4 else1.if-kind-eq-SUBSCRIBE.false, ne_eqb _ 10 else2.if-kind-eq-ACK.false, ne_eqb _ 11 else3.if-kind-eq-FLOW.false, eq-eqb _ 16 c.if-kind-eq-CLOSE_CONSUMER.true)
+    rw (ne_eqb _ 4 c.if-kind-eq-SUBSCRIBE.false, ne_eqb _ 10 c.if-kind-eq-ACK.false, ne_eqb _ 11 c.if-kind-eq-FLOW.false, eq-eqb _ 16 c.if-kind-eq-CLOSE_CONSUMER.true)
 
 pub returns-then-kind-eq-REDELIVER : goal.returns-then-kind-eq-REDELIVER
 unfolding takes_command
 returns-then-kind-eq-REDELIVER c =
-    let else4 = c in
-    let else3 = else4 in
-    let else2 = else3 in
-    let else1 = else2 in
     rw (
-      ne_eqb _ 4 else1.if-kind-eq-SUBSCRIBE.false,
-      ne_eqb _ 10 else2.if-kind-eq-ACK.false,
-      ne_eqb _ 11 else3.if-kind-eq-FLOW.false,
-      ne_eqb _ 16 else4.if-kind-eq-CLOSE_CONSUMER.false,
+      ne_eqb _ 4 c.if-kind-eq-SUBSCRIBE.false,
+      ne_eqb _ 10 c.if-kind-eq-ACK.false,
+      ne_eqb _ 11 c.if-kind-eq-FLOW.false,
+      ne_eqb _ 16 c.if-kind-eq-CLOSE_CONSUMER.false,
       eq-eqb _ 20 c.if-kind-eq-REDELIVER.true,
     )
 
 pub returns : goal.returns
 unfolding takes_command
 returns c =
-    let else5 = c in
-    let else4 = else5 in
-    let else3 = else4 in
-    let else2 = else3 in
-    let else1 = else2 in
     rw (
-      ne_eqb _ 4 else1.if-kind-eq-SUBSCRIBE.false,
-      ne_eqb _ 10 else2.if-kind-eq-ACK.false,
-      ne_eqb _ 11 else3.if-kind-eq-FLOW.false,
-      ne_eqb _ 16 else4.if-kind-eq-CLOSE_CONSUMER.false,
-      ne_eqb _ 20 else5.if-kind-eq-REDELIVER.false,
+      ne_eqb _ 4 c.if-kind-eq-SUBSCRIBE.false,
+      ne_eqb _ 10 c.if-kind-eq-ACK.false,
+      ne_eqb _ 11 c.if-kind-eq-FLOW.false,
+      ne_eqb _ 16 c.if-kind-eq-CLOSE_CONSUMER.false,
+      ne_eqb _ 20 c.if-kind-eq-REDELIVER.false,
     )

@@ -1,6 +1,5 @@
 -- `wire_command::eight_words::words` meets its contract: each arm has the words of its command.
 use mathlib.Core.Path.{sym, ap}
-use borrow.Author.Rules.{rules}
 use Rattle.wire_command.specs.Found.{words_of}
 use Rattle.wire_command.proofs.eight_words.words.Goals as goal
 

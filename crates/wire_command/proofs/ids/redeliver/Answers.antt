@@ -1,7 +1,6 @@
 -- `wire_command::ids::redeliver` meets its contract: a consumer, and ids whose words are counted.
 use mathlib.Core.Path.{sym, ◌∙◌}
 use mathlib.Core.Option.{bind}
-use borrow.Author.Rules.{rules}
 use Rattle.wire.specs.Select.{uint64}
 use Rattle.wire.specs.Commands.{redeliver_of}
 use Rattle.wire_fields.proofs.Selections.{walked_not, required_is, required_bad}
@@ -17,33 +16,27 @@ returns-in_default c = rw (walked_not _ _ _ _ (sym c.in_default.is ∙ c.pick.en
 pub returns-in_default-required_uint64 : goal.returns-in_default-required_uint64
 unfolding redeliver_of found_command bind
 returns-in_default-required_uint64 c =
-    let x = c in
-    let w = walked_as x.in-Fields.is x.pick.ensures in
+    let w = walked_as c.in-Fields.is c.pick.ensures in
     rw (w.all_fields, required_bad uint64 w.at_a (sym c.in_default-required_uint64.is ∙ c.required_uint64.ensures))
 
 pub returns-in_default-list_size : goal.returns-in_default-list_size
 unfolding redeliver_of found_command bind
 returns-in_default-list_size c =
-    let i = c in
-    let x = i in
-    let w = walked_as x.in-Fields.is x.pick.ensures in
+    let w = walked_as c.in-Fields.is c.pick.ensures in
     rw (
       w.all_fields,
-      required_is uint64 w.at_a (sym i.in-Is.is ∙ i.required_uint64.ensures),
+      required_is uint64 w.at_a (sym c.in-Is.is ∙ c.required_uint64.ensures),
       size_bad _ 2 c.list_size.ensures w.all_fields c.in_default-list_size.is,
     )
 
 pub returns : goal.returns
 unfolding redeliver_of found_command as_command bind
 returns c =
-    let n = c in
-    let i = n in
-    let x = i in
-    let w = walked_as x.in-Fields.is x.pick.ensures in
-    let s = size_is _ 2 n.list_size.ensures w.all_fields n.size-1.given.1 in
+    let w = walked_as c.in-Fields.is c.pick.ensures in
+    let s = size_is _ 2 c.list_size.ensures w.all_fields c.in-Is-list_size.is in
     rw (
       w.all_fields,
-      required_is uint64 w.at_a (sym i.in-Is.is ∙ i.required_uint64.ensures),
+      required_is uint64 w.at_a (sym c.in-Is.is ∙ c.required_uint64.ensures),
       s.are,
       s.many,
     )

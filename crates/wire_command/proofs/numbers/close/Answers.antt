@@ -1,6 +1,5 @@
 -- `wire_command::numbers::close` meets its contract: its two numbers are the message's first two.
 use mathlib.Core.Option.{bind}
-use borrow.Author.Rules.{rules}
 use Rattle.wire.specs.Commands.{close_of}
 use Rattle.wire_command.specs.Found.{as_command, found_command}
 use Rattle.wire_command.proofs.Steps.{two_of_message, two_bad_message}

@@ -1,6 +1,5 @@
 -- `wire_command::read::lay_list` meets its contract: each test of the type is the definition's, and without ids nothing is laid.
 use mathlib.Core.Path.{◌∙◌}
-use borrow.Author.Rules.{rules}
 use borrow.Author.Tests.{eq-eqb, ne_eqb}
 use Rattle.words.specs.Act.{lay}
 use Rattle.wire_command.specs.Found.{ids_words}
@@ -19,8 +18,7 @@ lay_ids-requires-then-kind-eq-REDELIVER c = c.requires.redeliver c.if-kind-eq-RE
 pub returns-then-kind-eq-REDELIVER : goal.returns-then-kind-eq-REDELIVER
 unfolding ids_words
 returns-then-kind-eq-REDELIVER c =
-    let then2 = c in
-    c.lay_ids-then-kind-eq-REDELIVER.ensures ∙ rw (ne_eqb _ 10 then2.if-kind-eq-ACK.false, eq-eqb _ 20 then2.if-kind-eq-REDELIVER.true)
+    c.lay_ids-then-kind-eq-REDELIVER.ensures ∙ rw (ne_eqb _ 10 c.if-kind-eq-ACK.false, eq-eqb _ 20 c.if-kind-eq-REDELIVER.true)
 
 pub returns-else-kind-eq-REDELIVER : goal.returns-else-kind-eq-REDELIVER
 unfolding ids_words lay

@@ -7,7 +7,6 @@ use mathlib.Core.Option.{some}
 use native.Mathlib.Omega.{arith}
 use lib.ListN.{length}
 use borrow.Author.Rules.{rules}
-use borrow.Author.Tests.{not-true, not-false}
 use Rattle.wire.specs.Commands.{type_of, message_of, takes_command}
 use Rattle.wire_fields.specs.Selected.{found_place, placed}
 use Rattle.wire_fields.proofs.Bases.{Placed, told_place, told_no_place, told_base, told_untyped, placed_message}

@@ -1,6 +1,5 @@
 -- `wire_command::seek::target_in` meets its contract: the part's first two numbers are the id's ledger and entry.
 use mathlib.Core.Option.{bind}
-use borrow.Author.Rules.{rules}
 use Rattle.wire.specs.Ids.{id_of}
 use Rattle.wire_command.specs.Found.{target_in, as_target, found_target}
 use Rattle.wire_command.proofs.Steps.{two_of_message, two_bad_message}

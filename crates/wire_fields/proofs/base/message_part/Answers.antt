@@ -1,6 +1,5 @@
 -- `wire_fields::base::message_part` meets its contract: the part that was seen under the type's number is its message.
 use mathlib.Core.Path.{sym, ◌∙◌}
-use borrow.Author.Rules.{rules}
 use Rattle.wire_fields.proofs.Selections.{walked, walked_not, saw_part}
 use Rattle.wire_fields.proofs.Bases.{seen_placed, unformed_placed, high_placed}
 use Rattle.wire_fields.proofs.base.message_part.Goals as goal
@@ -13,7 +12,6 @@ returns-in_default c = unformed_placed _ _ (walked_not _ _ _ _ (sym c.in_default
 
 pub returns : goal.returns
 returns c =
-    let p = c in
-    let w = walked _ _ _ _ _ _ _ (sym c.in-Fields.is ∙ p.pick.ensures) in
-    let kind = p.args.kind in
-    c.required_part.ensures ∙ seen_placed _ kind p.if-kind-ge-TYPES_END.false w.fs w.all_fields _ (saw_part kind w.fs w.at_a)
+    let w = walked _ _ _ _ _ _ _ (sym c.in-Fields.is ∙ c.pick.ensures) in
+    let kind = c.args.kind in
+    c.required_part.ensures ∙ seen_placed _ kind c.if-kind-ge-TYPES_END.false w.fs w.all_fields _ (saw_part kind w.fs w.at_a)

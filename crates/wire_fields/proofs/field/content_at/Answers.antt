@@ -1,6 +1,5 @@
 -- `wire_fields::field::content_at` meets its contract: the tests of the wire type are those of the definition.
 use mathlib.Core.Path.{◌∙◌}
-use borrow.Author.Rules.{rules}
 use borrow.Author.Tests.{eq-eqb, ne_eqb}
 use Rattle.wire.specs.Fields.{field_of}
 use Rattle.wire_fields.specs.Found.{found_field}

@@ -1,5 +1,4 @@
 -- `wire_fields::field::fixed_field` meets its contract: it ends inside the message or not.
-use borrow.Author.Rules.{rules}
 use Rattle.wire_fields.proofs.FieldsRead.{no_fixed_field, is_fixed_field}
 use Rattle.wire_fields.proofs.field.fixed_field.Goals as goal
 

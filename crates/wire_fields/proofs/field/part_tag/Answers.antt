@@ -1,7 +1,6 @@
 -- `wire_fields::field::part_tag` meets its contract: the tests are the definition's.
 use borrow.Author.Tests.{lt-ltb, le-ltb, le-leb, lt-leb, eq-eqb, ne_eqb}
 use Rattle.wire_fields.specs.Found.{part_tag}
-use borrow.Author.Rules.{rules}
 use Rattle.wire_fields.proofs.field.part_tag.Goals as goal
 
 pub returns-then-tag-lt-WIRE_TYPES : goal.returns-then-tag-lt-WIRE_TYPES
@@ -15,21 +14,16 @@ returns-then-tag-ge-MORE c = rw (← c.wide-tag.ensures, le-leb _ _ c.if-tag-lt-
 pub returns-then-tag-ne-DELIMITED : goal.returns-then-tag-ne-DELIMITED
 unfolding part_tag
 returns-then-tag-ne-DELIMITED c =
-    let e = c in
-    let w = e in
-    rw (← w.wide-tag.ensures, le-leb _ _ e.if-tag-lt-WIRE_TYPES.false, lt-ltb _ _ e.if-tag-ge-MORE.false, ne_eqb _ _ c.if-tag-ne-DELIMITED.true)
+    rw (← c.wide-tag.ensures, le-leb _ _ c.if-tag-lt-WIRE_TYPES.false, lt-ltb _ _ c.if-tag-ge-MORE.false, ne_eqb _ _ c.if-tag-ne-DELIMITED.true)
 
 pub returns-then-wide-ge-MORE : goal.returns-then-wide-ge-MORE
 unfolding part_tag
 returns-then-wide-ge-MORE c =
-    let d = c in
-    let e = d in
-    let w = e in
     rw (
-      ← w.wide-tag.ensures,
-      le-leb _ _ e.if-tag-lt-WIRE_TYPES.false,
-      lt-ltb _ _ e.if-tag-ge-MORE.false,
-      eq-eqb _ _ d.if-tag-ne-DELIMITED.false,
+      ← c.wide-tag.ensures,
+      le-leb _ _ c.if-tag-lt-WIRE_TYPES.false,
+      lt-ltb _ _ c.if-tag-ge-MORE.false,
+      eq-eqb _ _ c.if-tag-ne-DELIMITED.false,
       ← c.wide.ensures,
       le-ltb _ _ c.if-wide-ge-MORE.true,
     )
@@ -37,14 +31,11 @@ returns-then-wide-ge-MORE c =
 pub returns : goal.returns
 unfolding part_tag
 returns c =
-    let d = c in
-    let e = d in
-    let w = e in
     rw (
-      ← w.wide-tag.ensures,
-      le-leb _ _ e.if-tag-lt-WIRE_TYPES.false,
-      lt-ltb _ _ e.if-tag-ge-MORE.false,
-      eq-eqb _ _ d.if-tag-ne-DELIMITED.false,
+      ← c.wide-tag.ensures,
+      le-leb _ _ c.if-tag-lt-WIRE_TYPES.false,
+      lt-ltb _ _ c.if-tag-ge-MORE.false,
+      eq-eqb _ _ c.if-tag-ne-DELIMITED.false,
       ← c.wide.ensures,
       lt-ltb _ _ c.if-wide-ge-MORE.false,
     )

@@ -1,5 +1,4 @@
 -- `wire_fields::field::passed_by` meets its contract: the tests are the definition's.
-use borrow.Author.Rules.{rules}
 use borrow.Author.Tests.{eq-eqb, ne_eqb}
 use Rattle.wire_fields.specs.Found.{passed_by}
 use Rattle.wire_fields.proofs.field.passed_by.Goals as goal

@@ -5,7 +5,6 @@ use native.Mathlib.Omega.{arith}
 use lib.ListN.{length}
 use borrow.Author.Tests.{lt-ltb, le-ltb, le-leb, lt-leb}
 use Rattle.wire_fields.specs.Found.{short_tag}
-use borrow.Author.Rules.{rules}
 use Rattle.wire_fields.proofs.field.short_tag.Goals as goal
 
 pub returns-then-m-at-lt2 : goal.returns-then-m-at-lt2
@@ -21,6 +20,5 @@ returns-then-wide-ge-MORE c =
 pub returns : goal.returns
 unfolding short_tag
 returns c =
-    let w = c in
-    let a = w.args in
-    c.varint_tag.ensures ∙ rw (le-leb (a.at + 2) (length a.m.now) (omega arith), ← w.wide.ensures, lt-ltb _ _ c.if-wide-ge-MORE.false)
+    let a = c.args in
+    c.varint_tag.ensures ∙ rw (le-leb (a.at + 2) (length a.m.now) (omega arith), ← c.wide.ensures, lt-ltb _ _ c.if-wide-ge-MORE.false)

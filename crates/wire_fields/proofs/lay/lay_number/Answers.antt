@@ -2,7 +2,6 @@
 use native.Mathlib.Omega.{arith}
 use mathlib.Core.Path.{ap}
 use lib.ListN.{length}
-use borrow.Author.Rules.{rules}
 use Rattle.wire_fields.proofs.Laying.{lays_none, lays_one, one_there}
 use Rattle.wire_fields.proofs.lay.lay_number.Goals as goal
 

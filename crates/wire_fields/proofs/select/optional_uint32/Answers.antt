@@ -1,6 +1,5 @@
 -- `wire_fields::select::optional_uint32` meets its contract: absent or as the required one.
 use mathlib.Core.Path.{◌∙◌}
-use borrow.Author.Rules.{rules}
 use borrow.Author.Tests.{eq-eqb, ne_eqb}
 use Rattle.wire_fields.specs.Selected.{optional_number}
 use Rattle.wire_fields.proofs.select.optional_uint32.Goals as goal

@@ -2,7 +2,6 @@
 use mathlib.Core.Path.{◌≡◌, sym, ◌∙◌}
 use mathlib.Core.Bool.{true, false}
 use borrow.Author.Rules.{rules}
-use borrow.Author.Tests.{not-true, not-false}
 use Rattle.wire_fields.specs.Selected.{is_one, place}
 use Rattle.wire_fields.proofs.select.required_part.Statement.{statement}
 use Rattle.wire_fields.proofs.select.required_part.Tie as tie

@@ -2,7 +2,7 @@
 use mathlib.Core.Path.{◌≡◌, sym, ◌∙◌}
 use mathlib.Core.Bool.{true}
 use borrow.Author.Rules.{rules}
-use borrow.Author.Tests.{not-true, not-false, lt-ltb, le-ltb}
+use borrow.Author.Tests.{lt-ltb, le-ltb}
 use Rattle.wire.specs.Select.{uint32}
 use Rattle.wire_fields.specs.Selected.{is_one}
 use Rattle.wire_fields.proofs.Answers.{not_one_bad, one_fits, one_unfit}

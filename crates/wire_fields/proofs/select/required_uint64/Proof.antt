@@ -2,7 +2,6 @@
 use mathlib.Core.Path.{◌≡◌, refl, sym, ◌∙◌}
 use mathlib.Core.Bool.{true}
 use borrow.Author.Rules.{rules}
-use borrow.Author.Tests.{not-true, not-false}
 use Rattle.wire.specs.Select.{uint64}
 use Rattle.wire_fields.specs.Selected.{is_one}
 use Rattle.wire_fields.proofs.Answers.{not_one_bad, one_fits}

@@ -2,7 +2,6 @@
 use mathlib.Core.Path.{refl}
 use native.Mathlib.Omega.{arith}
 use lib.Pow.{shl_exact}
-use borrow.Author.Rules.{rules}
 use Rattle.wire_fields.proofs.Varints.{cut_off, tenth, tenth_wide}
 use Rattle.wire_fields.proofs.varint.last_byte.Goals as goal
 

@@ -1,6 +1,5 @@
 -- `wire_fields::varint::varint_at` meets its contract: a byte that ends the varint is all of it.
 use native.Mathlib.Omega.{arith}
-use borrow.Author.Rules.{rules}
 use Rattle.wire_fields.proofs.Varints.{partway_start, cut_off, one_byte}
 use Rattle.wire_fields.proofs.varint.varint_at.Goals as goal
 

@@ -1,6 +1,5 @@
 -- `wire_ids::id::one_more` meets its contract: the tests are the definition's.
 use mathlib.Core.Bool.{and-false}
-use borrow.Author.Rules.{rules}
 use borrow.Author.Tests.{eq-eqb, ne_eqb, lt-ltb, le-ltb}
 use Rattle.wire_ids.specs.Parts.{one_more}
 use Rattle.wire_ids.proofs.id.one_more.Goals as goal

@@ -1,6 +1,5 @@
 -- `wire_ids::size::with_field` meets its contract: the test of the number is the definition's.
 use mathlib.Core.Path.{◌∙◌}
-use borrow.Author.Rules.{rules}
 use borrow.Author.Tests.{eq-eqb, ne_eqb}
 use Rattle.wire_ids.specs.Sizes.{tally_with}
 use Rattle.wire_ids.proofs.size.with_field.Goals as goal

@@ -1,5 +1,4 @@
 -- `wire_ids::size::with_id` meets its contract: the tests are the definition's, and an id takes at most 16 words and 3.
-use borrow.Author.Rules.{rules}
 use borrow.Author.Tests.{eq-eqb, ne_eqb}
 use Rattle.wire_ids.specs.Sizes.{tally_id}
 use Rattle.wire_ids.proofs.Tallies.{tallied_none, tallied_some}
@@ -16,12 +15,9 @@ returns-then-t-eq0 c = rw (eq-eqb _ _ c.if-wire-ne-DELIMITED.false, eq-eqb _ _ c
 pub returns-then-n-gt-MOST_WORDS : goal.returns-then-n-gt-MOST_WORDS
 unfolding tally_id
 returns-then-n-gt-MOST_WORDS c =
-    let i = c in
-    rw (eq-eqb _ _ i.if-wire-ne-DELIMITED.false, ne_eqb _ _ i.if-t-eq0.false, tallied_none _ _ _ c.id_words_in-n.ensures c.if-n-gt-MOST_WORDS.true)
+    rw (eq-eqb _ _ c.if-wire-ne-DELIMITED.false, ne_eqb _ _ c.if-t-eq0.false, tallied_none _ _ _ c.id_words_in-n.ensures c.if-n-gt-MOST_WORDS.true)
 
 pub returns : goal.returns
 unfolding tally_id
 returns c =
-    let n = c in
-    let i = n in
-    rw (eq-eqb _ _ i.if-wire-ne-DELIMITED.false, ne_eqb _ _ i.if-t-eq0.false, tallied_some _ _ _ n.id_words_in-n.ensures n.if-n-gt-MOST_WORDS.false)
+    rw (eq-eqb _ _ c.if-wire-ne-DELIMITED.false, ne_eqb _ _ c.if-t-eq0.false, tallied_some _ _ _ c.id_words_in-n.ensures c.if-n-gt-MOST_WORDS.false)

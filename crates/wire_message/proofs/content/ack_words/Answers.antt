@@ -2,7 +2,6 @@
 use mathlib.Core.Path.{sym, ◌∙◌}
 use mathlib.Core.Option.{bind}
 use native.Mathlib.Omega.{arith}
-use borrow.Author.Rules.{rules}
 use Rattle.wire_fields.specs.Selected.{found_number}
 use Rattle.wire_fields.proofs.Selections.{walked, walked_not}
 use Rattle.wire_message.specs.Found.{ack_count}

@@ -1,9 +1,7 @@
 -- `wire_write::fields::write_ack_set` meets its contract. The loop's invariant: the fields of the words from i on, laid from here
 -- on, finish the fields of all.
-use Prim.Native.Nat.{◌-◌}
-use lib.ListN.{length}
 use borrow.Author.Rules.{rules}
-use Rattle.wire_write.proofs.Parts.{Words, words_start, words_on, words_end}
+use Rattle.wire_write.proofs.Parts.{words_start, words_on, words_end}
 use Rattle.wire_write.proofs.fields.write_ack_set.Goals as goal
 
 pub loop-i-init : goal.loop-i-init

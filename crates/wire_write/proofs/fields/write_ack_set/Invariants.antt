@@ -2,8 +2,7 @@
 -- on, finish the fields of all.
 use Prim.Native.Nat.{◌-◌}
 use lib.ListN.{length}
-use borrow.Author.Rules.{rules}
-use Rattle.wire_write.proofs.Parts.{Words, words_start, words_on, words_end}
+use Rattle.wire_write.proofs.Parts.{Words}
 use Rattle.wire_write.proofs.fields.write_ack_set.Given as goal
 
 abbrev pub invariant-loop-i : goal.invariant-loop-i

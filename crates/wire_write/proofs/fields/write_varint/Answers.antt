@@ -2,7 +2,7 @@
 -- from here on, finishes the varint of the number.
 use lib.ListN.{length-set}
 use borrow.Author.Rules.{rules}
-use Rattle.wire_write.proofs.Varints.{Partly, partly_start, partly_on, partly_end}
+use Rattle.wire_write.proofs.Varints.{partly_start, partly_on, partly_end}
 use Rattle.wire_write.proofs.fields.write_varint.Goals as goal
 
 pub loop-left-init : goal.loop-left-init

@@ -1,8 +1,6 @@
 -- `wire_write::fields::write_varint` meets its contract. The loop's invariant: the varint of what is left of the number, laid
 -- from here on, finishes the varint of the number.
-use lib.ListN.{length-set}
-use borrow.Author.Rules.{rules}
-use Rattle.wire_write.proofs.Varints.{Partly, partly_start, partly_on, partly_end}
+use Rattle.wire_write.proofs.Varints.{Partly}
 use Rattle.wire_write.proofs.fields.write_varint.Given as goal
 
 abbrev pub invariant-loop-left : goal.invariant-loop-left

@@ -1,7 +1,6 @@
 -- `wire_write::message::can_write` meets its contract: its three tests are the definition's.
 use lib.ListN.{get_or}
 use borrow.Author.Tests.{le-leb, lt-leb}
-use borrow.Author.Rules.{rules}
 use Rattle.wire.specs.Answers.{writable}
 use Rattle.wire_write.proofs.message.can_write.Goals as goal
 

@@ -1,5 +1,4 @@
 -- `wire_write::message::write_content` meets its contract: four pieces one after the other.
-use borrow.Author.Rules.{rules}
 use Rattle.wire_write.proofs.Messages.{content_written}
 use Rattle.wire_write.proofs.message.write_content.Goals as goal
 

@@ -1,5 +1,4 @@
 -- `wire_write::message::write_id_numbers` meets its contract: five fields one after the other.
-use borrow.Author.Rules.{rules}
 use Rattle.wire.specs.Message.{id_bytes}
 use Rattle.words.proofs.Writers.{and_then}
 use Rattle.wire_write.proofs.message.write_id_numbers.Goals as goal

@@ -1,7 +1,6 @@
 -- `wire_write::message::write_message` meets its contract: what its tests refuse the definition refuses, and the rest is written.
 use mathlib.Core.Path.{◌≡◌, sym, ◌∙◌}
 use mathlib.Core.Bool.{true}
-use borrow.Author.Tests.{not-true, not-false}
 use borrow.Author.Rules.{rules}
 use Rattle.wire.specs.Answers.{writable}
 use Rattle.wire_write.proofs.Messages.{refuses_buffer, refuses_record, writes, few_words}

@@ -1,5 +1,4 @@
 -- `wire_fields::pick::Seen::with` meets its contract: the tests of number, wire type and count are those of the definition.
-use borrow.Author.Rules.{rules}
 use borrow.Author.Tests.{eq-eqb, ne_eqb, le-leb, lt-leb}
 use Rattle.wire_fields.specs.Picked.{seen_with}
 use Rattle.wire_fields.proofs.pick.Seen.with.Goals as goal
@@ -19,5 +18,4 @@ returns-then-self-ge-MANY c = rw (eq-eqb _ _ c.if-number-wanted.false, eq-eqb _ 
 pub returns : goal.returns
 unfolding seen_with
 returns c =
-    let e = c in
-    rw (eq-eqb _ _ e.if-number-wanted.false, eq-eqb _ _ e.if-wire-wanted.false, lt-leb _ _ e.if-self-ge-MANY.false)
+    rw (eq-eqb _ _ c.if-number-wanted.false, eq-eqb _ _ c.if-wire-wanted.false, lt-leb _ _ c.if-self-ge-MANY.false)

@@ -1,5 +1,4 @@
 -- `wire_ids::id::Parts::with` meets its contract: the tests of the number are the definition's.
-use borrow.Author.Rules.{rules}
 use borrow.Author.Tests.{ne_eqb}
 use Rattle.wire_ids.specs.Parts.{counted, parts_with}
 use Rattle.wire_ids.proofs.id.Parts.with.Goals as goal
