@@ -1,11 +1,9 @@
 -- `decimal::digits` meets its contract. The loop's invariant: the digits counted and those of the rest together
 -- are one more than the number's.
-use mathlib.Core.Path.{◌≡◌, ap}
-use Prim.Native.Nat.{◌+◌, ◌^◌, ◌<◌}
+use mathlib.Core.Path.{ap}
 use native.Mathlib.Omega.{arith}
 use lib.ListN.{length}
 use borrow.Author.Rules.{rules}
-use Rattle.decimal.specs.Decimal.{decimal}
 use Rattle.decimal.proofs.Written.{one_digit, one_longer, short}
 use Rattle.decimal.proofs.digits.Goals as goal
 

@@ -1,12 +1,9 @@
 -- `decimal::digits` meets its contract. The loop's invariant: the digits counted and those of the rest together
 -- are one more than the number's.
-use mathlib.Core.Path.{◌≡◌, ap}
+use mathlib.Core.Path.{◌≡◌}
 use Prim.Native.Nat.{◌+◌, ◌^◌, ◌<◌}
-use native.Mathlib.Omega.{arith}
 use lib.ListN.{length}
-use borrow.Author.Rules.{rules}
 use Rattle.decimal.specs.Decimal.{decimal}
-use Rattle.decimal.proofs.Written.{one_digit, one_longer, short}
 use Rattle.decimal.proofs.digits.Given as goal
 
 abbrev pub invariant-loop-rest : goal.invariant-loop-rest

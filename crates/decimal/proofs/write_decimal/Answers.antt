@@ -4,7 +4,7 @@ use native.Mathlib.Omega.{arith}
 use lib.ListN.{length-set}
 use borrow.Author.Rules.{rules}
 use Rattle.decimal.specs.Decimal.{digit}
-use Rattle.decimal.proofs.Written.{Partly, partly_start, partly_on, partly_end, one_longer, short}
+use Rattle.decimal.proofs.Written.{partly_start, partly_on, partly_end, one_longer, short}
 use Rattle.decimal.proofs.write_decimal.Goals as goal
 
 pub overflow_add-end : goal.overflow_add-end

@@ -1,10 +1,6 @@
 -- `decimal::write_decimal` meets its contract. The loop's invariant: the digits of what is left of the number, laid from the first place
 -- on, finish the number.
-use native.Mathlib.Omega.{arith}
-use lib.ListN.{length-set}
-use borrow.Author.Rules.{rules}
-use Rattle.decimal.specs.Decimal.{digit}
-use Rattle.decimal.proofs.Written.{Partly, partly_start, partly_on, partly_end, one_longer, short}
+use Rattle.decimal.proofs.Written.{Partly}
 use Rattle.decimal.proofs.write_decimal.Given as goal
 
 abbrev pub invariant-loop-rest : goal.invariant-loop-rest
