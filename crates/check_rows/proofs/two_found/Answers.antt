@@ -1,6 +1,5 @@
 -- `check_rows::two_found` meets its contract: rows that ascend are searched by halves, unless the last is below, others one by
 -- one.
-use borrow.Author.Rules.{rules}
 use mathlib.Core.Path.{sym, ◌∙◌}
 use Rattle.check_rows.proofs.RowOrder.{last_none}
 use Rattle.check_rows.proofs.two_found.Goals as goal

@@ -5,9 +5,6 @@ use borrow.Author.Tests.{eq-eqb, ne_eqb}
 use Rattle.rules.specs.State.{same_id}
 use Rattle.rules.proofs.Table.{decides_numbers, same_comm}
 use Rattle.store.proofs.Tests.{fails, passes}
-use borrow.Author.Rules.{rules}
-use Rattle.check_topics.proofs.is_other.Reads as reads
-use Rattle.check_topics.proofs.is_other.Lts as lts
 use Rattle.check_topics.proofs.is_other.Goals as goal
 
 pub returns-then-store-at : goal.returns-then-store-at

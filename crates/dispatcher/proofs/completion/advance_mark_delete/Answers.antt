@@ -4,13 +4,6 @@ use Rattle.rules.specs.State.{Dispatcher}
 use Rattle.layout.specs.Layout.{decode, put}
 use Rattle.layout.specs.Fields.{dispatcher_nth, set_dispatcher}
 use Rattle.dispatcher.proofs.Completing.{advanced_there}
-use borrow.Author.Rules.{rules}
-use Rattle.dispatcher.proofs.completion.advance_mark_delete.Reads as reads
-use Rattle.dispatcher.proofs.completion.advance_mark_delete.Lts as lts
-use Rattle.dispatcher.proofs.completion.first_incomplete.Reads as first_incomplete_reads
-use Rattle.dispatcher.proofs.numbers.load_head.Reads as load_head_reads
-use Rattle.dispatcher.proofs.numbers.save_head.Reads as save_head_reads
-use Rattle.head.proofs.advance_from.Reads as advance_from_reads
 use Rattle.dispatcher.proofs.completion.advance_mark_delete.Goals as goal
 
 pub returns : goal.returns

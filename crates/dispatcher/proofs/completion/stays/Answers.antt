@@ -1,6 +1,6 @@
 -- `dispatcher::completion::stays` meets its contract: another holder's entry stays, and the consumer's own if it is not
 -- complete.
-use mathlib.Core.Path.{◌≡◌, sym, ap, ◌∙◌, subst}
+use mathlib.Core.Path.{sym, ap, ◌∙◌, subst}
 use Prim.Native.Nat.{◌<◌}
 use lib.Dec.{eqb}
 use lib.ListN.{length, get_or}
@@ -10,11 +10,6 @@ use Rattle.rules.specs.Dispatcher.{complete_at}
 use Rattle.layout.specs.Layout.{decode}
 use Rattle.layout.specs.Fields.{zero_held, dispatcher_nth}
 use Rattle.dispatcher.proofs.Completing.{stays_own, stays_other}
-use borrow.Author.Rules.{rules}
-use Rattle.dispatcher.proofs.completion.stays.Reads as reads
-use Rattle.dispatcher.proofs.completion.stays.Lts as lts
-use Rattle.dispatcher.proofs.flight.load_held.Reads as load_held_reads
-use Rattle.dispatcher.proofs.marks.is_complete.Reads as is_complete_reads
 use Rattle.dispatcher.proofs.completion.stays.Goals as goal
 
 pub is_complete-requires : goal.is_complete-requires

@@ -1,7 +1,6 @@
 -- `dispatcher::flight::flight_count` meets its contract: the word at its offset.
 use mathlib.Core.Path.{◌∙◌}
 use Rattle.dispatcher.proofs.Places.{flight_counted}
-use borrow.Author.Rules.{rules}
 use Rattle.dispatcher.proofs.flight.flight_count.Goals as goal
 
 pub returns : goal.returns

@@ -1,10 +1,5 @@
 -- `dispatcher::flight::load_held` meets its contract: the two words at its offset.
 use Rattle.dispatcher.proofs.Places.{held_here}
-use borrow.Author.Rules.{rules}
-use Rattle.dispatcher.proofs.flight.load_held.Reads as reads
-use Rattle.dispatcher.proofs.flight.load_held.Lts as lts
-use Rattle.store.proofs.offsets.dispatcher_at.Reads as dispatcher_at_reads
-use Rattle.store.proofs.stretch.word.Reads as word_reads
 use Rattle.dispatcher.proofs.flight.load_held.Goals as goal
 
 pub returns : goal.returns

@@ -1,7 +1,6 @@
 -- `dispatcher::flight::same_hold` meets its contract, by whether the holders are the same.
 use borrow.Author.Tests.{eq-eqb, ne_eqb}
 use Rattle.rules.specs.Dispatcher.{is_hold}
-use borrow.Author.Rules.{rules}
 use Rattle.dispatcher.proofs.flight.same_hold.Goals as goal
 
 pub returns-then-id-store : goal.returns-then-id-store

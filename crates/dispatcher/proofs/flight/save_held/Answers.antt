@@ -2,9 +2,6 @@
 use lib.ListN.{length-set}
 use Rattle.dispatcher.proofs.Loads.{held_written}
 use borrow.Author.Rules.{rules}
-use Rattle.dispatcher.proofs.flight.save_held.Reads as reads
-use Rattle.dispatcher.proofs.flight.save_held.Lts as lts
-use Rattle.store.proofs.offsets.dispatcher_at.Reads as dispatcher_at_reads
 use Rattle.dispatcher.proofs.flight.save_held.Goals as goal
 
 pub bounds-store-at-2 : goal.bounds-store-at-2

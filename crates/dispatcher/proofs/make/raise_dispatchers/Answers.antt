@@ -4,7 +4,6 @@ use native.Mathlib.Omega.{arith}
 use lib.ListN.{length}
 use Rattle.layout.specs.Layout.{decode}
 use Rattle.layout.proofs.Sets as layout
-use borrow.Author.Rules.{rules}
 use Rattle.dispatcher.proofs.make.raise_dispatchers.Goals as goal
 
 pub returns : goal.returns

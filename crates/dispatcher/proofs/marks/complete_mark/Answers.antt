@@ -1,6 +1,5 @@
 -- `dispatcher::marks::complete_mark` meets its contract: the word at its offset.
 use Rattle.dispatcher.proofs.Gaps.{completed_mark}
-use borrow.Author.Rules.{rules}
 use Rattle.dispatcher.proofs.marks.complete_mark.Goals as goal
 
 pub returns : goal.returns

@@ -1,9 +1,5 @@
 -- `dispatcher::marks::is_complete` meets its contract: the word at its offset is 1.
 use Rattle.dispatcher.proofs.Loads.{complete_here}
-use borrow.Author.Rules.{rules}
-use Rattle.dispatcher.proofs.marks.is_complete.Reads as reads
-use Rattle.dispatcher.proofs.marks.is_complete.Lts as lts
-use Rattle.store.proofs.offsets.dispatcher_at.Reads as dispatcher_at_reads
 use Rattle.dispatcher.proofs.marks.is_complete.Goals as goal
 
 pub returns : goal.returns

@@ -1,9 +1,5 @@
 -- `dispatcher::marks::load_mark` meets its contract: the six words at its offset.
 use Rattle.dispatcher.proofs.Loads.{mark_here}
-use borrow.Author.Rules.{rules}
-use Rattle.dispatcher.proofs.marks.load_mark.Reads as reads
-use Rattle.dispatcher.proofs.marks.load_mark.Lts as lts
-use Rattle.store.proofs.offsets.dispatcher_at.Reads as dispatcher_at_reads
 use Rattle.dispatcher.proofs.marks.load_mark.Goals as goal
 
 pub returns : goal.returns

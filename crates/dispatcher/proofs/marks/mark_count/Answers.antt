@@ -1,7 +1,6 @@
 -- `dispatcher::marks::mark_count` meets its contract: the word at its offset.
 use mathlib.Core.Path.{◌∙◌}
 use Rattle.dispatcher.proofs.Gaps.{marks_counted}
-use borrow.Author.Rules.{rules}
 use Rattle.dispatcher.proofs.marks.mark_count.Goals as goal
 
 pub returns : goal.returns

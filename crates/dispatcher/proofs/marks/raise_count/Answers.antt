@@ -1,6 +1,5 @@
 -- `dispatcher::marks::raise_count` meets its contract: the word at its offset.
 use Rattle.dispatcher.proofs.Gaps.{raised_count}
-use borrow.Author.Rules.{rules}
 use Rattle.dispatcher.proofs.marks.raise_count.Goals as goal
 
 pub returns : goal.returns

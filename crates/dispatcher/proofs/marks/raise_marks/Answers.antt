@@ -1,6 +1,5 @@
 -- `dispatcher::marks::raise_marks` meets its contract: the count is one more.
 use Rattle.dispatcher.proofs.Gaps.{raised_marks}
-use borrow.Author.Rules.{rules}
 use Rattle.dispatcher.proofs.marks.raise_marks.Goals as goal
 
 pub returns : goal.returns

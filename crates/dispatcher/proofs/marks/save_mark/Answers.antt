@@ -3,9 +3,6 @@ use mathlib.Core.Path.{refl}
 use lib.ListN.{length-set}
 use Rattle.dispatcher.proofs.Loads.{marked}
 use borrow.Author.Rules.{rules}
-use Rattle.dispatcher.proofs.marks.save_mark.Reads as reads
-use Rattle.dispatcher.proofs.marks.save_mark.Lts as lts
-use Rattle.store.proofs.offsets.dispatcher_at.Reads as dispatcher_at_reads
 use Rattle.dispatcher.proofs.marks.save_mark.Goals as goal
 
 pub bounds-store-at-2 : goal.bounds-store-at-2

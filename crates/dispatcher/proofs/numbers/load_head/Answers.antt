@@ -1,10 +1,5 @@
 -- `dispatcher::numbers::load_head` meets its contract: the four words at their offsets.
 use Rattle.dispatcher.proofs.Loads.{head_here}
-use borrow.Author.Rules.{rules}
-use Rattle.dispatcher.proofs.numbers.load_head.Reads as reads
-use Rattle.dispatcher.proofs.numbers.load_head.Lts as lts
-use Rattle.store.proofs.offsets.dispatcher_at.Reads as dispatcher_at_reads
-use Rattle.store.proofs.stretch.word.Reads as word_reads
 use Rattle.dispatcher.proofs.numbers.load_head.Goals as goal
 
 pub returns : goal.returns

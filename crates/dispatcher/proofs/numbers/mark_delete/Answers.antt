@@ -1,7 +1,6 @@
 -- `dispatcher::numbers::mark_delete` meets its contract: the word at its offset.
 use mathlib.Core.Path.{◌∙◌}
 use Rattle.layout.proofs.GetsDispatcher.{read_mark_delete}
-use borrow.Author.Rules.{rules}
 use Rattle.dispatcher.proofs.numbers.mark_delete.Goals as goal
 
 pub returns : goal.returns

@@ -1,7 +1,6 @@
 -- `dispatcher::numbers::next` meets its contract: the word at its offset.
 use mathlib.Core.Path.{◌∙◌}
 use Rattle.layout.proofs.GetsDispatcher.{read_next}
-use borrow.Author.Rules.{rules}
 use Rattle.dispatcher.proofs.numbers.next.Goals as goal
 
 pub returns : goal.returns

@@ -2,9 +2,6 @@
 use lib.ListN.{length-set}
 use Rattle.dispatcher.proofs.Loads.{headed}
 use borrow.Author.Rules.{rules}
-use Rattle.dispatcher.proofs.numbers.save_head.Reads as reads
-use Rattle.dispatcher.proofs.numbers.save_head.Lts as lts
-use Rattle.store.proofs.offsets.dispatcher_at.Reads as dispatcher_at_reads
 use Rattle.dispatcher.proofs.numbers.save_head.Goals as goal
 
 pub bounds-store-at-2 : goal.bounds-store-at-2

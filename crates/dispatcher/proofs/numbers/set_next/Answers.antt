@@ -1,6 +1,5 @@
 -- `dispatcher::numbers::set_next` meets its contract: the word at its offset.
 use Rattle.layout.proofs.SetsDispatcher.{write_next}
-use borrow.Author.Rules.{rules}
 use Rattle.dispatcher.proofs.numbers.set_next.Goals as goal
 
 pub returns : goal.returns

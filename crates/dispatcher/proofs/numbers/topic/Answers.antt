@@ -1,6 +1,5 @@
 -- `dispatcher::numbers::topic` meets its contract: the word at its offset.
 use Rattle.layout.proofs.GetsDispatcher.{read_dispatcher_topic}
-use borrow.Author.Rules.{rules}
 use Rattle.dispatcher.proofs.numbers.topic.Goals as goal
 
 pub returns : goal.returns

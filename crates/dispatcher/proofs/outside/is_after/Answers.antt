@@ -1,6 +1,5 @@
 -- `dispatcher::outside::is_after` meets its contract, by whether the ledgers are the same.
 use Rattle.dispatcher.proofs.Gaps.{after_same, after_other}
-use borrow.Author.Rules.{rules}
 use Rattle.dispatcher.proofs.outside.is_after.Goals as goal
 
 pub returns-then-store-at : goal.returns-then-store-at

@@ -1,7 +1,6 @@
 -- `dispatcher::outside::outside_count` meets its contract: the word at its offset.
 use mathlib.Core.Path.{◌∙◌}
 use Rattle.dispatcher.proofs.Gaps.{outside_counted}
-use borrow.Author.Rules.{rules}
 use Rattle.dispatcher.proofs.outside.outside_count.Goals as goal
 
 pub returns : goal.returns

@@ -1,7 +1,6 @@
 -- `dispatcher::queue::queue_count` meets its contract: the word at its offset.
 use mathlib.Core.Path.{◌∙◌}
 use Rattle.dispatcher.proofs.Places.{queue_counted}
-use borrow.Author.Rules.{rules}
 use Rattle.dispatcher.proofs.queue.queue_count.Goals as goal
 
 pub returns : goal.returns

@@ -1,7 +1,6 @@
 -- `dispatcher::queue::queued` meets its contract: the word at its offset.
 use mathlib.Core.Path.{◌∙◌}
 use Rattle.dispatcher.proofs.Places.{queue_here}
-use borrow.Author.Rules.{rules}
 use Rattle.dispatcher.proofs.queue.queued.Goals as goal
 
 pub returns : goal.returns

@@ -4,14 +4,13 @@ use mathlib.Core.Bool.{true, false}
 use mathlib.Core.List.{[], ◌∷◌, ◌++◌}
 use native.Mathlib.Omega.{arith}
 use lib.Dec.{eqb}
-use lib.ListN.{length, get_or, set}
+use lib.ListN.{get_or, set}
 use borrow.Author.Tests.{eq-eqb, ne_eqb}
 use Rattle.rules.specs.State.{Held, Dispatcher}
 use Rattle.rules.specs.Dispatcher.{with_places}
 use Rattle.layout.specs.Layout.{decode, put}
 use Rattle.layout.specs.Fields.{zero_held, dispatcher_nth, set_dispatcher}
 use Rattle.dispatcher.proofs.Returning.{looked_own, looked_other}
-use borrow.Author.Rules.{rules}
 use Rattle.dispatcher.proofs.returns.return_or_keep.Goals as goal
 
 pub returns-then-h-id : goal.returns-then-h-id

@@ -1,7 +1,6 @@
 -- `dispatcher::ring::ring_count` meets its contract: the word at its offset.
 use mathlib.Core.Path.{◌∙◌}
 use Rattle.dispatcher.proofs.Places.{ring_counted}
-use borrow.Author.Rules.{rules}
 use Rattle.dispatcher.proofs.ring.ring_count.Goals as goal
 
 pub returns : goal.returns

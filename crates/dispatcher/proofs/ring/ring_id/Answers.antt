@@ -1,6 +1,5 @@
 -- `dispatcher::ring::ring_id` meets its contract: the word at its offset.
 use Rattle.dispatcher.proofs.Places.{ring_here}
-use borrow.Author.Rules.{rules}
 use Rattle.dispatcher.proofs.ring.ring_id.Goals as goal
 
 pub returns : goal.returns

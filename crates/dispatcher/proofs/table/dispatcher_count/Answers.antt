@@ -1,7 +1,6 @@
 -- `dispatcher::table::dispatcher_count` meets its contract: the word at its offset.
 use mathlib.Core.Path.{◌∙◌}
 use Rattle.layout.proofs.Gets.{read_dispatcher_count}
-use borrow.Author.Rules.{rules}
 use Rattle.dispatcher.proofs.table.dispatcher_count.Goals as goal
 
 pub returns : goal.returns

@@ -10,8 +10,6 @@ use Rattle.layout.proofs.GetsDispatcher.{read_dispatcher_topic, read_dispatcher_
 use Rattle.store.proofs.Inside.{dispatcher_inside}
 use Rattle.store.proofs.Tests.{fails, passes}
 use borrow.Author.Rules.{rules}
-use Rattle.dispatcher.proofs.table.is_of_pair.Reads as reads
-use Rattle.dispatcher.proofs.table.is_of_pair.Lts as lts
 use Rattle.dispatcher.proofs.table.is_of_pair.Goals as goal
 
 pub overflow_mul-at-3 : goal.overflow_mul-at-3

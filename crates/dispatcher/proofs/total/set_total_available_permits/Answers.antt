@@ -1,6 +1,5 @@
 -- `dispatcher::total::set_total_available_permits` meets its contract: the word at its offset.
 use Rattle.layout.proofs.SetsDispatcher.{write_total}
-use borrow.Author.Rules.{rules}
 use Rattle.dispatcher.proofs.total.set_total_available_permits.Goals as goal
 
 pub returns : goal.returns

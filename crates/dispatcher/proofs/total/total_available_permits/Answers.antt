@@ -1,6 +1,5 @@
 -- `dispatcher::total::total_available_permits` meets its contract: the word at its offset.
 use Rattle.layout.proofs.GetsDispatcher.{read_total}
-use borrow.Author.Rules.{rules}
 use Rattle.dispatcher.proofs.total.total_available_permits.Goals as goal
 
 pub returns : goal.returns
