@@ -1,9 +1,8 @@
 -- `check_state::state_valid` meets its contract: the tables are tested one after the other.
-use mathlib.Core.Path.{◌≡◌, refl, ◌∙◌}
+use mathlib.Core.Path.{refl, ◌∙◌}
 use Rattle.store.proofs.Tests.{fails, passes, answered_no, answered_yes}
 use Rattle.check_state.proofs.Checks.{state_by_tables}
 use Rattle.check_topics.proofs.Orders.{known_nothing}
-use borrow.Author.Rules.{rules}
 use Rattle.check_state.proofs.state_valid.Goals as goal
 
 pub topics_valid-requires : goal.topics_valid-requires

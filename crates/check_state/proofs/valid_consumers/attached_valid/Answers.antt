@@ -4,10 +4,6 @@ use Rattle.layout.specs.Layout.{decode}
 use Rattle.layout.specs.Fields.{consumer_nth}
 use Rattle.layout.proofs.Gets.{read_consumer_id, read_consumer_topic, read_consumer_subscription, read_consumer_kind}
 use Rattle.check_state.proofs.Consumers.{plain_passes, ring_decides}
-use borrow.Author.Rules.{rules}
-use Rattle.check_state.proofs.valid_consumers.attached_valid.Reads as reads
-use Rattle.check_state.proofs.valid_consumers.attached_valid.Lts as lts
-use Rattle.dispatcher.proofs.table.in_ring.Reads as in_ring_reads
 use Rattle.check_state.proofs.valid_consumers.attached_valid.Goals as goal
 
 pub returns-then-store-at-eq0 : goal.returns-then-store-at-eq0

@@ -9,9 +9,6 @@ use Rattle.layout.specs.Layout.{decode}
 use Rattle.layout.specs.Fields.{consumer_nth}
 use Rattle.layout.proofs.Gets.{read_consumer_id}
 use Rattle.check_state.proofs.Ascend.{below, one_before}
-use borrow.Author.Rules.{rules}
-use Rattle.check_state.proofs.valid_consumers.id_ascends.Reads as reads
-use Rattle.check_state.proofs.valid_consumers.id_ascends.Lts as lts
 use Rattle.check_state.proofs.valid_consumers.id_ascends.Goals as goal
 
 pub returns-then-i-eq0 : goal.returns-then-i-eq0

@@ -1,6 +1,5 @@
 -- `check_state::valid_dispatchers::front_valid` meets its contract: head, ring and places. A head that passed has a cursor below
 -- which every position has a stamp.
-use borrow.Author.Rules.{rules}
 use native.Mathlib.Omega.{arith}
 use Rattle.check_state.specs.Dispatchers.{front_right}
 use Rattle.store.proofs.Tests.{fails, passes, answered_no, answered_yes}

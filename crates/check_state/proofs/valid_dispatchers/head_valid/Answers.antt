@@ -1,5 +1,4 @@
 -- `check_state::valid_dispatchers::head_valid` meets its contract: one test after the other.
-use borrow.Author.Rules.{rules}
 use mathlib.Core.Path.{refl}
 use borrow.Author.Tests.{lt-leb, le-leb}
 use Rattle.check_state.specs.Dispatchers.{head_right}

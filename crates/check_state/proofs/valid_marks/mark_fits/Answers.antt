@@ -1,5 +1,4 @@
 -- `check_state::valid_marks::mark_fits` meets its contract: the count is tested, then the bits by the batch size.
-use borrow.Author.Rules.{rules}
 use mathlib.Core.Path.{sym, ◌∙◌}
 use Rattle.bits.specs.Four.{words}
 use Rattle.store.proofs.Tests.{fails, passes}

@@ -1,8 +1,6 @@
 -- `check_state::valid_places::places_valid` meets its contract: the entries in flight, then the positions queued.
-use borrow.Author.Rules.{rules}
 use mathlib.Core.Path.{refl}
 use native.Mathlib.Omega.{arith}
-use borrow.Author.Tests.{not-true, not-false}
 use Rattle.check_state.proofs.Stamps.{under_more, flight_wrong, queue_decides}
 use Rattle.check_state.proofs.valid_places.places_valid.Goals as goal
 
