@@ -11,7 +11,7 @@ use Rattle.trace_step.specs.Stepped.{Within}
 use Rattle.player.specs.declared.place.Place as place
 use Rattle.player.specs.declared.place.Turn as declared
 use Rattle.player.specs.declared.place.Turn.TheVariants as variants
-use Rattle.player.specs.Places.{held_bytes, out_bytes, Placed, Goes_on, WentOn}
+use Rattle.player.specs.Places.{held_bytes, out_bytes, Placed, GoesOn, WentOn}
 
 -- the length of a part
 part_length : (l : List ℕ) (from to : ℕ) → from ≤ to → to ≤ length l → length (take (to - from) (drop from l)) ≡ to - from
@@ -34,8 +34,8 @@ kept n filled written e h w = omega arith
 
 -- after a step the player goes on
 pub goes_on : (from to before after : ℕ) (r : declared.Turn) → from ≤ to → to ≤ held_bytes → after ≤ before + 1
-    → WentOn from to after r → Goes_on before r
-unfolding WentOn Goes_on
+    → WentOn from to after r → GoesOn before r
+unfolding WentOn GoesOn
 goes_on from to before after (variants.On p) h g k w =
     let a = w.0 in
     let b = w.1 in
@@ -43,7 +43,7 @@ goes_on from to before after (variants.On p) h g k w =
 goes_on from to before after variants.Over h g k w = tt
 
 -- the place of a turn that goes on
-pub next_place : {r : declared.Turn} {p : place.Place} (number : ℕ) → Goes_on number r → r ≡ variants.On p
+pub next_place : {r : declared.Turn} {p : place.Place} (number : ℕ) → GoesOn number r → r ≡ variants.On p
     → Placed p × (p.number ≤ number + 1)
-unfolding Goes_on
-next_place number h e = subst (Goes_on number) e h
+unfolding GoesOn
+next_place number h e = subst (GoesOn number) e h

@@ -9,7 +9,7 @@ mod place;
 
 ghost use Rattle.std.specs.Prelude.{◌≡◌, true, ◌+◌, ◌≤◌, ◌<◌, ◌^◌, length};
 ghost use Rattle.layout.specs.Layout.{spells};
-ghost use Rattle.player.specs.Places.{held_bytes, out_bytes, Placed, WentOn, Goes_on};
+ghost use Rattle.player.specs.Places.{held_bytes, out_bytes, Placed, WentOn, GoesOn};
 
 use crate::input::{make_room, read_more};
 use crate::place::{Place, Turn};
@@ -73,7 +73,7 @@ fn turn(
 ) -> Turn
     requires { (spells store.old ≡ true) × (length held.old ≡ held_bytes) × (length out.old ≡ out_bytes)
         × Placed place × (place.number + 1 < 2 ^ 64) }
-    ensures { (spells store.new ≡ true) × Goes_on place.number result }
+    ensures { (spells store.new ≡ true) × GoesOn place.number result }
 {
     let from = place.from;
     let to = place.to;
@@ -128,7 +128,7 @@ fn wait(
 ) -> Turn
     requires { (length held.old ≡ held_bytes) × (length out.old ≡ out_bytes) × (from ≤ to) × (to ≤ held_bytes)
         × (filled ≤ out_bytes) }
-    ensures { Goes_on number result }
+    ensures { GoesOn number result }
 {
     if rt.write_all(&out[..filled]).is_err() {
         return Turn::Over;

@@ -74,8 +74,8 @@ module _ (list : List ℕ) (from : ℕ) (inside : from ≤ length list) where
           answer : a ≡ answered ws (call_at script at (drop from list));
           words : ws' ≡ words_made ws (call_at script at (drop from list));
           records :
-            take from list ++ (filled ++ drop (length list - from) (drop from list))
-                ≡ take from list ++ list_made ws (drop from list) (call_at script at (drop from list));
+              take from list ++ (filled ++ drop (length list - from) (drop from list))
+              ≡ take from list ++ list_made ws (drop from list) (call_at script at (drop from list));
         }
     made_there ws {ws'} {filled} {a} e =
         record {

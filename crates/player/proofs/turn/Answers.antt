@@ -1,7 +1,7 @@
 -- `player::turn` meets its contract, by what its step did.
 use Rattle.std.proofs.Common.{◌+◌, ◌-◌, ◌≤◌, sym, arith}
 use Rattle.trace_lines.specs.Told.{lines_bytes}
-use Rattle.player.specs.Places.{Goes_on}
+use Rattle.player.specs.Places.{GoesOn}
 use Rattle.player.proofs.Places.{went_within, bad_within, kept, goes_on}
 use Rattle.std.proofs.Math.Seq.{length-take-le}
 use borrow.Author.Rules.{rules}
@@ -46,5 +46,5 @@ returns-in-Went g c =
     (c.step-did.ensures.spelt, goes_on _ _ _ _ _ (omega (arith, w.0, p.order)) p.inside (search rules) c.went.ensures)
 
 pub returns-in-Bad : goal.returns-in-Bad
-unfolding Goes_on
+unfolding GoesOn
 returns-in-Bad g c = (c.step-did.ensures.spelt, tt)

@@ -1,16 +1,16 @@
 -- `player::wait` meets its contract: all that is kept is printed, and what is read lies behind what is held.
 use Rattle.std.proofs.Common.{arith}
-use Rattle.player.specs.Places.{Goes_on}
+use Rattle.player.specs.Places.{GoesOn}
 use Rattle.player.proofs.wait.Goals as goal
 
 pub returns-then-is_err : goal.returns-then-is_err
-unfolding Goes_on
+unfolding GoesOn
 returns-then-is_err g c = tt
 
 pub returns-then-got-eq0 : goal.returns-then-got-eq0
-unfolding Goes_on
+unfolding GoesOn
 returns-then-got-eq0 g c = tt
 
 pub returns : goal.returns
-unfolding Goes_on
+unfolding GoesOn
 returns g c = (record { order = omega arith; inside = omega arith; space = omega arith }, omega arith)
