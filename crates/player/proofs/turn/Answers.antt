@@ -1,6 +1,5 @@
 -- `player::turn` meets its contract, by what its step did.
-use Rattle.std.proofs.Common.{◌+◌, ◌-◌, ◌≤◌, sym, arith}
-use Rattle.trace_lines.specs.Told.{lines_bytes}
+use Rattle.std.proofs.Common.{sym, arith}
 use Rattle.player.specs.Places.{Goes_on}
 use Rattle.player.proofs.Places.{went_within, bad_within, kept, goes_on}
 use Rattle.std.proofs.Math.Seq.{length-take-le}
