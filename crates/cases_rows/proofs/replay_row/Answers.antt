@@ -1,6 +1,5 @@
 -- The two numbers of a line are cut at 64, and what follows them is the script.
 use Rattle.cases_rows.proofs.Lines.{no_row, a_row}
-use borrow.Author.Rules.{rules}
 use Rattle.cases_rows.proofs.replay_row.Goals as goal
 
 pub returns-then-n-lt3 : goal.returns-then-n-lt3

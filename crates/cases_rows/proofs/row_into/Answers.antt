@@ -4,7 +4,6 @@ use mathlib.Core.Path.{◌≡◌}
 use mathlib.Core.List.{List}
 use Prim.Native.Nat.{ℕ, ◌≤◌}
 use lib.ListN.{length, take, length-take}
-use borrow.Author.Rules.{rules}
 use Rattle.cases_rows.proofs.row_into.Goals as goal
 
 -- the first k words of at least k are k words

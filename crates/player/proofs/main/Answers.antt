@@ -2,7 +2,6 @@
 -- a state.
 use native.Mathlib.Omega.{arith}
 use mathlib.Core.Path.{ap, ◌∙◌}
-use borrow.Author.Rules.{rules}
 use Rattle.rules.specs.Calls.{needed}
 use Rattle.layout.specs.Layout.{spells}
 use Rattle.layout.proofs.Calls.{open_spells}

@@ -1,7 +1,5 @@
 -- `player::input::make_room` meets its contract: the bytes move within what is held, whose length stays.
-use Prim.Native.Nat.{◌+◌, ◌-◌, ◌≤◌}
-use mathlib.Core.Path.{◌≡◌}
-use lib.ListN.{length, length-set}
+use lib.ListN.{length-set}
 use borrow.Author.Rules.{rules}
 use Rattle.player.proofs.input.make_room.Goals as goal
 

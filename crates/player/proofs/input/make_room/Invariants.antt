@@ -1,8 +1,7 @@
 -- `player::input::make_room` meets its contract: the bytes move within what is held, whose length stays.
 use Prim.Native.Nat.{◌+◌, ◌-◌, ◌≤◌}
 use mathlib.Core.Path.{◌≡◌}
-use lib.ListN.{length, length-set}
-use borrow.Author.Rules.{rules}
+use lib.ListN.{length}
 use Rattle.player.proofs.input.make_room.Given as goal
 
 abbrev pub invariant-loop-i : goal.invariant-loop-i
