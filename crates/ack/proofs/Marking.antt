@@ -13,7 +13,7 @@ use Rattle.bits.specs.declared.UnackedBits.{UnackedBits}
 use Rattle.bits.specs.Bits.{fresh_unacked_bits, and_into, bits_empty}
 use Rattle.bits.specs.Four.{words, four}
 use Rattle.rules.specs.Table.{is_empty}
-use Rattle.rules.specs.State.{Id, StoredMessage, Mark, Dispatcher, State, completed, by_number, ledger_of, with_dispatchers}
+use Rattle.rules.specs.State.{Id, StoredMessage, Dispatcher, State, completed, by_number, ledger_of, with_dispatchers}
 use Rattle.rules.specs.Ledger.{position_of, message_at, batch_size_of, insert_id}
 use Rattle.rules.specs.Dispatcher.{with_marks, mark_at, is_outside, bits_left, ack_entry, ack_mark, ack_id}
 use Rattle.rules.proofs.Table.{by_test}

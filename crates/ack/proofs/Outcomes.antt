@@ -12,7 +12,7 @@ use lib.Dec.{eqb, ltb}
 use lib.ListN.{length}
 use borrow.Author.Tests.{eq-eqb, ne_eqb}
 use Rattle.rules.specs.Table.{Every, is_some}
-use Rattle.rules.specs.State.{StoredMessage, Pair, Held, Dispatcher, State, by_id, by_pair, ledger_of, dispatcher, put_dispatcher}
+use Rattle.rules.specs.State.{StoredMessage, Pair, Held, Dispatcher, State, by_id, by_pair, ledger_of, put_dispatcher}
 use Rattle.rules.specs.State.Kind.{plain, shared}
 use Rattle.rules.specs.Groups.{Group, groups}
 use Rattle.rules.specs.Outcome.{Value, guard}

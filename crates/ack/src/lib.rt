@@ -1,6 +1,7 @@
 // Ack: the ids of a list become complete or lose bits, the acker drops its complete entries, and
 // mark-delete advances. A plain ack changes nothing.
 #![tactic(auto)]
+
 mod ack_id;
 mod outside_ids;
 

@@ -1,5 +1,6 @@
 // Append: a message joins the ledger of a topic, which it makes if it is the first.
 #![tactic(auto)]
+
 mod entry;
 
 ghost use Rattle.std.specs.Prelude.{◌≡◌, true, ◌<◌};

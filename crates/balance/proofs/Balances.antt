@@ -1,13 +1,13 @@
 -- The balance check: who is live under a pair, a sum with one more consumer, and the range that a sum stays in.
 use mathlib.Core.Path.{◌≡◌, refl, sym, ap, ◌∙◌}
-use mathlib.Core.Bool.{Bool, true, false, cond, ◌&&◌}
-use mathlib.Core.List.{List, []}
+use mathlib.Core.Bool.{Bool, true, false}
+use mathlib.Core.List.{List}
 use mathlib.Core.Option.{Option, none, some}
 use Prim.Native.Nat.{ℕ, suc, ◌+◌, ◌-◌, ◌*◌, ◌^◌, ◌≤◌, ◌<◌}
 use native.Mathlib.Omega.{arith}
 use lib.ListN.{length, get_or, drop, drop_of_length-le}
 use lib.Seq.{drop-cons}
-use Rattle.rules.specs.Permits.{zero_permits, least_permits, most_permits}
+use Rattle.rules.specs.Permits.{least_permits, most_permits}
 use Rattle.rules.specs.State.{Pair, same_pair, Kind, by_kind, Consumer, State, by_id, consumer_of}
 use Rattle.rules.specs.Dispatcher.{live_under, add_permits, sum_permits}
 use Rattle.rules.specs.Valid.{ValidConsumer, Valid}

@@ -1,6 +1,7 @@
 // The balance check: what the permits of a ring's live consumers come to, from the oldest on. After
 // every honest list of calls it is the dispatcher's total; no operation asks for it.
 #![tactic(auto)]
+
 ghost use Rattle.std.specs.Prelude.{◌≡◌, true, ◌^◌, ◌≤◌};
 ghost use Rattle.rules.specs.State.{consumer_of};
 ghost use Rattle.rules.specs.Dispatcher.{live_under, add_permits, balance_check};

@@ -3,6 +3,7 @@
 // takes the bits and hands them back. The names are those of broker.rs; nothing here knows of a
 // broker.
 #![tactic(auto)]
+
 ghost use Rattle.std.specs.Prelude.{◌≡◌, ◌-◌, ◌%◌, ◌^◌, ◌≤◌, min, leb, get_or};
 ghost use Rattle.bits.specs.Bits.{fresh_unacked_bits, and_into, bits_empty, bits_cardinality, bits_below, count_ones};
 ghost use Rattle.bits.specs.Four.{four, words};

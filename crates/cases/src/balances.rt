@@ -8,30 +8,31 @@ use cases_show::{show_balance, show_count};
 use check_state::spells;
 use dispatcher::table::dispatcher_count;
 use dispatcher::total::total_available_permits;
-use libc::STDOUT_FILENO;
+use std::io;
 use store::answers::entries;
 
 // Prints the balance check of every dispatcher, in the order in which they were made, a line each.
-pub(crate) fn show_balances(store: &[u64]) {
+pub(crate) fn show_balances(rt: &impl Print, store: &[u64]) -> io::Result<()> {
     if spells(store) {
         let e = entries(store);
-        show_each(store, e);
+        show_each(rt, store, e)
     } else {
-        io::write_all(STDOUT_FILENO, b"no state\n");
+        println!(rt; "no state")
     }
 }
 
 // The same of a store that spells a state.
-fn show_each(store: &[u64], e: usize)
+fn show_each(rt: &impl Print, store: &[u64], e: usize) -> io::Result<()>
     requires { CanonStore e store.now × (layout.spells store.now ≡ true) }
 {
     let n = dispatcher_count(store, e);
-    show_count(n as u64);
+    show_count(rt, n as u64)?;
     let mut d = 0;
     while d < n {
         let balance = balance_check(store, e, d);
         let total = total_available_permits(store, e, d);
-        show_balance(d as u64, balance, total);
+        show_balance(rt, d as u64, balance, total)?;
         d += 1;
     }
+    Ok(())
 }

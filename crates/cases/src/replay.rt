@@ -11,33 +11,36 @@ use cases_line::{read_line, words_of};
 use cases_rows::replay_row;
 use cases_show::{show_outcome, show_records, show_twin};
 use cases_twin::{as_records, copy_words};
-use libc::STDOUT_FILENO;
+use std::io;
+use std::io::BufRead;
 
 // Replays the input to its end, or to an empty line. The turns are counted down from a number that no
 // input reaches, since a proved loop has to end.
-pub(crate) fn replay() {
+pub(crate) fn replay(rt: &(impl Input + Print)) -> io::Result<()> {
+    let mut input = rt.reader();
     let mut store = [0u64; 8192];
     let mut turns = 18446744073709551615u64;
-    while turns > 0 && replay_line(&mut store) {
+    while turns > 0 && replay_line(rt, &mut input, &mut store)? {
         turns -= 1;
     }
+    Ok(())
 }
 
 // Reads and replays one line, and answers whether there was one.
-fn replay_line(store: &mut [u64]) -> bool {
+fn replay_line(rt: &impl Print, input: &mut impl BufRead, store: &mut [u64]) -> io::Result<bool> {
     let mut line = [0u8; 32768];
-    let n = read_line(&mut line);
+    let n = read_line(input, &mut line)?;
     if n == 0 {
-        return false;
+        return Ok(false);
     }
-    io::write_all(STDOUT_FILENO, &line[..n]);
+    rt.write_all(&line[..n])?;
     if is_heading(&line[..n]) {
-        io::write_all(STDOUT_FILENO, b"\n");
+        println!(rt)?;
     } else {
-        io::write_all(STDOUT_FILENO, b" = ");
-        replay_call(store, &line[..n]);
+        print!(rt; " = ")?;
+        replay_call(rt, store, &line[..n])?;
     }
-    true
+    Ok(true)
 }
 
 // Whether a line begins with #.
@@ -46,41 +49,41 @@ fn is_heading(line: &[u8]) -> bool {
 }
 
 // Makes the call of a line and prints what it gave.
-fn replay_call(store: &mut [u64], line: &[u8]) {
+fn replay_call(rt: &impl Print, store: &mut [u64], line: &[u8]) -> io::Result<()> {
     let mut words = [0u64; 2048];
     let n = words_of(line, &mut words);
     if words[0] == PUSH {
-        replay_push(store, n, words[1]);
+        replay_push(rt, store, n, words[1])
     } else if words[0] == ROW {
-        replay_row(store, &words, n);
+        replay_row(rt, store, &words, n)
     } else if words[0] == BALANCE {
-        show_balances(store);
+        show_balances(rt, store)
     } else {
-        show_outcome(words[0], answer_of(store, &words, n));
+        show_outcome(rt, words[0], answer_of(store, &words, n))
     }
 }
 
 // A push with a list of the runner's 64 records, or of as many as the line says, and the same push into
 // records on a copy of the store.
-fn replay_push(store: &mut [u64], n: usize, records: u64) {
+fn replay_push(rt: &impl Print, store: &mut [u64], n: usize, records: u64) -> io::Result<()> {
     let mut twin = [0u64; 8192];
     copy_words(store, &mut twin);
     let mut list = [0u64; 832];
     let room = words_for(n, records);
-    let answer = push_into(store, &mut list, room);
-    show_twin(as_records(&mut twin, store, &list, room, answer));
+    let answer = push_into(rt, store, &mut list, room)?;
+    show_twin(rt, as_records(&mut twin, store, &list, room, answer))
 }
 
 // A push into the first `room` words of a list.
-fn push_into(store: &mut [u64], list: &mut [u64], room: usize) -> u64
+fn push_into(rt: &impl Print, store: &mut [u64], list: &mut [u64], room: usize) -> io::Result<u64>
     requires { room ≤ length list.old }
 {
     let answer = broker::broker_push(store, &mut list[..room]);
-    show_outcome(PUSH, answer);
+    show_outcome(rt, PUSH, answer)?;
     if answer % 256 == 0 {
-        show_records(list, 0, answer / 256);
+        show_records(rt, list, 0, answer / 256)?;
     }
-    answer
+    Ok(answer)
 }
 
 // How many words the list of a push has, given how many words its line has and the second of them.

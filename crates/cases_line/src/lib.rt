@@ -2,42 +2,46 @@
 // calls. A word of digits is its number; a name is the number that its last eight letters spell in
 // base 256, so that names are compared as numbers.
 #![tactic(auto)]
+
 pub mod name;
 
 ghost use Rattle.std.specs.Prelude.{◌≡◌, cond, ◌<◌, min, ltb, length, get_or, replicate};
-ghost use Rattle.io.specs.Counts.{IsPrefixLen};
+ghost use Rattle.std.specs.Io.{ReadsAtMost};
 ghost use Rattle.cases_line.specs.Line.{with_digit, with_byte, numbers};
 ghost use Rattle.cases_line.specs.Words.{first_words};
 
-use libc::STDIN_FILENO;
+use std::io;
+use std::io::BufRead;
 
 // Reads a line into the start of `line`, without its end, and answers its length: 0 at the end of the
-// input. A line that is longer than `line` is cut there.
-pub fn read_line(line: &mut [u8]) -> usize
-    ensures { IsPrefixLen result line.new }
+// input. A line that is longer than `line` is cut there. An error leaves in `line` what was read
+// before it.
+pub fn read_line(input: &mut impl BufRead, line: &mut [u8]) -> io::Result<usize>
+    ensures { ReadsAtMost result line.new }
 {
     let mut n = 0;
     while n < line.len() {
-        let b = next_byte();
+        let b = next_byte(input)?;
         if b == 0 {
             break;
         }
         line[n] = b;
         n += 1;
     }
-    n
+    Ok(n)
 }
 
 // Reads one byte; 0 at the end of the line or of the input.
-fn next_byte() -> u8 {
-    let mut one = [0u8; 1];
-    if libc::read(STDIN_FILENO, &mut one) < 1 {
-        return 0;
+fn next_byte(input: &mut impl BufRead) -> io::Result<u8> {
+    let b = match input.fill_buf()?.first() {
+        Some(b) => *b,
+        None => return Ok(0),
+    };
+    input.consume(1);
+    if b == 10 {
+        return Ok(0);
     }
-    if one[0] == 10 {
-        return 0;
-    }
-    one[0]
+    Ok(b)
 }
 
 // Puts the words of a line at the start of `words`, where zeros stand, as many as there is room for, and

@@ -1,32 +1,35 @@
 // A row of calls as a line of the runner's input: `row`, how many words are lent for answers, how many
 // records the list holds, then the words of the script. Where the row is done, each of its calls is
-// printed as the call alone would be, with the records of a push under it.
+// printed as the call alone would be, with the records of a push under it. An error of a function here
+// is that of a write.
 #![tactic(auto)]
-ghost use Rattle.std.specs.Prelude.{◌≡◌, ◌≤◌, length, take, replicate};
+
+ghost use Rattle.std.specs.Prelude.{◌≡◌, ◌≤◌, length, take, replicate, IfOk};
 ghost use Rattle.row.specs.Row.{words_left};
 ghost use Rattle.cases_rows.specs.Line.{at_most_64, row_line_after};
 
 use broker::rows::broker_calls;
 use cases_line::{name, word_or_zero};
 use cases_show::{show_outcome, show_records};
-use libc::STDOUT_FILENO;
+use std::io;
 
 // Makes the row of a line of `n` words and prints what it gave; 255 without the two numbers.
-pub fn replay_row(store: &mut [u64], words: &[u64], n: usize)
+// What it leaves in the store, it leaves also where a write failed.
+pub fn replay_row(rt: &impl Print, store: &mut [u64], words: &[u64], n: usize) -> io::Result<()>
     requires in_bounds { 8 ≤ length words.now }
     requires n_in_bounds { n ≤ length words.now }
     ensures { store.new ≡ row_line_after store.old words.now n }
 {
     if n < 3 {
-        show_outcome(name::ROW, 255);
-        return;
+        return show_outcome(rt, name::ROW, 255);
     }
     replay_script(
+        rt,
         store,
         &words[3..n],
         at_most_64(words[1]),
         at_most_64(words[2]) * 13,
-    );
+    )
 }
 
 // A number, or 64 where it is larger.
@@ -40,17 +43,24 @@ fn at_most_64(number: u64) -> usize
 }
 
 // Makes the row of a script with `a` words for answers and `room` words of a list.
-fn replay_script(store: &mut [u64], script: &[u64], a: usize, room: usize)
+fn replay_script(
+    rt: &impl Print,
+    store: &mut [u64],
+    script: &[u64],
+    a: usize,
+    room: usize,
+) -> io::Result<()>
     requires { (a ≤ 64) × (room ≤ 832) }
     ensures { store.new ≡ words_left store.old script.now (replicate a 0) (replicate room 0) }
 {
     let mut answers = [0u64; 64];
     let mut list = [0u64; 832];
     let answer = row_into(store, script, &mut answers, a, &mut list, room);
-    show_outcome(name::ROW, answer);
+    show_outcome(rt, name::ROW, answer)?;
     if answer % 256 == 0 {
-        show_calls(script, &answers, &list, answer / 256);
+        return show_calls(rt, script, &answers, &list, answer / 256);
     }
+    Ok(())
 }
 
 // A row that is lent the first `a` words for answers and the first `room` words of a list.
@@ -71,7 +81,13 @@ fn row_into(
 
 // The calls of a script, numbered from 1, of which there are `count`. The records of its pushes stand in
 // the list one push after the other.
-fn show_calls(script: &[u64], answers: &[u64], list: &[u64], count: u64) {
+fn show_calls(
+    rt: &impl Print,
+    script: &[u64],
+    answers: &[u64],
+    list: &[u64],
+    count: u64,
+) -> io::Result<()> {
     let mut call = 0;
     let mut at = 0;
     let mut used = 0;
@@ -79,30 +95,35 @@ fn show_calls(script: &[u64], answers: &[u64], list: &[u64], count: u64) {
         let name = name_of(word_or_zero(script, at));
         let answer = answers[call];
         call += 1;
-        show_call(call as u64, name, answer);
-        used = show_pushed(name, answer, list, used);
+        show_call(rt, call as u64, name, answer)?;
+        used = show_pushed(rt, name, answer, list, used)?;
         at = next_record(script, at);
     }
+    Ok(())
 }
 
 // A line: a call's number, and what it gave.
-fn show_call(number: u64, name: u64, answer: u64) {
-    io::write_all(STDOUT_FILENO, b"  ");
-    io::print_decimal(STDOUT_FILENO, number);
-    io::write_all(STDOUT_FILENO, b": ");
-    show_outcome(name, answer);
+fn show_call(rt: &impl Print, number: u64, name: u64, answer: u64) -> io::Result<()> {
+    print!(rt; "  {number}: ")?;
+    show_outcome(rt, name, answer)
 }
 
 // The records of a call, which stand from a place of the list on if it is a push that was done; answers
 // the place after them.
-fn show_pushed(name: u64, answer: u64, list: &[u64], from: usize) -> usize
+fn show_pushed(
+    rt: &impl Print,
+    name: u64,
+    answer: u64,
+    list: &[u64],
+    from: usize,
+) -> io::Result<usize>
     requires { from ≤ length list.now }
-    ensures { result ≤ length list.now }
+    ensures { IfOk result (λ at. at ≤ length list.now) }
 {
     if name == name::PUSH && answer % 256 == 0 {
-        return show_records(list, from, answer / 256);
+        return show_records(rt, list, from, answer / 256);
     }
-    from
+    Ok(from)
 }
 
 // Where the record after the one at a place begins: behind a kind, a count and as many words. The

@@ -1,170 +1,174 @@
-// What the runner prints of a call: the same words as reference/src/play.rs.
+// What the runner prints of a call: the same words as reference/src/play.rs. An error of a function
+// here is that of a write.
 #![tactic(auto)]
-ghost use Rattle.std.specs.Prelude.{◌+◌, ◌≤◌, length};
+
+ghost use Rattle.std.specs.Prelude.{◌+◌, ◌≤◌, length, IfOk};
 
 use cases_line::name::{ACK, CLOSE, FLOW, PUSH, ROW, SEEK};
-use libc::STDOUT_FILENO;
+use std::io;
 
 // Done and the value, or the refusal's number, and the end of the line.
-pub fn show_outcome(name: u64, answer: u64) {
+pub fn show_outcome(rt: &impl Print, name: u64, answer: u64) -> io::Result<()> {
     let number = answer % 256;
     if number == 0 {
-        io::write_all(STDOUT_FILENO, b"done");
-        show_value(name, answer / 256);
+        print!(rt; "done")?;
+        show_value(rt, name, answer / 256)?;
     } else {
-        show_field(b"refused ", number);
+        show_field(rt, "refused ", number)?;
         if number == 15 {
-            show_field(b", due ", answer / 256);
+            show_field(rt, ", due ", answer / 256)?;
         } else if number == 64 {
-            show_field(b", calls ", answer / 256);
+            show_field(rt, ", calls ", answer / 256)?;
         }
     }
-    io::write_all(STDOUT_FILENO, b"\n");
+    println!(rt)
 }
 
 // The value of a call that has one.
-fn show_value(name: u64, value: u64) {
+fn show_value(rt: &impl Print, name: u64, value: u64) -> io::Result<()> {
     if name == FLOW {
-        io::write_all(STDOUT_FILENO, b", permits ");
-        show_value_signed(value);
+        print!(rt; ", permits ")?;
+        show_value_signed(rt, value)
     } else if name == ACK {
-        show_field(b", mark_delete ", value / 2);
-        show_moved(value % 2);
+        show_field(rt, ", mark_delete ", value / 2)?;
+        show_moved(rt, value % 2)
     } else if name == SEEK {
-        show_field(b", cursor ", value);
+        show_field(rt, ", cursor ", value)
     } else if name == CLOSE {
-        show_field(b", closed ", value);
+        show_field(rt, ", closed ", value)
     } else if name == PUSH {
-        show_field(b", dispatches ", value);
+        show_field(rt, ", dispatches ", value)
     } else if name == ROW {
-        show_field(b", calls ", value);
+        show_field(rt, ", calls ", value)
+    } else {
+        Ok(())
     }
 }
 
 // Whether mark-delete moved.
-fn show_moved(moved: u64) {
+fn show_moved(rt: &impl Print, moved: u64) -> io::Result<()> {
     if moved == 1 {
-        io::write_all(STDOUT_FILENO, b" moved");
+        print!(rt; " moved")
     } else {
-        io::write_all(STDOUT_FILENO, b" not moved");
+        print!(rt; " not moved")
     }
 }
 
 // A value of an answer, which has 56 bits, as a signed number.
-fn show_value_signed(value: u64) {
+fn show_value_signed(rt: &impl Print, value: u64) -> io::Result<()> {
     if value < 36028797018963968 {
-        io::print_decimal(STDOUT_FILENO, value);
+        print!(rt; "{value}")
     } else {
-        show_field(b"-", 72057594037927936 - value % 72057594037927936);
+        show_field(rt, "-", 72057594037927936 - value % 72057594037927936)
     }
 }
 
 // Whether a push into records gave the same as the flat push.
-pub fn show_twin(same: bool) {
+pub fn show_twin(rt: &impl Print, same: bool) -> io::Result<()> {
     if same {
-        io::write_all(STDOUT_FILENO, b"  as records: the same\n");
+        println!(rt; "  as records: the same")
     } else {
-        io::write_all(STDOUT_FILENO, b"  as records: DIFFERENT\n");
+        println!(rt; "  as records: DIFFERENT")
     }
 }
 
 // The records from a place of a list on, a line each; answers the place after the last one.
-pub fn show_records(list: &[u64], from: usize, count: u64) -> usize
+pub fn show_records(rt: &impl Print, list: &[u64], from: usize, count: u64) -> io::Result<usize>
     requires { from ≤ length list.now }
-    ensures { result ≤ length list.now }
+    ensures { IfOk result (λ at. at ≤ length list.now) }
 {
     let mut at = from;
     let mut left = count;
     while left > 0 {
         if list.len() - at < 13 {
-            return at;
+            return Ok(at);
         }
-        show_record(list, at);
+        show_record(rt, list, at)?;
         at += 13;
         left -= 1;
     }
-    at
+    Ok(at)
 }
 
 // The record at a place of a list.
-fn show_record(list: &[u64], at: usize)
+fn show_record(rt: &impl Print, list: &[u64], at: usize) -> io::Result<()>
     requires { at + 13 ≤ length list.now }
 {
-    show_message(list, at);
-    show_ack_set(list, at);
-    show_field(b"] redelivery_count ", list[at + 10]);
-    show_field(b" cost ", list[at + 11]);
-    io::write_all(STDOUT_FILENO, b" permits ");
-    show_signed(list[at + 12]);
-    io::write_all(STDOUT_FILENO, b"\n");
+    show_message(rt, list, at)?;
+    show_ack_set(rt, list, at)?;
+    show_field(rt, "] redelivery_count ", list[at + 10])?;
+    show_field(rt, " cost ", list[at + 11])?;
+    print!(rt; " permits ")?;
+    show_signed(rt, list[at + 12])?;
+    println!(rt)
 }
 
 // Who is sent what.
-fn show_message(list: &[u64], at: usize)
+fn show_message(rt: &impl Print, list: &[u64], at: usize) -> io::Result<()>
     requires { at + 13 ≤ length list.now }
 {
-    show_field(b"  + ", list[at]);
-    show_field(b": id (", list[at + 1]);
-    show_field(b",", list[at + 2]);
-    show_field(b") handle ", list[at + 3]);
-    show_field(b" batch ", list[at + 4]);
+    show_field(rt, "  + ", list[at])?;
+    show_field(rt, ": id (", list[at + 1])?;
+    show_field(rt, ",", list[at + 2])?;
+    show_field(rt, ") handle ", list[at + 3])?;
+    show_field(rt, " batch ", list[at + 4])
 }
 
 // As many of the four ack set words as count.
-fn show_ack_set(list: &[u64], at: usize)
+fn show_ack_set(rt: &impl Print, list: &[u64], at: usize) -> io::Result<()>
     requires { at + 13 ≤ length list.now }
 {
-    io::write_all(STDOUT_FILENO, b" ack_set [");
+    print!(rt; " ack_set [")?;
     let count = list[at + 5];
     if count > 0 {
-        io::print_decimal(STDOUT_FILENO, list[at + 6]);
+        print!(rt; "{}", list[at + 6])?;
     }
     if count > 1 {
-        show_field(b", ", list[at + 7]);
+        show_field(rt, ", ", list[at + 7])?;
     }
     if count > 2 {
-        show_field(b", ", list[at + 8]);
+        show_field(rt, ", ", list[at + 8])?;
     }
     if count > 3 {
-        show_field(b", ", list[at + 9]);
+        show_field(rt, ", ", list[at + 9])?;
     }
+    Ok(())
 }
 
 // A word of 64 bits as a signed number.
-fn show_signed(w: u64) {
+fn show_signed(rt: &impl Print, w: u64) -> io::Result<()> {
     if w < 9223372036854775808 {
-        io::print_decimal(STDOUT_FILENO, w);
+        print!(rt; "{w}")
     } else {
-        show_field(b"-", 18446744073709551615 - w + 1);
+        show_field(rt, "-", 18446744073709551615 - w + 1)
     }
 }
 
 // How many dispatchers there are, and the end of the line.
-pub fn show_count(dispatchers: u64) {
-    show_field(b"dispatchers ", dispatchers);
-    io::write_all(STDOUT_FILENO, b"\n");
+pub fn show_count(rt: &impl Print, dispatchers: u64) -> io::Result<()> {
+    show_field(rt, "dispatchers ", dispatchers)?;
+    println!(rt)
 }
 
 // A line: a dispatcher, its balance check and its total, both in excess form.
-pub fn show_balance(dispatcher: u64, balance: u64, total: u64) {
-    show_field(b"  + dispatcher ", dispatcher);
-    show_permits(b": balance ", balance);
-    show_permits(b" total ", total);
-    io::write_all(STDOUT_FILENO, b"\n");
+pub fn show_balance(rt: &impl Print, dispatcher: u64, balance: u64, total: u64) -> io::Result<()> {
+    show_field(rt, "  + dispatcher ", dispatcher)?;
+    show_permits(rt, ": balance ", balance)?;
+    show_permits(rt, " total ", total)?;
+    println!(rt)
 }
 
 // A label and permits in excess form.
-fn show_permits(label: &[u8], permits: u64) {
-    io::write_all(STDOUT_FILENO, label);
+fn show_permits(rt: &impl Print, label: &str, permits: u64) -> io::Result<()> {
+    print!(rt; "{label}")?;
     if permits < 4611686018427387904 {
-        show_field(b"-", 4611686018427387904 - permits);
+        show_field(rt, "-", 4611686018427387904 - permits)
     } else {
-        io::print_decimal(STDOUT_FILENO, permits - 4611686018427387904);
+        print!(rt; "{}", permits - 4611686018427387904)
     }
 }
 
 // A label and a number.
-fn show_field(label: &[u8], value: u64) {
-    io::write_all(STDOUT_FILENO, label);
-    io::print_decimal(STDOUT_FILENO, value);
+fn show_field(rt: &impl Print, label: &str, value: u64) -> io::Result<()> {
+    print!(rt; "{label}{value}")
 }

@@ -1,6 +1,7 @@
 // A push into records beside the flat push: the same answer, the same words left in the store and in the
 // flat list, and the same dispatches.
 #![tactic(auto)]
+
 ghost use Rattle.std.specs.Prelude.{◌≡◌, ◌≤◌, length};
 ghost use Rattle.layout.specs.Calls.{outcome, answer, after};
 ghost use Rattle.push_records.specs.Listed.{listed};

@@ -1,7 +1,7 @@
 -- Topics whose ids ascend are valid ones, and what is known of their order.
 use mathlib.Core.Path.{◌≡◌, refl, sym, ap, ◌∙◌}
-use mathlib.Core.Bool.{true, false, ◌&&◌, and-eq-true_iff}
-use mathlib.Core.List.{List, map}
+use mathlib.Core.Bool.{true, false, and-eq-true_iff}
+use mathlib.Core.List.{List}
 use Prim.Native.Nat.{ℕ, ◌+◌, ◌*◌, ◌<◌}
 use native.Mathlib.Omega.{arith}
 use lib.Dec.{eqb, leb, ltb}

@@ -1,6 +1,7 @@
 // Close: a consumer goes, and if it is shared its dispatcher is left by it. An id that is not live is done,
 // and none is closed.
 #![tactic(auto)]
+
 mod leave;
 
 ghost use Rattle.std.specs.Prelude.{◌≡◌, true, not, ◌≤◌, ◌<◌, eqb, length};

@@ -1,13 +1,11 @@
 -- The words of a consumer's record as the code reads and writes them.
 use mathlib.Core.Path.{◌≡◌, refl}
-use mathlib.Core.Bool.{Bool, true, false}
+use mathlib.Core.Bool.{true, false}
 use mathlib.Core.List.{List, []}
 use Prim.Native.Nat.{ℕ, ◌+◌, ◌-◌}
 use native.Mathlib.Omega.{arith}
-use lib.Dec.{eqb}
 use lib.ListN.{length, set}
 use Rattle.words.specs.Act.{clear}
-use Rattle.words.specs.Codec.{bit}
 use Rattle.rules.specs.State.{Kind}
 use Rattle.rules.specs.State.Kind.{plain, shared}
 use Rattle.rules.specs.Commands.{with_reading}

@@ -1,7 +1,7 @@
 -- What completion leads to: the complete entries of a consumer dropped in one pass, and mark-delete advanced.
-use mathlib.Core.Path.{◌≡◌, refl, sym, ap, ◌∙◌, subst}
-use mathlib.Core.Bool.{Bool, true, false, cond, not, ◌&&◌}
-use mathlib.Core.List.{List, [], ◌∷◌, ◌++◌}
+use mathlib.Core.Path.{◌≡◌, sym, ap, ◌∙◌}
+use mathlib.Core.Bool.{Bool, true, false, not, ◌&&◌}
+use mathlib.Core.List.{List}
 use Prim.Native.Nat.{ℕ, suc, ◌+◌, ◌≤◌, ◌<◌}
 use native.Mathlib.Omega.{arith}
 use native.Mathlib.Numerals.{add-one}
@@ -9,7 +9,7 @@ use lib.Dec.{eqb}
 use lib.ListN.{length, get_or, set, take, drop, drop_of_length-le, length-set, length-take}
 use lib.Seq.{drop-cons}
 use Rattle.rules.specs.Table.{keep}
-use Rattle.rules.specs.State.{Held, Mark, Dispatcher, State, new_mark}
+use Rattle.rules.specs.State.{Held, Mark, Dispatcher, new_mark}
 use Rattle.head.specs.declared.Head as numbers
 use Rattle.head.specs.Moves.{advanced}
 use Rattle.dispatcher.specs.Values.{head_of, with_head}
@@ -20,7 +20,6 @@ use Rattle.layout.specs.Fields.{zero_held, dispatcher_nth, set_dispatcher}
 use Rattle.layout.specs.Placed.{DispatcherIn}
 use Rattle.operation_laws.proofs.Frame.{every_nth}
 use Rattle.operation_laws.proofs.Moved.{Moved, moved_start, moved_on}
-use Rattle.dispatcher.specs.Held.{held_of}
 use Rattle.dispatcher.specs.Completion.{Marked}
 use Rattle.dispatcher.proofs.Keeping.{Thinning, thinning_start, thinning_nth, thinning_length, thinning_keep, thinning_skip, thinning_end}
 

@@ -9,15 +9,14 @@ use lib.ListN.{length, get_or, set, take, drop}
 use Rattle.words.specs.Codec.{bit}
 use Rattle.words.specs.Act.{up, lay, clear, both}
 use Rattle.words.proofs.Lists.{writes_keep}
-use Rattle.bits.specs.declared.UnackedBits.{UnackedBits}
-use Rattle.rules.specs.State.{Id, Mark, Dispatcher, State, new_mark}
+use Rattle.rules.specs.State.{Id, Dispatcher, new_mark}
 use Rattle.rules.specs.Ledger.{after_id, insert_id}
-use Rattle.rules.specs.Dispatcher.{of_parts, with_next, with_cursor, with_mark_delete, with_total, with_places, with_marks, mark_at, complete_at}
+use Rattle.rules.specs.Dispatcher.{with_next, with_cursor, with_mark_delete, with_total, with_places, with_marks, mark_at, complete_at}
 use Rattle.rules.proofs.Table.{by_test}
 use Rattle.layout.specs.Records.{held_codec}
 use Rattle.layout.specs.Layout.{decode, put}
 use Rattle.layout.specs.Offsets.{dispatcher_at, outside_id_in, mark_in, flight_in, held_in}
-use Rattle.layout.specs.Fields.{zero_held, dispatcher_nth, set_dispatcher}
+use Rattle.layout.specs.Fields.{dispatcher_nth, set_dispatcher}
 use Rattle.layout.specs.Placed.{DispatcherIn}
 use Rattle.layout.specs.Whole.{ShapedDispatcher}
 use Rattle.layout.proofs.Store.{canon_entries}

@@ -1,5 +1,6 @@
 // Flow: a grant joins the permits of a consumer and, if it is shared, of its dispatcher.
 #![tactic(auto)]
+
 ghost use Rattle.std.specs.Prelude.{◌≡◌, true, ◌+◌, ◌≤◌, ◌<◌, ◌^◌};
 ghost use Rattle.rules.specs.Permits.{most_permits};
 ghost use Rattle.rules.specs.State.Kind.{shared};

@@ -6,7 +6,7 @@ use Prim.Native.Nat.{ℕ, ◌+◌, ◌≤◌, ◌<◌}
 use native.Mathlib.Nat.{add-zero}
 use native.Mathlib.Omega.{arith}
 use lib.ListN.{length, get_or, set}
-use Rattle.words.specs.Codec.{word, pair, bit}
+use Rattle.words.specs.Codec.{word, bit}
 use Rattle.words.specs.Field.{Reads}
 use Rattle.words.proofs.Each.{all_get_d}
 use Rattle.words.proofs.Field.{reads_left, reads_via}

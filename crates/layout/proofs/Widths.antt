@@ -2,7 +2,7 @@
 use mathlib.Core.Path.{◌≡◌, ◌∙◌}
 use Prim.Native.Nat.{ℕ, ◌+◌, ◌*◌}
 use native.Mathlib.Omega.{arith}
-use Rattle.words.specs.Codec.{word, pair, via, upto}
+use Rattle.words.specs.Codec.{word, upto}
 use Rattle.words.proofs.Width.{width_word, width_flag, width_zeros, width_pair, width_via, width_upto}
 use Rattle.layout.specs.Records.{as_id, id_codec, as_message, message_codec, as_bits, bits_codec, as_mark, mark_codec, as_held, held_codec, as_pair, pair_codec, as_kind, kind_codec, as_consumer, consumer_codec, as_topic, topic_codec, as_dispatcher, dispatcher_codec}
 

@@ -1,7 +1,7 @@
 -- The state in words. A header of 16 words says the layout and E; the body's blocks depend on E, and the whole takes
 -- exactly the needed words. `decode` reads any words, `encode` gives the one spelling of a state, and `spells` says which
 -- words are a state's spelling: long enough, spelt exactly so, and valid.
-use Rattle.std.specs.Prelude.{ℕ, ◌+◌, ◌*◌, min, max, refl, Bool, ◌&&◌, List, ◌++◌, leb, length, drop}
+use Rattle.std.specs.Prelude.{ℕ, min, max, refl, Bool, ◌&&◌, List, ◌++◌, leb, length, drop}
 use Rattle.words.specs.Words.{starts}
 use Rattle.words.specs.Codec.{Codec, Change, word, zeros, pair, via, flag, tag, upto}
 use Rattle.rules.specs.State.{Topic, Consumer, Dispatcher, State, state_with}

@@ -1,7 +1,7 @@
 -- What code that works on one record of a store may take for granted: the store is spelt as it should be, the record is
 -- there, and all its words lie before the words reserved at the end. Every index and every sum of code follows from these
 -- numbers.
-use Rattle.std.specs.Prelude.{ℕ, ◌+◌, ◌*◌, ◌≤◌, ◌<◌, List, length}
+use Rattle.std.specs.Prelude.{ℕ, ◌+◌, ◌≤◌, ◌<◌, List, length}
 use Rattle.layout.specs.Layout.{decode}
 use Rattle.layout.specs.Whole.{ShapedDispatcher}
 use Rattle.layout.specs.Canon.{CanonStore}

@@ -2,10 +2,10 @@
 -- carries along.
 use mathlib.Core.Path.{◌≡◌, refl, sym, ap, ◌∙◌}
 use mathlib.Core.List.{List}
-use Prim.Native.Nat.{ℕ, ◌<◌}
+use Prim.Native.Nat.{ℕ}
 use lib.ListN.{length}
 use lib.Seq.{set-get_or}
-use Rattle.rules.specs.State.{Dispatcher, State, with_dispatchers}
+use Rattle.rules.specs.State.{Dispatcher, with_dispatchers}
 use Rattle.layout.specs.Layout.{decode, put}
 use Rattle.layout.specs.Whole.{ShapedDispatcher}
 use Rattle.layout.specs.Fields.{zero_dispatcher, dispatcher_nth, set_dispatcher}

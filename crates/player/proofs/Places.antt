@@ -6,32 +6,36 @@ use native.Mathlib.Omega.{arith}
 use lib.ListN.{length, take, drop, length-drop}
 use lib.Seq.{length-take-le}
 use Rattle.trace_lines.specs.Told.{lines_bytes}
-use Rattle.trace_step.specs.declared.Did as did
 use Rattle.trace_step.specs.declared.Did.TheVariants as done
 use Rattle.trace_step.specs.Stepped.{Within}
 use Rattle.player.specs.declared.place.Place as place
 use Rattle.player.specs.declared.place.Turn as declared
 use Rattle.player.specs.declared.place.Turn.TheVariants as variants
-use Rattle.player.specs.Places.{held_bytes, Placed, Goes_on, WentOn}
+use Rattle.player.specs.Places.{held_bytes, out_bytes, Placed, GoesOn, WentOn}
 
 -- the length of a part
-pub part_length : (l : List ℕ) (from to : ℕ) → from ≤ to → to ≤ length l → length (take (to - from) (drop from l)) ≡ to - from
+part_length : (l : List ℕ) (from to : ℕ) → from ≤ to → to ≤ length l → length (take (to - from) (drop from l)) ≡ to - from
 part_length l from to h g = let d = length-drop from l in length-take-le (to - from) (drop from l) (omega arith)
 
--- a step that went on took what is there, and wrote what it may
-pub went_within : {size written : ℕ} {r : did.Did} (n : ℕ) → Within n r → r ≡ done.Went size written → (size ≤ n) × (written ≤ lines_bytes)
+-- a step that went on took what lies in the part held, and wrote what it may
+pub went_within : {size written : ℕ} (l : List ℕ) (from to : ℕ) → from ≤ to → to ≤ length l
+    → Within (length (take (to - from) (drop from l))) (done.Went size written) → (size ≤ to - from) × (written ≤ lines_bytes)
 unfolding Within
-went_within n h e = subst (Within n) e h
+went_within l from to h g w = let e = part_length l from to h g in (omega (arith, w.0, e), w.1)
 
--- and so did one that was bad
-pub bad_within : {written : ℕ} {r : did.Did} (n : ℕ) → Within n r → r ≡ done.Bad written → written ≤ lines_bytes
+-- and one that was bad wrote what it may
+pub bad_within : {written : ℕ} (n : ℕ) → Within n (done.Bad written) → written ≤ lines_bytes
 unfolding Within
-bad_within n h e = subst (Within n) e h
+bad_within n h = h
+
+-- which finds room behind the lines that are kept
+pub kept : (n filled written : ℕ) → n ≡ out_bytes → filled + lines_bytes ≤ out_bytes → written ≤ lines_bytes → filled + written ≤ n
+kept n filled written e h w = omega arith
 
 -- after a step the player goes on
 pub goes_on : (from to before after : ℕ) (r : declared.Turn) → from ≤ to → to ≤ held_bytes → after ≤ before + 1
-    → WentOn from to after r → Goes_on before r
-unfolding WentOn Goes_on
+    → WentOn from to after r → GoesOn before r
+unfolding WentOn GoesOn
 goes_on from to before after (variants.On p) h g k w =
     let a = w.0 in
     let b = w.1 in
@@ -39,7 +43,7 @@ goes_on from to before after (variants.On p) h g k w =
 goes_on from to before after variants.Over h g k w = tt
 
 -- the place of a turn that goes on
-pub next_place : {r : declared.Turn} {p : place.Place} (number : ℕ) → Goes_on number r → r ≡ variants.On p
+pub next_place : {r : declared.Turn} {p : place.Place} (number : ℕ) → GoesOn number r → r ≡ variants.On p
     → Placed p × (p.number ≤ number + 1)
-unfolding Goes_on
-next_place number h e = subst (Goes_on number) e h
+unfolding GoesOn
+next_place number h e = subst (GoesOn number) e h

@@ -21,9 +21,9 @@ pub record Placed (p : place.Place) : Type 0 where
   pub space : p.filled + lines_bytes ≤ out_bytes
 
 -- after a turn: done, or such a place, at most one record further
-unfoldable pub Goes_on : ℕ → declared.Turn → Type 0
-Goes_on number (variants.On p) = Placed p × (p.number ≤ number + 1)
-Goes_on number variants.Over = Unit {0}
+unfoldable pub GoesOn : ℕ → declared.Turn → Type 0
+GoesOn number (variants.On p) = Placed p × (p.number ≤ number + 1)
+GoesOn number variants.Over = Unit {0}
 
 -- after a step: done, or the same bytes held and the same number, with room for another step
 unfoldable pub WentOn : ℕ → ℕ → ℕ → declared.Turn → Type 0

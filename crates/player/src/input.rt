@@ -2,7 +2,7 @@
 // moved to the front. So a byte is moved at most once for each block, however short the pieces are that a pipe delivers.
 ghost use Rattle.std.specs.Prelude.{◌+◌, ◌≤◌, length};
 
-use libc::STDIN_FILENO;
+use std::io::Read;
 
 // Makes room behind the bytes held, and answers where they start.
 pub(crate) fn make_room(held: &mut [u8], from: usize, to: usize) -> usize
@@ -21,11 +21,13 @@ pub(crate) fn make_room(held: &mut [u8], from: usize, to: usize) -> usize
 }
 
 // Reads what there is of the input, as far as there is room from a place on, and answers how many bytes these are: 0 at its
-// end.
-pub(crate) fn read_more(held: &mut [u8], to: usize) -> usize
+// end, and where the read fails.
+pub(crate) fn read_more(input: &mut impl Read, held: &mut [u8], to: usize) -> usize
     requires { to ≤ length held.old }
     ensures { to + result ≤ length held.old }
 {
-    let got = libc::read(STDIN_FILENO, &mut held[to..]);
-    io::count(got, &held[to..])
+    match input.read(&mut held[to..]) {
+        Ok(got) => got,
+        Err(_) => 0,
+    }
 }

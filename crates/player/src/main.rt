@@ -3,16 +3,17 @@
 // steps are those of `trace_step`, on a store of E = 32 with both switches off; what is read and written is tested and not
 // proved. A read that fails counts as the end of the input; where a write fails, the player stops.
 #![tactic(auto)]
+
 mod input;
 mod place;
 
 ghost use Rattle.std.specs.Prelude.{◌≡◌, true, ◌+◌, ◌≤◌, ◌<◌, ◌^◌, length};
 ghost use Rattle.layout.specs.Layout.{spells};
-ghost use Rattle.player.specs.Places.{held_bytes, out_bytes, Placed, WentOn, Goes_on};
+ghost use Rattle.player.specs.Places.{held_bytes, out_bytes, Placed, WentOn, GoesOn};
 
 use crate::input::{make_room, read_more};
 use crate::place::{Place, Turn};
-use libc::STDOUT_FILENO;
+use std::io::Read;
 use store::offsets::{NEEDED_WORDS, NEEDED_WORDS_E};
 use store::open::open;
 use trace_lines::LINES_BYTES;
@@ -32,16 +33,17 @@ const HELD_BYTES: usize = MOST_BYTES + BLOCK_BYTES;
 const OUT_BYTES: usize = 65_536;
 
 // Opens the store and plays.
-fn main() {
+fn main(rt: HostRuntime) {
     let mut store = [0u64; STORE_WORDS];
     open(&mut store, ENTRIES as u64, 0, 0);
-    play(&mut store);
+    play(&rt, &mut store);
 }
 
 // Plays the input to its end. The turns are counted down from a number that no input reaches, since a proved loop has to end.
-fn play(store: &mut [u64])
+fn play(rt: &(impl Input + Print), store: &mut [u64])
     requires { spells store.old ≡ true }
 {
+    let mut input = rt.reader();
     let mut held = [0u8; HELD_BYTES];
     let mut out = [0u8; OUT_BYTES];
     let mut place = Place {
@@ -52,7 +54,7 @@ fn play(store: &mut [u64])
     };
     let mut turns = 18446744073709551615u64;
     while turns > 0 {
-        let Turn::On(next) = turn(store, &mut held, &mut out, place) else {
+        let Turn::On(next) = turn(rt, &mut input, store, &mut held, &mut out, place) else {
             return;
         };
         place = next;
@@ -61,10 +63,17 @@ fn play(store: &mut [u64])
 }
 
 // One step, or the next block where what is held is cut off.
-fn turn(store: &mut [u64], held: &mut [u8], out: &mut [u8], place: Place) -> Turn
+fn turn(
+    rt: &impl Print,
+    input: &mut impl Read,
+    store: &mut [u64],
+    held: &mut [u8],
+    out: &mut [u8],
+    place: Place,
+) -> Turn
     requires { (spells store.old ≡ true) × (length held.old ≡ held_bytes) × (length out.old ≡ out_bytes)
         × Placed place × (place.number + 1 < 2 ^ 64) }
-    ensures { (spells store.new ≡ true) × Goes_on place.number result }
+    ensures { (spells store.new ≡ true) × GoesOn place.number result }
 {
     let from = place.from;
     let to = place.to;
@@ -72,23 +81,23 @@ fn turn(store: &mut [u64], held: &mut [u8], out: &mut [u8], place: Place) -> Tur
     let filled = place.filled;
     let did = step(store, number, &held[from..to], &mut out[filled..]);
     match did {
-        Did::Went(size, written) => went(out, from + size, to, number + 1, filled + written),
-        Did::Waits => wait(held, out, from, to, number, filled),
+        Did::Went(size, written) => went(rt, out, from + size, to, number + 1, filled + written),
+        Did::Waits => wait(rt, input, held, out, from, to, number, filled),
         Did::Bad(written) => {
             let end = filled + written;
-            io::write_all(STDOUT_FILENO, &out[..end]);
+            let _ = rt.write_all(&out[..end]);
             Turn::Over
         }
     }
 }
 
 // After a step: where the lines of another might not find room, all are printed.
-fn went(out: &[u8], from: usize, to: usize, number: u64, filled: usize) -> Turn
+fn went(rt: &impl Print, out: &[u8], from: usize, to: usize, number: u64, filled: usize) -> Turn
     requires { (length out.now ≡ out_bytes) × (filled ≤ out_bytes) }
     ensures { WentOn from to number result }
 {
     if out.len() - filled < LINES_BYTES {
-        if !io::write_all(STDOUT_FILENO, &out[..filled]) {
+        if rt.write_all(&out[..filled]).is_err() {
             return Turn::Over;
         }
         return Turn::On(Place {
@@ -107,20 +116,29 @@ fn went(out: &[u8], from: usize, to: usize, number: u64, filled: usize) -> Turn
 }
 
 // What is held is cut off: all lines are printed before more is read. At the end of the input the last line may be bad.
-fn wait(held: &mut [u8], out: &mut [u8], from: usize, to: usize, number: u64, filled: usize) -> Turn
+fn wait(
+    rt: &impl Print,
+    input: &mut impl Read,
+    held: &mut [u8],
+    out: &mut [u8],
+    from: usize,
+    to: usize,
+    number: u64,
+    filled: usize,
+) -> Turn
     requires { (length held.old ≡ held_bytes) × (length out.old ≡ out_bytes) × (from ≤ to) × (to ≤ held_bytes)
         × (filled ≤ out_bytes) }
-    ensures { Goes_on number result }
+    ensures { GoesOn number result }
 {
-    if !io::write_all(STDOUT_FILENO, &out[..filled]) {
+    if rt.write_all(&out[..filled]).is_err() {
         return Turn::Over;
     }
     let start = make_room(held, from, to);
     let end = start + (to - from);
-    let got = read_more(held, end);
+    let got = read_more(input, held, end);
     if got == 0 {
         let written = finish(number, &held[start..end], out);
-        io::write_all(STDOUT_FILENO, &out[..written]);
+        let _ = rt.write_all(&out[..written]);
         return Turn::Over;
     }
     Turn::On(Place {

@@ -2,6 +2,7 @@
 // has if it has room for all entries that wait; else the number due is counted first, on local numbers,
 // and 15 is answered with it before the first write if the list has no room for as many.
 #![tactic(auto)]
+
 mod bound;
 
 ghost use Rattle.std.specs.Prelude.{◌≡◌, true, ◌*◌, ◌/◌, ◌≤◌, length};

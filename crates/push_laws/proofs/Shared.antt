@@ -1,19 +1,19 @@
 -- The shared part of a push is the services of its dispatchers, one after the other, applied.
-use mathlib.Core.Path.{◌≡◌, refl, sym, ap, ap₂, ◌∙◌, subst, fun_ext}
-use mathlib.Core.Bool.{Bool, true, false, cond}
+use mathlib.Core.Path.{◌≡◌, refl, sym, ap, ap₂, ◌∙◌, fun_ext}
+use mathlib.Core.Bool.{true, false}
 use mathlib.Core.List.Memᴰ
 use mathlib.Core.List.{List, [], ◌∷◌, ◌++◌, map, append_assoc, append-nil, Memᴰ}
 use mathlib.Core.Logic.{⊎_elim}
-use mathlib.Core.Option.{Option, none, some}
-use Prim.Native.Nat.{ℕ, zero, suc, ◌+◌, ◌-◌}
-use lib.ListN.{length, get_or, drop, length-map}
+use mathlib.Core.Option.{some}
+use Prim.Native.Nat.{ℕ, suc, ◌+◌, ◌-◌}
+use lib.ListN.{length, length-map}
 use Rattle.rules.specs.Table.{Key, find, put, or_else, Every, Distinct}
-use Rattle.rules.specs.State.{Pair, same_pair, Consumer, Held, Dispatcher, State, by_id, by_pair, topic_of, ledger_of, dispatcher_of, dispatcher, with_tables, with_consumers, with_dispatchers, put_dispatcher}
+use Rattle.rules.specs.State.{same_pair, Consumer, Held, Dispatcher, State, by_id, by_pair, topic_of, ledger_of, dispatcher_of, dispatcher, with_tables, with_consumers, with_dispatchers, put_dispatcher}
 use Rattle.rules.specs.Valid.{Ascending}
 use Rattle.rules.specs.Dispatcher.{of_parts}
 use Rattle.rules.specs.Outcome.{Dispatch}
 use Rattle.rules.specs.Push.{Pushed, turns, shared_turn, serve_dispatcher, serve_each, push_pending_shared}
-use Rattle.rules.proofs.Table.{by_test, Decides, turned_round}
+use Rattle.rules.proofs.Table.{turned_round}
 use Rattle.rules.proofs.State.{decides_pairs}
 use Rattle.rules.proofs.Kept.Every.{every_snoc}
 use Rattle.layout.specs.Fields.{zero_consumer}
@@ -21,7 +21,7 @@ use Rattle.store.specs.Find.{slot}
 use Rattle.push_laws.specs.Local.{Fixed, Local, Step, Steps, local_turns, fixed_of, local_of, turns_of, served}
 use Rattle.push_laws.specs.Applied.{with_each, record_to, record_of, held_of, applied_dispatcher, applied}
 use Rattle.push_laws.specs.Shared.{Service, services, permits_left, service_records, all_service_records, served_dispatcher, served_state}
-use Rattle.push_laws.proofs.Each.{length_each, slot_each, permits_each, each_own, each_each, id_each, ascending_each}
+use Rattle.push_laws.proofs.Each.{length_each, slot_each, each_own, each_each, id_each, ascending_each}
 use Rattle.push_laws.proofs.Turns.{turns_sized, turns_same}
 
 -- ---- a row in the middle of a table

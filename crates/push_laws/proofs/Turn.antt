@@ -1,33 +1,32 @@
 -- One turn of the rules on a state with a service applied so far is one turn on the numbers, applied.
 use mathlib.Core.Path.{◌≡◌, refl, sym, ap, ap₂, ◌∙◌, subst}
-use mathlib.Core.Bool.{Bool, true, false, cond, not, ◌||◌, true≢false}
+use mathlib.Core.Bool.{true, false, not, ◌||◌, true≢false}
 use mathlib.Core.List.{List, [], ◌∷◌, ◌++◌, map, append_assoc}
 use mathlib.Core.Option
 use mathlib.Core.Option.{Option, none, some}
-use Prim.Native.Nat.{ℕ, zero, suc, ◌+◌, ◌-◌, ◌≤◌, ◌<◌}
+use Prim.Native.Nat.{ℕ, zero, suc, ◌-◌, ◌≤◌, ◌<◌}
 use native.Mathlib.Omega.{arith}
-use lib.Dec.{eqb, ltb}
-use lib.ListN.{length, get_or, set, take, drop, length-set, length-map, get_or-eq_default, drop_of_length-le}
+use lib.Dec.{ltb}
+use lib.ListN.{length, get_or, set, take, drop, length-map, get_or-eq_default, drop_of_length-le}
 use lib.Seq.{drop-cons}
 use borrow.Author.Tests.{ltb-true, ltb-false}
-use Rattle.rules.specs.Permits.{zero_permits, above_zero}
+use Rattle.rules.specs.Permits.{above_zero}
 use Rattle.rules.specs.Table.{is_empty}
-use Rattle.rules.specs.State.{Pair, same_pair, Consumer, Held, Dispatcher, State, by_id, by_pair, topic_of, consumer_of, ledger_of, dispatcher, insert, with_consumers, with_dispatchers, put_consumer, put_dispatcher}
+use Rattle.rules.specs.State.{Consumer, Held, Dispatcher, State, by_id, by_pair, topic_of, consumer_of, ledger_of, dispatcher, insert, with_consumers, with_dispatchers, put_consumer, put_dispatcher}
 use Rattle.rules.specs.Valid.{Ascending}
-use Rattle.rules.specs.Ledger.{message_at}
-use Rattle.rules.specs.Dispatcher.{of_parts, with_next, with_cursor, with_total, with_places, mark_at, dispatch_gate_open, cost}
+use Rattle.rules.specs.Dispatcher.{of_parts, with_next, with_cursor, with_total, with_places, mark_at, dispatch_gate_open}
 use Rattle.rules.specs.Commands.{with_permits}
 use Rattle.rules.specs.Push.{Turn, Choice, choose_ready, first_ready, choose, slot_after, dispatch_of, hand_out, hand_out_next, serve_choice, shared_turn}
 use Rattle.rules.specs.Push.Turn.{halt, sent}
-use Rattle.rules.proofs.Table.{by_test, put_put, Decides}
+use Rattle.rules.proofs.Table.{by_test, put_put}
 use Rattle.rules.proofs.State.{decides_pairs, dispatcher_put}
 use Rattle.layout.specs.Fields.{zero_consumer, consumer_nth}
 use Rattle.store.specs.Find.{slot}
-use Rattle.store.proofs.Finding.{slot_found, slot_none, slot_le}
-use Rattle.push_laws.specs.Local.{Fixed, Local, Step, Place, LocalTurn, first_with_permits, choose_place, price_of, hand_over, take_entry, serve_place, local_turn, fixed_of}
+use Rattle.store.proofs.Finding.{slot_found, slot_none}
+use Rattle.push_laws.specs.Local.{Local, Step, Place, LocalTurn, first_with_permits, choose_place, price_of, hand_over, take_entry, serve_place, local_turn, fixed_of}
 use Rattle.push_laws.specs.Local.LocalTurn.{stop, move}
 use Rattle.push_laws.specs.Applied.{with_each, record_to, record_of, held_of, applied_dispatcher, applied}
-use Rattle.operation_laws.proofs.Frame.{insert_found, slot_key}
+use Rattle.operation_laws.proofs.Frame.{insert_found}
 use Rattle.push_laws.proofs.Each.{length_each, slot_each, nth_each, set_each, ascending_each, slot_own}
 
 -- a turn on the numbers, applied to a state

@@ -1,24 +1,21 @@
 -- The turns of a dispatcher's service are the turns on the numbers, applied.
-use mathlib.Core.Path.{◌≡◌, refl, sym, ap, ap₂, ◌∙◌, subst}
-use mathlib.Core.Bool.{Bool, true, false, cond, not, ◌||◌}
+use mathlib.Core.Path.{◌≡◌, refl, sym, ap, ◌∙◌}
+use mathlib.Core.Bool.{not, ◌||◌}
 use mathlib.Core.List.{List, [], ◌∷◌, ◌++◌, map, append_assoc, append-nil}
 use mathlib.Core.Option.{Option, none, some}
-use Prim.Native.Nat.{ℕ, zero, suc, ◌+◌, ◌-◌, ◌≤◌, ◌<◌}
-use native.Mathlib.Omega.{arith}
+use Prim.Native.Nat.{ℕ, zero, suc}
 use lib.Dec.{ltb}
-use lib.ListN.{length, get_or, set, take, drop, length-set}
+use lib.ListN.{length, length-set}
 use Rattle.rules.specs.Permits.{above_zero}
-use Rattle.rules.specs.Table.{Key, find, put, is_empty}
-use Rattle.rules.specs.State.{Pair, Consumer, Held, Dispatcher, State, by_pair, dispatcher_of, dispatcher, with_consumers, put_dispatcher, with_dispatchers}
+use Rattle.rules.specs.Table.{is_empty}
+use Rattle.rules.specs.State.{Held, Dispatcher, State}
 use Rattle.rules.specs.Valid.{Ascending}
 use Rattle.rules.specs.Outcome.{Dispatch}
 use Rattle.rules.specs.Push.{Turn, Pushed, after_turn, turns, shared_turn}
-use Rattle.rules.specs.Push.Turn.{halt, sent}
 use Rattle.rules.proofs.Table.{by_test}
-use Rattle.push_laws.specs.Local.{Fixed, Local, Step, Place, LocalTurn, Steps, choose_place, hand_over, take_entry, serve_place, local_turn, then_turns, local_turns, fixed_of, local_of}
+use Rattle.push_laws.specs.Local.{Fixed, Local, Place, LocalTurn, Steps, choose_place, hand_over, take_entry, serve_place, local_turn, then_turns, local_turns, fixed_of}
 use Rattle.push_laws.specs.Local.LocalTurn.{stop, move}
-use Rattle.push_laws.specs.Applied.{with_each, record_of, held_of, applied_dispatcher, applied}
-use Rattle.push_laws.proofs.Each.{each_own}
+use Rattle.push_laws.specs.Applied.{record_of, held_of, applied}
 use Rattle.push_laws.proofs.Turn.{lifted, turn_same}
 
 -- ---- a turn keeps the number of permits

@@ -2,16 +2,15 @@
 use mathlib.Core.Path.{◌≡◌, refl, sym, ap, ap₂, ◌∙◌}
 use mathlib.Core.List.Memᴰ
 use mathlib.Core.List.{List, [], ◌∷◌, ◌++◌, map}
-use Prim.Native.Nat.{ℕ, suc}
-use lib.ListN.{drop, get_or}
-use Rattle.rules.specs.Table.{Distinct}
-use Rattle.rules.specs.State.{same_pair, Consumer, Dispatcher, State, topic_of, ledger_of, with_tables}
+use Prim.Native.Nat.{ℕ}
+use lib.ListN.{drop}
+use Rattle.rules.specs.State.{Consumer, Dispatcher, State, topic_of, ledger_of, with_tables}
 use Rattle.rules.specs.Valid.{Ascending, Valid}
 use Rattle.rules.specs.Commands.{with_permits}
 use Rattle.rules.specs.Outcome.{Dispatch}
 use Rattle.rules.specs.Push.{Pushed, serve_each, serve_plain, push_pending_shared, push_pending}
 use Rattle.push_laws.specs.Applied.{with_each}
-use Rattle.push_laws.specs.Shared.{services, permits_left, all_service_records, served_dispatcher, served_state}
+use Rattle.push_laws.specs.Shared.{permits_left, all_service_records, served_dispatcher, served_state}
 use Rattle.push_laws.specs.Plain.{plain_due, plain_records, ledger_for, plain_served, all_plain_records}
 use Rattle.push_laws.specs.Whole.{permits_now, services_of, charged_consumers, local_push}
 use Rattle.push_laws.proofs.Each.{ascending_each}

@@ -1,10 +1,10 @@
 -- A dispatcher that obeys the rules can be served, and there is room for all that its service puts in flight.
 use mathlib.Core.Path.{◌≡◌}
-use mathlib.Core.List.{List, [], ◌∷◌, ◌++◌, map}
+use mathlib.Core.List.{List, ◌++◌, map}
 use Prim.Native.Nat.{ℕ, ◌+◌, ◌-◌, ◌≤◌}
 use native.Mathlib.Omega.{arith}
 use lib.ListN.{length, length-append, length-map}
-use Rattle.rules.specs.State.{Held, by_number, ledger_of}
+use Rattle.rules.specs.State.{Held, by_number}
 use Rattle.layout.specs.Layout.{decode}
 use Rattle.layout.specs.Fields.{dispatcher_nth}
 use Rattle.layout.proofs.Pigeons.{distinct_below}

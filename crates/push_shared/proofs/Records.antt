@@ -1,13 +1,12 @@
 -- A step's record, as it is read from the store: its message, its mark, and what the step says.
-use mathlib.Core.Path.{◌≡◌, refl, sym, ap, ap₂, ◌∙◌}
+use mathlib.Core.Path.{◌≡◌, sym, ap, ap₂, ◌∙◌}
 use mathlib.Core.Bool.{cond}
 use mathlib.Core.List.{List, [], ◌∷◌, ◌++◌}
 use Prim.Native.Nat.{ℕ, ◌+◌, ◌-◌, ◌*◌, ◌%◌, ◌^◌, ◌≤◌, ◌<◌}
 use native.Mathlib.Omega.{arith}
-use lib.ListN.{length, get_or}
+use lib.ListN.{get_or}
 use Rattle.bits.specs.Bits.{bits_empty, word_count}
 use Rattle.bits.specs.Four.{words}
-use Rattle.bits.specs.declared.UnackedBits.{UnackedBits}
 use Rattle.words.specs.Act.{lay}
 use Rattle.rules.specs.State.{StoredMessage, Mark, State, new_mark}
 use Rattle.rules.specs.Ledger.{message_at, no_message}

@@ -1,17 +1,15 @@
 -- What a store still says while only what dispatcher d has in flight changes: the same consumers and topics, and the same
 -- ring, queue, ledger and marks for its turns.
-use mathlib.Core.Path.{◌≡◌, refl, sym, ap, ap₂, ◌∙◌, subst}
-use mathlib.Core.List.{List, [], ◌∷◌}
-use Prim.Native.Nat.{ℕ, ◌≤◌, ◌<◌}
+use mathlib.Core.Path.{◌≡◌, sym, ap, ap₂, ◌∙◌}
+use mathlib.Core.List.{List}
+use Prim.Native.Nat.{ℕ}
 use lib.ListN.{length, get_or}
-use Rattle.rules.specs.Table.{Every}
 use Rattle.rules.specs.State.{StoredMessage, Topic, Consumer, Held, Dispatcher, State, topic_of, ledger_of, with_dispatchers}
 use Rattle.rules.specs.Dispatcher.{with_places}
-use Rattle.rules.specs.Outcome.{Dispatch}
-use Rattle.layout.specs.Layout.{decode, put}
+use Rattle.layout.specs.Layout.{decode}
 use Rattle.layout.specs.Whole.{ShapedDispatcher}
 use Rattle.layout.specs.Fields.{zero_topic, zero_consumer, topic_nth, dispatcher_nth, set_dispatcher}
-use Rattle.layout.specs.Placed.{TopicIn, DispatcherIn}
+use Rattle.layout.specs.Placed.{DispatcherIn}
 use Rattle.layout.proofs.Store.{canon_entries}
 use Rattle.layout.proofs.Placed.{shaped_set_dispatcher}
 use Rattle.operation_laws.proofs.Frame.{decode_after}

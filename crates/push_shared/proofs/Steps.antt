@@ -1,11 +1,11 @@
 -- What a turn on local numbers can be: which entry and which consumer a step names, and how the numbers move.
 use mathlib.Core.Path.{◌≡◌, refl, sym, ap, ◌∙◌, subst}
-use mathlib.Core.Bool.{Bool, true, false, cond, not, ◌||◌}
+use mathlib.Core.Bool.{not, ◌||◌}
 use mathlib.Core.List.{List, [], ◌∷◌}
 use mathlib.Core.Option.{Option, none, some}
-use Prim.Native.Nat.{ℕ, zero, suc, ◌+◌, ◌-◌, ◌≤◌, ◌<◌}
+use Prim.Native.Nat.{ℕ, suc, ◌-◌, ◌≤◌, ◌<◌}
 use native.Mathlib.Omega.{arith}
-use lib.Dec.{eqb, ltb}
+use lib.Dec.{ltb}
 use lib.ListN.{length, get_or, set, take, drop, length-set}
 use borrow.Author.Tests.{ltb-true}
 use Rattle.rules.specs.Permits.{above_zero, zero_permits}
@@ -13,7 +13,7 @@ use Rattle.rules.specs.Table.{Every, is_empty, or_else}
 use Rattle.rules.specs.Push.{slot_after}
 use Rattle.rules.proofs.Table.{by_test}
 use Rattle.operation_laws.proofs.Frame.{every_nth}
-use Rattle.push_laws.specs.Local.{Fixed, Local, Step, Place, LocalTurn, first_with_permits, choose_place, price_of, hand_over, take_entry, serve_place, local_turn, then_turns, local_turns}
+use Rattle.push_laws.specs.Local.{Fixed, Local, Step, Place, LocalTurn, first_with_permits, choose_place, price_of, hand_over, take_entry, serve_place, local_turn}
 use Rattle.push_laws.specs.Local.LocalTurn.{stop, move}
 use Rattle.push_turn.proofs.Choosing.{some_not_none}
 use Rattle.push_turn.proofs.Handing.{above_in}

@@ -1,14 +1,14 @@
 -- The turns of a dispatcher written one after the other. What is left to be made from the numbers as they are, with what is
 -- written, is the whole service: so at the stop all of it is written.
 use mathlib.Core.Path.{◌≡◌, refl, sym, ap, ap₂, ◌∙◌, subst}
-use mathlib.Core.List.{List, [], ◌∷◌, ◌++◌, map, append-nil, append_assoc}
+use mathlib.Core.List.{List, [], ◌∷◌, ◌++◌, map, append-nil}
 use Prim.Native.Nat.{ℕ, suc, ◌+◌, ◌-◌, ◌*◌, ◌≤◌, ◌<◌}
 use native.Mathlib.Numerals.{add-one}
 use native.Mathlib.Omega.{arith}
 use lib.ListN.{length, drop, length-append, length-drop}
 use lib.Seq.{append_snoc}
 use Rattle.words.specs.Act.{lay}
-use Rattle.rules.specs.State.{Held, Dispatcher, State}
+use Rattle.rules.specs.State.{Held, Dispatcher}
 use Rattle.rules.specs.Dispatcher.{of_parts, with_places}
 use Rattle.rules.specs.Outcome.{Dispatch}
 use Rattle.rules.specs.Push.{flat}
@@ -19,13 +19,13 @@ use Rattle.layout.specs.Placed.{DispatcherIn}
 use Rattle.operation_laws.proofs.Moved.{Moved, moved_start, moved_on}
 use Rattle.head.specs.declared.Head as numbers
 use Rattle.dispatcher.specs.Values.{head_of, with_head}
-use Rattle.push_laws.specs.Local.{Fixed, Local, Step, Steps, local_turn, local_turns, fixed_of, local_of, turns_of, served}
+use Rattle.push_laws.specs.Local.{Fixed, Local, Step, Steps, local_turn, fixed_of, served}
 use Rattle.push_laws.specs.Local.LocalTurn.{stop, move}
 use Rattle.push_laws.specs.Applied.{record_of, held_of, applied_dispatcher}
-use Rattle.push_laws.specs.Shared.{Service, service_records, served_dispatcher}
+use Rattle.push_laws.specs.Shared.{service_records, served_dispatcher}
 use Rattle.record.specs.Flat.{filled}
 use Rattle.record.proofs.Filled.{filled_length}
-use Rattle.push_turn.specs.Turns.{local_from, Serving, ledger_under}
+use Rattle.push_turn.specs.Turns.{local_from, Serving}
 use Rattle.push_shared.specs.Service.{service_of}
 use Rattle.push_turn.proofs.Left.{left, all_turns, turn_lowers, turn_less, stop_in_lists, turns_stop}
 use Rattle.push_turn.proofs.Served.{served_turns}

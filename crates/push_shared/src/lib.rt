@@ -1,6 +1,7 @@
 // The dispatchers served in the order in which they were made, the permits carried from each to the next:
 // `push_pending_shared` in broker.rs.
 #![tactic(auto)]
+
 mod deliver;
 mod serve;
 

@@ -2,6 +2,7 @@
 // turns; each reads its queue, ledger and marks in the store, and moves the consumers' permits and the
 // dispatcher's numbers, which are locals of the caller.
 #![tactic(auto)]
+
 mod choice;
 pub mod due;
 mod price;

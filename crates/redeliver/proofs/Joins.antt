@@ -1,10 +1,9 @@
 -- The nacked positions of a consumer while found ones join them: what was written and what is ahead make up the whole.
 use mathlib.Core.Path.{◌≡◌, refl, sym, ap, ◌∙◌}
 use mathlib.Core.List.{List, [], ◌∷◌, ◌++◌, append-nil, append_assoc}
-use Prim.Native.Nat.{ℕ, ◌+◌, ◌≤◌, ◌<◌, zero, suc}
-use native.Mathlib.Nat.{le_of_suc-le-suc}
+use Prim.Native.Nat.{ℕ, ◌+◌, ◌≤◌}
 use native.Mathlib.Omega.{arith}
-use lib.ListN.{length, length-append, length-set, set, get_or}
+use lib.ListN.{length, length-append}
 use lib.Seq.{set-get_or, get_or-set_same}
 use Rattle.rules.specs.State.{Consumer, State, StoredMessage, ledger_of, topic_of, with_consumers}
 use Rattle.groups.specs.Walk.{Stands, group_at, groups_from, end_at}

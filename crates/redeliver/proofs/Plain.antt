@@ -1,10 +1,10 @@
 -- The rule of redeliver for a plain consumer, by its slot: refusal 11, or the found positions join nacked.
-use mathlib.Core.Path.{◌≡◌, refl, sym, ap, ◌∙◌}
+use mathlib.Core.Path.{◌≡◌, sym, ap, ◌∙◌}
 use mathlib.Core.List.{List, ◌++◌}
 use Prim.Native.Nat.{ℕ, ◌≤◌, ◌<◌}
 use lib.ListN.{length}
 use borrow.Author.Tests.{lt-ltb, le-ltb}
-use Rattle.rules.specs.State.{State, by_id, by_kind, ledger_of}
+use Rattle.rules.specs.State.{State, by_id, ledger_of}
 use Rattle.rules.specs.State.Kind.{plain}
 use Rattle.rules.specs.Outcome.Outcome.{refused, done}
 use Rattle.rules.specs.Outcome.Value.{nothing}

@@ -3,7 +3,7 @@ use mathlib.Core.Path.{◌≡◌, sym, ap, ◌∙◌}
 use mathlib.Core.List.{List}
 use Prim.Native.Nat.{ℕ, ◌<◌}
 use lib.ListN.{length}
-use Rattle.rules.specs.State.{State, by_id, by_pair, ledger_of, dispatcher, put_dispatcher}
+use Rattle.rules.specs.State.{State, by_id, by_pair, ledger_of, put_dispatcher}
 use Rattle.rules.specs.State.Kind.{shared}
 use Rattle.rules.specs.Outcome.Outcome.{done}
 use Rattle.rules.specs.Outcome.Value.{nothing}

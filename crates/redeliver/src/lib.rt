@@ -1,6 +1,7 @@
 // Redeliver: a plain consumer's found entries join nacked; what a shared consumer holds goes back to
 // its dispatcher. Every refusal is answered before the first write.
 #![tactic(auto)]
+
 mod found;
 mod hand_back;
 

@@ -69,15 +69,19 @@ module _ (list : List ℕ) (from : ℕ) (inside : from ≤ length list) where
 
     -- what is made of them is what is made there
     pub made_there : (ws : List ℕ) {ws' filled : List ℕ} {a : ℕ}
-        → (a ≡ answered ws of_parts) × ((ws' ≡ words_made ws of_parts) × (filled ≡ list_made ws part of_parts))
-        → (a ≡ answered ws (call_at script at (drop from list)))
-        × ((ws' ≡ words_made ws (call_at script at (drop from list)))
-        × (take from list ++ (filled ++ drop (length list - from) (drop from list)) ≡ take from list ++ list_made ws (drop from list) (call_at script at (drop from list))))
-    made_there ws {ws'} {filled} {a} e = (
-      e.0 ∙ ap (answered ws) is_call_at,
-      (
-        e.1.0 ∙ ap (words_made ws) is_call_at,
-        ap (λ (l : List ℕ). take from list ++ l)
-            (ap (λ (l : List ℕ). filled ++ l) none_behind ∙ append-nil filled ∙ e.1.1 ∙ ap₂ (list_made ws) is_rest is_call_at),
-      ),
-    )
+        → record { answer : a ≡ answered ws of_parts; words : ws' ≡ words_made ws of_parts; records : filled ≡ list_made ws part of_parts }
+        → record {
+          answer : a ≡ answered ws (call_at script at (drop from list));
+          words : ws' ≡ words_made ws (call_at script at (drop from list));
+          records :
+              take from list ++ (filled ++ drop (length list - from) (drop from list))
+              ≡ take from list ++ list_made ws (drop from list) (call_at script at (drop from list));
+        }
+    made_there ws {ws'} {filled} {a} e =
+        record {
+          answer = e.answer ∙ ap (answered ws) is_call_at;
+          words = e.words ∙ ap (words_made ws) is_call_at;
+          records =
+              ap (λ (l : List ℕ). take from list ++ l)
+              (ap (λ (l : List ℕ). filled ++ l) none_behind ∙ append-nil filled ∙ e.records ∙ ap₂ (list_made ws) is_rest is_call_at);
+        }

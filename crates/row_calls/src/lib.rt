@@ -2,6 +2,7 @@
 // its calls are made one after the other. The store is not checked: the caller knows that it spells a state, and every call
 // leaves it so.
 #![tactic(auto)]
+
 ghost use Rattle.std.specs.Prelude.{◌≡◌, true, [], ◌++◌, ◌≤◌, length, take, drop};
 ghost use Rattle.rules.specs.Table.{or_else};
 ghost use Rattle.layout.specs.Layout.{spells};

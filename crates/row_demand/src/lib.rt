@@ -3,6 +3,7 @@
 // leaves, the book told by script, answers and list alone; and code that plays one more. Both are proved from the exports'
 // contracts and the theorems over rows alone. Nothing depends on this crate.
 #![tactic(auto)]
+
 ghost use Rattle.std.specs.Prelude.{◌≡◌, true, ℕ, ◌≤◌, length};
 ghost use Rattle.rules.specs.Calls.{needed};
 ghost use Rattle.rules.specs.Book.{Book, empty_book};

@@ -1,6 +1,7 @@
 // A script read before any call of it is made: whether every record of it is a call, and how many there are. No call is made
 // here, and the store is not needed.
 #![tactic(auto)]
+
 ghost use Rattle.std.specs.Prelude.{◌≡◌, ◌<◌, length, drop};
 ghost use Rattle.row.specs.Script.{call_reach, script_calls};
 ghost use Rattle.row_script.specs.Counted.{call_end, counted};

@@ -1,18 +1,18 @@
 -- What each test of `valid` says: it passes exactly where the record beside it holds.
 use Prim.Native.Nat.{ℕ, zero, suc, ◌^◌, ◌≤◌, ◌<◌, zero-le, suc-le-suc}
-use mathlib.Core.Path.{◌≡◌, refl, sym, ◌∙◌, ap, subst}
-use mathlib.Core.Bool.{Bool, true, false, cond, not, ◌&&◌, ◌||◌, false≢true}
-use mathlib.Core.List.{List, [], ◌∷◌, ◌++◌, map, Memᴰ}
+use mathlib.Core.Path.{◌≡◌, refl, ap, subst}
+use mathlib.Core.Bool.{Bool, true, false, cond, ◌&&◌, ◌||◌, false≢true}
+use mathlib.Core.List.{List, [], ◌∷◌, ◌++◌, map}
 use mathlib.Core.Logic.{⊎_elim, inl, inr}
 use native.Mathlib.Nat.{le_of_suc-le-suc, not-suc-le-zero}
 use native.Mathlib.Omega.{arith}
-use lib.Dec.{eqb, leb, ltb}
+use lib.Dec.{eqb, ltb}
 use lib.ListN.{length, get_or}
-use borrow.Author.Tests.{ltb-true, ltb-false, lt-ltb, le-ltb}
+use borrow.Author.Tests.{ltb-true, ltb-false}
 use Rattle.bits.specs.Bits.{bits_empty, bits_below}
 use Rattle.bits.specs.Four.{words}
 use Rattle.rules.specs.Permits.{least_permits, most_permits, least_total, most_total, total_in_range}
-use Rattle.rules.specs.Table.{all, Every, distinct, Distinct, member, is_empty}
+use Rattle.rules.specs.Table.{is_empty}
 use Rattle.rules.specs.State.{Id, same_id, StoredMessage, Topic, same_pair, Kind, by_kind, Consumer, Mark, Held, Dispatcher, State, new_mark, ledger_of, dispatcher}
 use Rattle.rules.specs.State.Kind.{plain, shared}
 use Rattle.rules.specs.Ledger.{holds_id, no_message, message_at, after_id}

@@ -4,7 +4,7 @@
 -- The five mistakes of a careful programmer are each told apart by a row: permits clamped at 0 (K6), a complete entry
 -- dropped from every holder (K10), next left alone on an idle push (K8), counts raised at close (K10, the record's count),
 -- mark-delete moved at append (K7, after the append).
-use Rattle.std.specs.Prelude.{ℕ, ◌+◌, ◌-◌, ◌^◌, Bool, true, false, List, [], ◌∷◌, ◌++◌, map, ℤ, pos, neg_ℤ, length, replicate}
+use Rattle.std.specs.Prelude.{ℕ, ◌-◌, ◌^◌, Bool, true, false, List, [], ◌∷◌, ◌++◌, map, ℤ, pos, neg_ℤ, length, replicate}
 use Rattle.bits.specs.Bits.{fresh_unacked_bits, bits_cardinality, word_count}
 use Rattle.bits.specs.Four.{words}
 use Rattle.rules.specs.Permits.{reading}

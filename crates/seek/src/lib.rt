@@ -1,6 +1,7 @@
 // Seek: the cursor of a consumer goes to the start or to a message id, and its nacked entries are
 // cleared. A shared consumer's dispatcher does not move.
 #![tactic(auto)]
+
 pub mod command;
 
 ghost use Rattle.std.specs.Prelude.{◌≡◌, true};

@@ -1,10 +1,10 @@
 -- A stretch of words cleared, word by word: what the loop of `clear_words` turns on.
-use mathlib.Core.Path.{◌≡◌, refl, sym, ap, ap₂, ◌∙◌}
+use mathlib.Core.Path.{◌≡◌, sym, ap, ◌∙◌}
 use mathlib.Core.List.{List}
 use Prim.Native.Nat.{ℕ, ◌+◌, ◌-◌, ◌≤◌}
 use native.Mathlib.Omega.{arith}
 use lib.ListN.{set}
-use Rattle.words.specs.Act.{Act, clear}
+use Rattle.words.specs.Act.{clear}
 use Rattle.words.proofs.Act.{lay_none, clear_turn}
 
 -- nothing cleared yet

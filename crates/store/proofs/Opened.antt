@@ -1,13 +1,12 @@
 -- What opening writes is the spelling of the empty state: the header's four words, and zeros.
 use mathlib.Core.Path.{◌≡◌, refl, sym, ap, ap₂, ◌∙◌}
-use mathlib.Core.Bool.{Bool, true, false, not, ◌&&◌, cond}
-use mathlib.Core.List.{List, [], ◌∷◌, ◌++◌}
-use Prim.Native.Nat.{ℕ, zero, suc, ◌+◌, ◌-◌, ◌*◌, ◌≤◌, ◌<◌}
+use mathlib.Core.Bool.{Bool, not}
+use mathlib.Core.List.{List, ◌∷◌, ◌++◌}
+use Prim.Native.Nat.{ℕ, suc, ◌+◌, ◌*◌, ◌≤◌, ◌<◌}
 use native.Mathlib.Omega.{arith}
-use lib.Dec.{eqb, leb, ltb}
+use lib.Dec.{eqb}
 use lib.ListN.{length, set, drop, replicate, length-replicate, replicate-append-replicate}
 use borrow.Author.Tests.{le-leb, lt-leb, le-ltb, lt-ltb}
-use Rattle.words.specs.Act.{clear}
 use Rattle.words.specs.Codec.{bit, word, flag, asFlag, tag, asTag, zeros, pair, via}
 use Rattle.words.proofs.Act.{lay_front}
 use Rattle.rules.specs.Outcome.{guard}
@@ -55,14 +54,14 @@ opened_put ws e leak noop h =
 -- ---- the three ways an opening ends
 
 -- a refusal is its number, and leaves the words
-pub open_refused : (ws : List ℕ) (e leak noop k : ℕ) → open_outcome ws e leak noop ≡ refused k 
+pub open_refused : (ws : List ℕ) (e leak noop k : ℕ) → open_outcome ws e leak noop ≡ refused k
     → record { answer : k ≡ open_answer ws e leak noop; words : ws ≡ open_after ws e leak noop }
 unfolding open_answer open_after answer_word words_after
 open_refused ws e leak noop k o = record { answer = rw o; words = rw o }
 
 -- done, the answer is 0 and the words are the opened state's
 pub open_done : (ws : List ℕ) (e leak noop : ℕ) {l n : ℕ} → open_outcome ws e leak noop ≡ done nothing (opened e (not (eqb leak 0)) (not (eqb noop 0))) → needed e ≤ length ws
-    → l ≡ bit (not (eqb leak 0)) → n ≡ bit (not (eqb noop 0)) 
+    → l ≡ bit (not (eqb leak 0)) → n ≡ bit (not (eqb noop 0))
     → record { answer : 0 ≡ open_answer ws e leak noop; words : opened_words ws e (4096 + 128 * e) l n ≡ open_after ws e leak noop }
 unfolding open_answer open_after answer_word words_after value_number
 open_done ws e leak noop o h p q =

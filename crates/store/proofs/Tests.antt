@@ -1,7 +1,6 @@
 -- Tests made one after the other: which decides, and what a call that answered says of its test.
 use mathlib.Core.Path.{◌≡◌, sym, ◌∙◌}
 use mathlib.Core.Bool.{Bool, true, false, ◌&&◌}
-use Prim.Native.Nat.{◌-◌}
 
 -- a test that fails decides
 pub fails : {t : Bool} (u : Bool) → t ≡ false → false ≡ (t && u)

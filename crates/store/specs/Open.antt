@@ -1,5 +1,5 @@
 -- What opening writes.
-use Rattle.std.specs.Prelude.{ℕ, ◌-◌, List, set}
+use Rattle.std.specs.Prelude.{ℕ, List, set}
 use Rattle.words.specs.Act.{clear}
 use Rattle.layout.specs.Layout.{layout_tag}
 

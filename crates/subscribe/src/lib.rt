@@ -1,5 +1,6 @@
 // Subscribe: a consumer is made, or made anew. A shared one joins the ring of its pair.
 #![tactic(auto)]
+
 mod admit;
 pub mod command;
 mod enter;

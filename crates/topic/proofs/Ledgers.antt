@@ -1,11 +1,10 @@
 -- The ledger of a topic, by the topic's slot.
-use mathlib.Core.Path.{◌≡◌, refl, sym, ap, ◌∙◌}
-use mathlib.Core.List.{List, []}
-use mathlib.Core.Option.{none, some}
+use mathlib.Core.Path.{◌≡◌}
+use mathlib.Core.List.{[]}
 use Prim.Native.Nat.{ℕ, ◌≤◌, ◌<◌}
 use lib.ListN.{length}
 use Rattle.rules.specs.Table.{or_else}
-use Rattle.rules.specs.State.{StoredMessage, State, by_number, topic_of, ledger_of}
+use Rattle.rules.specs.State.{State, by_number, topic_of, ledger_of}
 use Rattle.layout.specs.Fields.{zero_topic, topic_nth}
 use Rattle.store.specs.Find.{slot}
 use Rattle.store.proofs.Finding.{slot_found, slot_none}

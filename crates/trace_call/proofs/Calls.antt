@@ -41,8 +41,8 @@ module _ (ws : List ℕ) {o : Option Call} where
   module _ (list : List ℕ) where
     -- with a list: what it leaves there
     pub list_is_answered : {x : Call} {r : ℕ} {us ls : List ℕ} → o ≡ some x
-        → (r ≡ answer ws x) × ((us ≡ after ws x) × (ls ≡ list_after list (outcome ws x)))
-        → (r ≡ answered ws o) × ((us ≡ words_made ws o) × (ls ≡ list_made ws list o))
+        → record { answer : r ≡ answer ws x; words : us ≡ after ws x; records : ls ≡ list_after list (outcome ws x) }
+        → record { answer : r ≡ answered ws o; words : us ≡ words_made ws o; records : ls ≡ list_made ws list o }
     unfolding answered answer_of made words_made list_made
     list_is_answered e h = rw e h
 

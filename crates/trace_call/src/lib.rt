@@ -2,6 +2,7 @@
 // wide for its field is no call, and changes nothing. The store is not checked: the caller knows that it spells a state, and
 // every call leaves it so.
 #![tactic(auto)]
+
 ghost use Rattle.std.specs.Prelude.{◌≡◌, true, false, ◌/◌, eqb, length};
 ghost use Rattle.std.proofs.Math.Option.{bind};
 ghost use Rattle.rules.specs.Table.{is_some};

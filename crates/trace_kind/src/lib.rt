@@ -1,5 +1,6 @@
 // The kinds of a call in a trace or a script, as `trace/specs/Calls.antt` has them, and the widths of its fields.
 #![tactic(auto)]
+
 pub const APPEND: u64 = 1;
 
 pub const SUBSCRIBE: u64 = 2;

@@ -2,6 +2,7 @@
 // list, and of what is bad. Each writer lays its bytes from a place on and answers the place after them; room is asked for by
 // constants.
 #![tactic(auto)]
+
 ghost use Rattle.std.specs.Prelude.{◌≡◌, ◌+◌, ◌*◌, ◌≤◌, length, drop};
 ghost use Rattle.words.specs.Wrote.{Wrote};
 ghost use Rattle.rules.specs.Push.{record_read, records_read};

@@ -25,7 +25,7 @@ use Rattle.trace_call.specs.Made.{words_made}
 use Rattle.trace_lines.specs.Told.{lines_bytes}
 use Rattle.trace_step.specs.declared.Did as declared
 use Rattle.trace_step.specs.declared.Did.TheVariants as variants
-use Rattle.trace_step.specs.Stepped.{player_after, step_answer, Within, step_call, Stepped, HeaderStepped}
+use Rattle.trace_step.specs.Stepped.{step_answer, Within, step_call, Stepped, HeaderStepped}
 
 -- a call that is read fits
 record_fits : (r : Record) (x : Call) → record_call r ≡ some x → fits x ≡ true
@@ -196,14 +196,6 @@ with_store {held} ws zero n h e =
       spelt = h;
       state = header_state (decode ws) held (reach 0 held) refl;
     }
-
--- the clauses that it promises
-pub clauses : {ws held out ws' out' : List ℕ} {number : ℕ} {r : declared.Did} → Stepped ws number held out r ws' out'
-    → (r ≡ step_answer (reach number held) (player_after ws number held))
-    × ((out' ≡ (lay (player_after ws number held).printed).run 0 out)
-    × ((ws' ≡ words_made ws (step_call number held (reach number held)))
-    × ((decode ws' ≡ (player_after ws number held).state) × ((spells ws' ≡ true) × Within (length held) r))))
-clauses s = (s.answer, (s.text, (s.words, (s.state, (s.spelt, s.within)))))
 
 -- ---- at the end
 

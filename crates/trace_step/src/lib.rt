@@ -2,6 +2,7 @@
 // call, the call is made on the store, and its lines are written into a lent buffer. The store spells a state before and after,
 // so it is never checked.
 #![tactic(auto)]
+
 ghost use Rattle.std.specs.Prelude.{◌≡◌, true, ◌*◌, ◌≤◌, length};
 ghost use Rattle.words.specs.Act.{lay};
 ghost use Rattle.layout.specs.Layout.{decode, spells};

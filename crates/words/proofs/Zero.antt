@@ -1,11 +1,11 @@
 -- Values that are spelt by zeros alone: the empty list, reserved space, and pairs and changes of type of such.
 use mathlib.Core.Path.{◌≡◌, refl, sym, ap, ap₂, ◌∙◌}
 use mathlib.Core.List.{List, [], ◌∷◌, ◌++◌}
-use Prim.Native.Nat.{ℕ, suc, ◌+◌, ◌*◌}
+use Prim.Native.Nat.{ℕ, ◌*◌}
 use native.Mathlib.Nat.{zero-add, min-zero}
 use native.Mathlib.Numerals.{one-add}
-use lib.ListN.{length, replicate, replicate-append-replicate}
-use Rattle.words.specs.Words.{fit, fit_fill}
+use lib.ListN.{replicate, replicate-append-replicate}
+use Rattle.words.specs.Words.{fit_fill}
 use Rattle.words.specs.Codec.{Codec, Change, zeros, pair, via, upto, spell}
 
 -- a value is spelt by zeros

@@ -1,12 +1,10 @@
 -- `ack::ack` meets its contract: the id is not live, the list is not of the form, or the ack of the consumer at its slot.
 use mathlib.Core.Path.{sym, ◌∙◌}
-use borrow.Author.Tests.{not-true, not-false}
 use Rattle.layout.specs.Layout.{decode}
 use Rattle.groups.proofs.Walks.{stands_right}
 use Rattle.operation_laws.proofs.Frame.{canon_of, refused_with, consumer_found_id}
 use Rattle.consumer.proofs.Looked.{found_live, found_missing}
 use Rattle.ack.proofs.Outcomes.{ack_dead, ack_formless}
-use borrow.Author.Rules.{rules}
 use Rattle.ack.proofs.ack.Goals as goal
 
 pub find_consumer-requires : goal.find_consumer-requires

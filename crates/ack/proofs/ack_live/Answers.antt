@@ -10,7 +10,6 @@ use Rattle.consumer.proofs.Records.{flag_shared, flag_plain}
 use Rattle.ack.proofs.Outcomes.{value_plain, ack_plain}
 use Rattle.rules.specs.State.{by_id}
 use Rattle.store.specs.Find.{slot}
-use borrow.Author.Rules.{rules}
 use Rattle.ack.proofs.ack_live.Goals as goal
 
 pub is_shared-requires : goal.is_shared-requires

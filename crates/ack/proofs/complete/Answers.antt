@@ -7,7 +7,6 @@ use Rattle.rules.specs.Dispatcher.{drop_complete}
 use Rattle.groups.specs.Walk.{groups_from}
 use Rattle.ack.proofs.Turns.{kept_groups, kept_fits, kept_marked}
 use Rattle.ack.proofs.Finish.{drop_fits, written_in, written_marked, dropped, advanced}
-use borrow.Author.Rules.{rules}
 use Rattle.ack.proofs.complete.Goals as goal
 
 pub drop_complete-requires : goal.drop_complete-requires

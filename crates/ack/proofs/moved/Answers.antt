@@ -2,7 +2,6 @@
 use mathlib.Core.Path.{sym, ap, ◌∙◌}
 use Prim.Native.Nat.{ℕ, ◌*◌, ◌%◌, ◌^◌}
 use Rattle.ack.proofs.Outcomes.{stayed, went}
-use borrow.Author.Rules.{rules}
 use Rattle.ack.proofs.moved.Goals as goal
 
 pub returns-then-from-to : goal.returns-then-from-to

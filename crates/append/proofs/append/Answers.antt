@@ -1,7 +1,6 @@
 -- `append::append` meets its contract: each way out is one outcome of the rule.
 use mathlib.Core.Path.{sym, ◌∙◌}
 use native.Mathlib.Omega.{arith}
-use borrow.Author.Rules.{rules}
 use Rattle.layout.specs.Layout.{decode}
 use Rattle.topic.specs.Ids.{message_of}
 use Rattle.operation_laws.proofs.Frame.{valid_now, canon_of, refused_with, done_with_nothing}

@@ -1,6 +1,6 @@
 -- `balance::add_permits` meets its contract: the consumer is missing, live elsewhere, or live under the dispatcher.
 use mathlib.Core.Path.{◌≡◌, refl, sym, ◌∙◌}
-use Prim.Native.Nat.{◌^◌, ◌≤◌, ◌<◌}
+use Prim.Native.Nat.{◌≤◌, ◌<◌}
 use native.Mathlib.Omega.{arith}
 use lib.ListN.{length}
 use Rattle.rules.specs.State.{by_id}
@@ -17,11 +17,6 @@ use Rattle.balance.proofs.Balances.{adds_none, adds_nothing, adds_permits, found
 use borrow.Author.Rules.{rules}
 use Rattle.balance.proofs.add_permits.Statement.{statement}
 use Rattle.balance.proofs.add_permits.Tie as tie
-use Rattle.balance.proofs.add_permits.Reads as reads
-use Rattle.balance.proofs.add_permits.Lts as lts
-use Rattle.balance.proofs.is_under.Reads as is_under_reads
-use Rattle.consumer.proofs.lookup.find_consumer.Reads as find_consumer_reads
-use Rattle.consumer.proofs.fields.permits.Reads as permits_reads
 
 find_consumer_requires : tie.Need-find_consumer-requires
 find_consumer_requires c κs = search rules

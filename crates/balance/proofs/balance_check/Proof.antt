@@ -13,11 +13,6 @@ use Rattle.operation_laws.proofs.Frame.{valid_now}
 use Rattle.balance.proofs.Balances.{InRange, range_on, found_range, sum_on, sum_end}
 use Rattle.balance.proofs.balance_check.Statement.{statement}
 use Rattle.balance.proofs.balance_check.Tie as tie
-use Rattle.balance.proofs.balance_check.Reads as reads
-use Rattle.balance.proofs.balance_check.Lts as lts
-use Rattle.balance.proofs.add_permits.Reads as add_permits_reads
-use Rattle.dispatcher.proofs.ring.ring_count.Reads as ring_count_reads
-use Rattle.dispatcher.proofs.ring.ring_id.Reads as ring_id_reads
 
 abbrev invariant_loop : tie.invariant-loop-j
 invariant_loop store e d n sum₀ j₀ sum j =

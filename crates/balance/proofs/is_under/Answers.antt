@@ -4,13 +4,6 @@ use Rattle.layout.specs.Layout.{decode}
 use Rattle.layout.specs.Fields.{consumer_nth, dispatcher_nth, pair_of}
 use Rattle.store.proofs.Tests.{answered_no, answered_yes}
 use Rattle.balance.proofs.Balances.{under_plain, under_shared}
-use borrow.Author.Rules.{rules}
-use Rattle.balance.proofs.is_under.Reads as reads
-use Rattle.balance.proofs.is_under.Lts as lts
-use Rattle.consumer.proofs.fields.is_shared.Reads as is_shared_reads
-use Rattle.consumer.proofs.fields.topic.Reads as topic_reads
-use Rattle.consumer.proofs.fields.subscription.Reads as subscription_reads
-use Rattle.dispatcher.proofs.table.is_of_pair.Reads as is_of_pair_reads
 use Rattle.balance.proofs.is_under.Goals as goal
 
 pub returns-then-not-is_shared : goal.returns-then-not-is_shared

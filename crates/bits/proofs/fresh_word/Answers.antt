@@ -2,7 +2,6 @@
 use mathlib.Core.Path.{◌∙◌}
 use Prim.Native.Nat.{ℕ, ◌-◌}
 use native.Mathlib.Omega.{arith}
-use borrow.Author.Rules.{rules}
 use Rattle.bits.proofs.Word.{ones_of}
 use Rattle.bits.proofs.Masks.{mask_rest}
 use Rattle.bits.proofs.fresh_word.Goals as goal

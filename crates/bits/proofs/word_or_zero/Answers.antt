@@ -1,5 +1,4 @@
 -- `bits::word_or_zero` meets its contract: past the end of the list the word is 0. Assumes nothing.
-use borrow.Author.Rules.{rules}
 use mathlib.Core.Path.{sym}
 use lib.ListN.{get_or-eq_default}
 use Rattle.bits.proofs.word_or_zero.Goals as goal

@@ -1,8 +1,5 @@
 -- A byte above 32 ends no word.
-use mathlib.Core.Path.{◌≡◌}
 use borrow.Author.Tests.{lt-ltb, le-ltb}
-use Rattle.cases_line.proofs.blanks.Reads as reads
-use Rattle.cases_line.proofs.blanks.Lts as lts
 use Rattle.cases_line.proofs.blanks.Goals as goal
 
 pub returns-then-b-gt32 : goal.returns-then-b-gt32

@@ -1,11 +1,6 @@
 -- A byte below the digits leaves a word; a digit and a letter join it.
-use mathlib.Core.Path.{◌≡◌}
 use borrow.Author.Tests.{lt-ltb, le-ltb}
-use borrow.Author.Rules.{rules}
 use Rattle.cases_line.specs.Line.{with_byte}
-use Rattle.cases_line.proofs.joined.Reads as reads
-use Rattle.cases_line.proofs.joined.Lts as lts
-use Rattle.cases_line.proofs.with_digit.Reads as with_digit_reads
 use Rattle.cases_line.proofs.joined.Goals as goal
 
 pub returns-then-b-lt48 : goal.returns-then-b-lt48

@@ -1,9 +1,6 @@
 -- The sum fits, or the largest number stands.
 use native.Mathlib.Omega.{arith}
-use borrow.Author.Rules.{rules}
 use Rattle.cases_line.specs.Line.{with_digit}
-use Rattle.cases_line.proofs.with_digit.Reads as reads
-use Rattle.cases_line.proofs.with_digit.Lts as lts
 use Rattle.cases_line.proofs.with_digit.Goals as goal
 
 pub returns-then-word-d : goal.returns-then-word-d

@@ -1,16 +1,11 @@
 -- What is left of the line, put into the words from n on, is the whole; n stays within their number.
-use Prim.Native.Nat.{ℕ, ◌+◌, ◌≤◌, ◌<◌, ◌-◌}
+use Prim.Native.Nat.{ℕ, ◌+◌, ◌<◌}
 use native.Mathlib.Omega.{arith}
 use native.Mathlib.Numerals.{add-one}
 use mathlib.Core.Path.{◌≡◌, refl, sym, ◌∙◌, subst}
 use lib.ListN.{length, get_or, set, length-set}
-use borrow.Author.Rules.{rules}
-use Rattle.cases_line.proofs.words_of.Reads as reads
-use Rattle.cases_line.proofs.words_of.Lts as lts
 use Rattle.cases_line.specs.Line.{with_byte}
 use Rattle.cases_line.proofs.Numbers.{ends, ends_small, Reading, reading_starts, reading_next, words_full, line_ended, count_full, count_ended}
-use Rattle.cases_line.proofs.blanks.Reads as blanks_reads
-use Rattle.cases_line.proofs.joined.Reads as joined_reads
 use Rattle.cases_line.proofs.words_of.Goals as goal
 
 pub loop-i-init : goal.loop-i-init
@@ -20,10 +15,11 @@ pub returns-then-n-words : goal.returns-then-n-words
 returns-then-n-words c =
     let a = c.args in
     let l = c.loop-i in
-    let zeros = c.requires in (
-      count_full a.line.now a.words.now l.words l.n l.i zeros l.invariant.3 l.invariant.2 l.invariant.0 c.if-n-words.true,
-      words_full a.line.now a.words.now l.words l.n l.i zeros l.invariant.3 c.if-n-words.true,
-    )
+    let zeros = c.requires in
+    record {
+      count = count_full a.line.now a.words.now l.words l.n l.i zeros l.invariant.3 l.invariant.2 l.invariant.0 c.if-n-words.true;
+      words = words_full a.line.now a.words.now l.words l.n l.i zeros l.invariant.3 c.if-n-words.true;
+    }
 
 pub overflow_add-n : goal.overflow_add-n
 overflow_add-n c =
@@ -57,17 +53,19 @@ returns-then-n-words-2 c =
     let a = c.args in
     let l = c.loop-i in
     let zeros = c.requires in
-    let end = c.loop-i-test.false in (
-      count_ended a.line.now a.words.now l.words l.n l.i zeros l.invariant.3 l.invariant.2 end c.if-n-words-2.true,
-      line_ended a.line.now a.words.now l.words l.n l.i zeros l.invariant.3 end,
-    )
+    let end = c.loop-i-test.false in
+    record {
+      count = count_ended a.line.now a.words.now l.words l.n l.i zeros l.invariant.3 l.invariant.2 end c.if-n-words-2.true;
+      words = line_ended a.line.now a.words.now l.words l.n l.i zeros l.invariant.3 end;
+    }
 
 pub returns : goal.returns
 returns c =
     let a = c.args in
     let l = c.loop-i in
     let zeros = c.requires in
-    let end = c.loop-i-test.false in (
-      count_full a.line.now a.words.now l.words l.n l.i zeros l.invariant.3 l.invariant.2 l.invariant.0 c.if-n-words-2.false,
-      line_ended a.line.now a.words.now l.words l.n l.i zeros l.invariant.3 end,
-    )
+    let end = c.loop-i-test.false in
+    record {
+      count = count_full a.line.now a.words.now l.words l.n l.i zeros l.invariant.3 l.invariant.2 l.invariant.0 c.if-n-words-2.false;
+      words = line_ended a.line.now a.words.now l.words l.n l.i zeros l.invariant.3 end;
+    }

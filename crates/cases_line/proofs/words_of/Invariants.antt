@@ -1,16 +1,8 @@
 -- What is left of the line, put into the words from n on, is the whole; n stays within their number.
-use Prim.Native.Nat.{ℕ, ◌+◌, ◌≤◌, ◌<◌, ◌-◌}
-use native.Mathlib.Omega.{arith}
-use native.Mathlib.Numerals.{add-one}
-use mathlib.Core.Path.{◌≡◌, refl, sym, ◌∙◌, subst}
-use lib.ListN.{length, get_or, set, length-set}
-use borrow.Author.Rules.{rules}
-use Rattle.cases_line.proofs.words_of.Reads as reads
-use Rattle.cases_line.proofs.words_of.Lts as lts
-use Rattle.cases_line.specs.Line.{with_byte}
-use Rattle.cases_line.proofs.Numbers.{ends, ends_small, Reading, reading_starts, reading_next, words_full, line_ended, count_full, count_ended}
-use Rattle.cases_line.proofs.blanks.Reads as blanks_reads
-use Rattle.cases_line.proofs.joined.Reads as joined_reads
+use Prim.Native.Nat.{◌≤◌, ◌-◌}
+use mathlib.Core.Path.{◌≡◌}
+use lib.ListN.{length}
+use Rattle.cases_line.proofs.Numbers.{Reading}
 use Rattle.cases_line.proofs.words_of.Given as goal
 
 abbrev pub invariant-loop-i : goal.invariant-loop-i

@@ -4,7 +4,7 @@ use borrow.Author.Rules.{rules}
 use Rattle.cases_rows.proofs.replay_row.Goals as goal
 
 pub returns-then-n-lt3 : goal.returns-then-n-lt3
-returns-then-n-lt3 c = no_row _ _ _ c.if-n-lt3.true
+returns-then-n-lt3 g c = no_row _ _ _ c.if-n-lt3.true
 
 pub returns : goal.returns
-returns c = a_row _ _ _ _ _ c.if-n-lt3.false c.at_most_64.ensures.0 c.at_most_64-2.ensures.0 c.replay_script.ensures
+returns g c = a_row _ _ _ _ _ c.if-n-lt3.false c.at_most_64.ensures.0 c.at_most_64-2.ensures.0 c.replay_script.ensures

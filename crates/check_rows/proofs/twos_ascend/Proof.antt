@@ -8,7 +8,7 @@ use native.Mathlib.Omega.{arith}
 use lib.ListN.{length}
 use Rattle.check_rows.specs.Below.{each_below}
 use Rattle.check_rows.specs.Rows.{row, row_second, two_ascends, twos_ascend}
-use Rattle.check_rows.proofs.Below.{each_turn, each_stop, each_end}
+use Rattle.check_rows.proofs.Below.{each_stop, each_end}
 use Rattle.store.proofs.Tests.{answered_no, answered_yes}
 use Rattle.check_rows.proofs.Among.{row_ends}
 use Rattle.check_rows.proofs.RowOrder.{ascend_turn, ascend_next, row_none, second_none}

@@ -4,20 +4,12 @@ use mathlib.Core.Bool.{true}
 use Prim.Native.Nat.{◌+◌, ◌*◌, ◌≤◌}
 use lib.ListN.{length}
 use borrow.Author.Tests.{lt-leb, le-leb}
-use native.Mathlib.Omega.{arith}
-use Rattle.layout.specs.Canon.{CanonStore}
 use Rattle.layout.specs.Check.{header_right}
 use Rattle.store.proofs.Tests.{fails, passes, answered_no, answered_yes}
 use Rattle.check_state.proofs.Checks.{header_gives, spells_tests, well_spelt}
 use borrow.Author.Rules.{rules}
 use Rattle.check_state.proofs.spells.Statement.{statement}
 use Rattle.check_state.proofs.spells.Tie as tie
-use Rattle.check_state.proofs.spells.Reads as reads
-use Rattle.check_state.proofs.spells.Lts as lts
-use Rattle.check_words.proofs.canonical.body_canonical.Reads as body_canonical_reads
-use Rattle.check_state.proofs.state_valid.Reads as state_valid_reads
-use Rattle.check_words.proofs.header.header_right.Reads as header_right_reads
-use Rattle.store.proofs.stretch.word.Reads as word_reads
 
 header_right_requires : tie.Need-header_right-requires
 header_right_requires c κs = search rules

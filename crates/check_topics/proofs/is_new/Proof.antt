@@ -21,9 +21,6 @@ use Rattle.check_topics.proofs.Ids.{id_read}
 use Rattle.store.proofs.Prefixes.{Stepwise, Passed, none_steps, map_steps, passed_start, passed_stop, passed_turn, passed_end}
 use Rattle.check_topics.proofs.is_new.Statement.{statement}
 use Rattle.check_topics.proofs.is_new.Tie as tie
-use Rattle.check_topics.proofs.is_new.Reads as reads
-use Rattle.check_topics.proofs.is_new.Lts as lts
-use Rattle.check_topics.proofs.is_other.Reads as is_other_reads
 
 abbrev invariant_loop : tie.invariant-loop-j
 invariant_loop store e t m ledger entry first j₀ j =

@@ -22,9 +22,6 @@ use Rattle.check_topics.proofs.Orders.{ascend_valid, valid_mixed, order_wrong, o
 use borrow.Author.Rules.{rules}
 use Rattle.check_topics.proofs.topic_order.Statement.{statement}
 use Rattle.check_topics.proofs.topic_order.Tie as tie
-use Rattle.check_topics.proofs.topic_order.Reads as reads
-use Rattle.check_topics.proofs.topic_order.Lts as lts
-use Rattle.check_topics.proofs.messages_valid.Reads as messages_valid_reads
 
 -- the number that is read
 number : (c : tie.Start)

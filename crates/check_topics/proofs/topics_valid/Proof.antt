@@ -24,11 +24,6 @@ use Rattle.check_topics.proofs.Orders.{order_none, order_some, known_more}
 use Rattle.store.proofs.Prefixes.{Passed, passed_start, passed_stop, passed_turn, passed_end}
 use Rattle.check_topics.proofs.topics_valid.Statement.{statement}
 use Rattle.check_topics.proofs.topics_valid.Tie as tie
-use Rattle.check_topics.proofs.topics_valid.Reads as reads
-use Rattle.check_topics.proofs.topics_valid.Lts as lts
-use Rattle.topic.proofs.table.find_topic.Reads as find_topic_reads
-use Rattle.store.proofs.stretch.word.Reads as word_reads
-use Rattle.check_topics.proofs.topic_order.Reads as topic_order_reads
 
 abbrev invariant_loop : tie.invariant-loop-t
 invariant_loop store e orders₀ n width t₀ orders t =

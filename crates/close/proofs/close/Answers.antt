@@ -5,7 +5,6 @@ use Rattle.layout.proofs.Store.{put_decode}
 use Rattle.operation_laws.proofs.Frame.{canon_of, done_with, consumer_found_id}
 use Rattle.consumer.proofs.Looked.{found_live, found_missing}
 use Rattle.close.proofs.Closes.{value_not_closed, close_missing}
-use borrow.Author.Rules.{rules}
 use Rattle.close.proofs.close.Goals as goal
 
 pub find_consumer-requires : goal.find_consumer-requires

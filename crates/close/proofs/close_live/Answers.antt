@@ -5,7 +5,6 @@ use Rattle.operation_laws.proofs.Frame.{done_with}
 use Rattle.consumer.proofs.Records.{flag_shared, flag_plain}
 use Rattle.consumer.proofs.Found.{live_in, live_valid, live_slot}
 use Rattle.close.proofs.Closes.{value_closed, close_plain, slot_of}
-use borrow.Author.Rules.{rules}
 use Rattle.close.proofs.close_live.Goals as goal
 
 pub is_shared-requires : goal.is_shared-requires

@@ -1,6 +1,5 @@
 -- `close::total_after` meets its contract: the permits once, or twice.
 use Rattle.close.proofs.Closes.{total_once, total_twice}
-use borrow.Author.Rules.{rules}
 use Rattle.close.proofs.total_after.Goals as goal
 
 pub returns-then-leak-eq0 : goal.returns-then-leak-eq0

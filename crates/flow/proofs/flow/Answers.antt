@@ -8,7 +8,6 @@ use Rattle.layout.specs.Calls.{answer, after}
 use Rattle.operation_laws.proofs.Frame.{canon_of, refused_with, consumer_found_id}
 use Rattle.consumer.proofs.Looked.{found_live, found_missing}
 use Rattle.flow.proofs.Grants.{flow_missing}
-use borrow.Author.Rules.{rules}
 use Rattle.flow.proofs.flow.Goals as goal
 
 pub find_consumer-requires : goal.find_consumer-requires

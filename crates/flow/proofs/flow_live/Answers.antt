@@ -9,7 +9,6 @@ use Rattle.operation_laws.proofs.Frame.{refused_with, done_with, value_permits}
 use Rattle.consumer.proofs.Found.{live_in, live_valid, live_slot, live_consumer}
 use Rattle.consumer.proofs.Records.{flag_shared, flag_plain}
 use Rattle.flow.proofs.Grants.{flow_over, flow_plain}
-use borrow.Author.Rules.{rules}
 use Rattle.flow.proofs.flow_live.Goals as goal
 
 pub permits-requires : goal.permits-requires

@@ -10,4 +10,4 @@ use Rattle.player.proofs.main.Goals as goal
 
 pub play-requires : goal.play-requires
 unfolding needed
-play-requires c = ap spells c.«open».ensures.1 ∙ open_spells _ 32 0 0 (omega arith) (omega arith) (omega arith)
+play-requires c = ap spells c.«open».ensures.words ∙ open_spells _ 32 0 0 (omega arith) (omega arith) (omega arith)

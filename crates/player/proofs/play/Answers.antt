@@ -12,16 +12,16 @@ use Rattle.player.proofs.Places.{next_place}
 use Rattle.player.proofs.play.Goals as goal
 
 pub loop-turns-init : goal.loop-turns-init
-loop-turns-init c =
+loop-turns-init g c =
     (c.requires, refl, refl, refl, record { order = omega arith; inside = omega arith; space = omega arith }, omega arith)
 
 pub turn-requires : goal.turn-requires
-turn-requires c =
+turn-requires g c =
     let i = c.loop-turns.invariant in
     let more = c.loop-turns-test.true in (i.0, i.2, i.3, i.4, omega (arith, i.5, more))
 
 pub loop-turns-preserved : goal.loop-turns-preserved
-loop-turns-preserved c =
+loop-turns-preserved g c =
     let t = c in
     let i = t.loop-turns.invariant in
     let more = t.loop-turns-test.true in

@@ -12,9 +12,9 @@ use Rattle.player.proofs.Places.{next_place}
 use Rattle.player.proofs.play.Given as goal
 
 abbrev pub invariant-loop-turns : goal.invariant-loop-turns
-invariant-loop-turns l =
+invariant-loop-turns g l =
     (spells l.store ≡ true) × (length l.store ≡ length l.initial.store) × (length l.held ≡ held_bytes) × (length l.out ≡ out_bytes) × Placed l.place
     × (l.place.number + l.turns < 2 ^ 64)
 
 abbrev pub decreases-loop-turns : goal.decreases-loop-turns
-decreases-loop-turns l = l.turns
+decreases-loop-turns g l = l.turns

@@ -8,7 +8,6 @@ use Rattle.operation_laws.proofs.Frame.{canon_of}
 use Rattle.push_laws.specs.Whole.{local_push}
 use Rattle.push.proofs.Pushing.{due_most}
 use Rattle.push.proofs.Answering.{answers_short, answers_done}
-use borrow.Author.Rules.{rules}
 use Rattle.push.proofs.push.Goals as goal
 use Rattle.push.proofs.push.Goals.{then-room-most_due+else-room-n, else-room-most_due}
 
@@ -25,10 +24,10 @@ returns-then-room-n c =
 pub push_pending-made-requires : goal.push_pending-made-requires
 push_pending-made-requires c =
     let f : length (local_push (decode c.args.store.now)).dispatched ≤ length c.args.list.now / 13 =
-        elim c.if-room-most_due.branch [
-          then-room-most_due+else-room-n w ↦ let n = w.due-n.ensures in let l = w.if-room-n.false in omega (arith, n, l)
-        | else-room-most_due w ↦ let m = due_most (decode c.args.store.now) in let n = c.most_due.ensures in let l = w.if-room-most_due.false in omega (arith, m, n, l)
-        ] in
+    elim c.if-room-most_due.branch [
+      | then-room-most_due+else-room-n w ↦ let n = w.due-n.ensures in let l = w.if-room-n.false in omega (arith, n, l)
+      | else-room-most_due w ↦ let m = due_most (decode c.args.store.now) in let n = c.most_due.ensures in let l = w.if-room-most_due.false in omega (arith, m, n, l)
+    ] in
     (c.requires, c.entries-e.ensures, omega (arith, f))
 
 pub returns : goal.returns
@@ -36,10 +35,10 @@ returns c =
     let a = c.args in
     let p = c.push_pending-made in
     let f : length (local_push (decode c.args.store.now)).dispatched ≤ length c.args.list.now / 13 =
-        elim c.if-room-most_due.branch [
-          then-room-most_due+else-room-n w ↦ let n = w.due-n.ensures in let l = w.if-room-n.false in omega (arith, n, l)
-        | else-room-most_due w ↦ let m = due_most (decode c.args.store.now) in let n = c.most_due.ensures in let l = w.if-room-most_due.false in omega (arith, m, n, l)
-        ] in
+    elim c.if-room-most_due.branch [
+      | then-room-most_due+else-room-n w ↦ let n = w.due-n.ensures in let l = w.if-room-n.false in omega (arith, n, l)
+      | else-room-most_due w ↦ let m = due_most (decode c.args.store.now) in let n = c.most_due.ensures in let l = w.if-room-most_due.false in omega (arith, m, n, l)
+    ] in
     let n = p.ensures.value in
     let fits : p.result ≤ length a.list.now / 13 = omega (arith, f, n) in
     let r = answers_done a.store.now c.requires (length a.list.now / 13) p.result c.value-2.result p.ensures.value c.value-2.ensures

@@ -14,7 +14,6 @@ use Rattle.push_laws.specs.Whole.{permits_now}
 use Rattle.record.specs.Flat.{filled}
 use Rattle.record.proofs.Filled.{filled_length}
 use Rattle.push.proofs.Pushing.{length_permits, left, shared_records, all_counted, served_rows, canon_now, readable_on, permits_on, room_on, pushed_count, pushed_words, pushed_records}
-use borrow.Author.Rules.{rules}
 use Rattle.push.proofs.push_with.Goals as goal
 
 -- what the shared part leaves, by the permits in the store

@@ -11,10 +11,6 @@ use Rattle.push_shared.proofs.Sharing.{Sharing, sharing_start, ready_next, permi
 use borrow.Author.Rules.{rules}
 use Rattle.push_shared.proofs.push_pending_shared.Statement.{statement}
 use Rattle.push_shared.proofs.push_pending_shared.Tie as tie
-use Rattle.push_shared.proofs.push_pending_shared.Reads as reads
-use Rattle.push_shared.proofs.push_pending_shared.Lts as lts
-use Rattle.push_shared.proofs.serve.serve_dispatcher.Reads as serve_dispatcher_reads
-use Rattle.dispatcher.proofs.table.dispatcher_count.Reads as dispatcher_count_reads
 
 abbrev invariant_loop : tie.invariant-loop-d
 invariant_loop store₀ e permits₀ list₀ n m₀ d₀ store permits list m d =

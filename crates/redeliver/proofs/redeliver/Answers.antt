@@ -6,8 +6,6 @@ use Rattle.groups.proofs.Walks.{stands_right}
 use Rattle.operation_laws.proofs.Frame.{canon_of, refused_with, consumer_found_id}
 use Rattle.consumer.proofs.Looked.{found_live, found_missing}
 use Rattle.redeliver.proofs.Refusals.{redeliver_missing, redeliver_ill}
-use borrow.Author.Rules.{rules}
-use borrow.Author.Tests.{not-true, not-false}
 use Rattle.redeliver.proofs.redeliver.Goals as goal
 
 pub find_consumer-requires : goal.find_consumer-requires

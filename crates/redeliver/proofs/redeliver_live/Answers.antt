@@ -2,7 +2,6 @@
 use mathlib.Core.Path.{sym, ◌∙◌}
 use Rattle.consumer.proofs.Found.{live_in}
 use Rattle.consumer.proofs.Records.{flag_shared, flag_plain}
-use borrow.Author.Rules.{rules}
 use Rattle.redeliver.proofs.redeliver_live.Goals as goal
 
 pub is_shared-requires : goal.is_shared-requires

@@ -1,10 +1,9 @@
 -- `redeliver::redeliver_plain` meets its contract: too many, or the found positions join nacked.
-use mathlib.Core.Path.{◌≡◌, refl, sym, ap, ◌∙◌}
+use mathlib.Core.Path.{◌≡◌, ap, ◌∙◌}
 use native.Mathlib.Omega.{arith}
-use Prim.Native.Nat.{ℕ, ◌+◌, ◌≤◌, ◌<◌}
+use Prim.Native.Nat.{ℕ}
 use mathlib.Core.List.{◌++◌}
 use lib.ListN.{length, length-append}
-use borrow.Author.Rules.{rules}
 use Rattle.rules.specs.State.{ledger_of}
 use Rattle.rules.specs.Commands.{found_positions, with_reading}
 use Rattle.layout.specs.Layout.{decode, put}

@@ -8,5 +8,4 @@ answer_call-requires c = let s = c in (s.requires.0, are_call s.args.script.now 
 
 pub returns : goal.returns
 returns c =
-    let made = c in
-    made_there _ _ made.requires.2 _ _ _ made.answer_call.ensures
+    made_there _ _ c.requires.2 _ _ _ c.answer_call.ensures

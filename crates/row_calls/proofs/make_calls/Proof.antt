@@ -33,12 +33,12 @@ next : (c : tie.After-words_filled-from invariant_loop decreases_loop)
     → let a = c.args in
     let l = c.loop-at in
     let made = c.call_at-answer in
-    Going a.script.now a.store.now a.answers.now a.list.now made.new.0 (set l.answers l.call made.result) made.new.1.1.1.0
+    Going a.script.now a.store.now a.answers.now a.list.now made.new.store (set l.answers l.call made.result) made.new.list
     (l.at + call_size (get_or a.script.now (l.at + 1) 0)) (l.call + 1) (l.from + c.words_filled-from.result)
 next c =
     let i = c.before.before.before.before.before.before.before.before.before in
-    let m = was_made (going i) i.loop-at-test.taken c.call_at-answer.ensures in
-    goes_on (going i) i.loop-at-test.taken m.1.0 m.0 refl m.1.1 refl (ap (λ (k : ℕ). i.loop-at.from + k) c.words_filled-from.ensures)
+    let m = was_made (going i) i.loop-at-test.true c.call_at-answer.ensures in
+    goes_on (going i) i.loop-at-test.true m.1.0 m.0 refl m.1.1 refl (ap (λ (k : ℕ). i.loop-at.from + k) c.words_filled-from.ensures)
 
 loop_holds : tie.Need-loop-at-init invariant_loop decreases_loop
 loop_holds c = let s = c.before.before.before.before in starts_going _ _ _ _ s.requires s.well_formed.1.1.1.0.0

@@ -8,4 +8,4 @@ returns c =
     let is = c.broker_open.ensures.words in
     let left = c.broker_calls.ensures in
     let small = c.well_formed.1.1.1.1.1.0.0 in
-    (row_opened _ _ _ _ _ _ _ _ _ _ is left small, accounted_opened _ _ _ _ _ _ _ _ _ _ is left small)
+    record { row = row_opened _ _ _ _ _ _ _ _ _ _ is left small; accounted = accounted_opened _ _ _ _ _ _ _ _ _ _ is left small }

@@ -7,4 +7,4 @@ pub returns : goal.returns
 returns c =
     let left = c.broker_calls.ensures in
     let small = c.well_formed.1.1.1.0.0 in
-    (left, (told_on left small, accounted_on left small))
+    record { row = left; told = told_on left small; accounted = accounted_on left small }

@@ -11,7 +11,7 @@ use native.Mathlib.Nat.{le_trans, lt_of_lt_of_le}
 use native.Mathlib.Omega.{arith}
 use lib.Dec.{eqb}
 use lib.ListN.{length}
-use Rattle.rules.specs.Table.{put, keep, Every, is_some, or_else}
+use Rattle.rules.specs.Table.{keep, Every, is_some, or_else}
 use Rattle.rules.specs.State.{Pair, same_pair, Consumer, Dispatcher, State, new_dispatcher, by_id, by_pair, topic_of, consumer_of, dispatcher_of, ledger_of, dispatcher, insert, with_consumers, with_dispatchers, put_consumer, put_dispatcher}
 use Rattle.rules.specs.State.Kind.{shared}
 use Rattle.rules.specs.Commands.{without_consumer}

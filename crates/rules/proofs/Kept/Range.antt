@@ -1,7 +1,6 @@
 -- A valid state is one with sound tables whose other parts lie in their ranges. Every change that a call makes keeps the
 -- latter, so what keeps a state sound keeps it valid.
 use Prim.Native.Nat.{ℕ, ◌≤◌}
-use mathlib.Core.Path.{◌≡◌}
 use mathlib.Core.Bool.{Bool}
 use Rattle.rules.specs.State.{Pair, State, with_topics, with_consumers, with_dispatchers, put_consumer, put_dispatcher}
 use Rattle.rules.specs.Outcome.{Outcome, Dispatch}

@@ -11,7 +11,6 @@ use lib.ListN.{length, set}
 use borrow.Author.Tests.{ltb-true, ltb-false, eqb-true}
 use Rattle.rules.specs.Table.{any, Every, keep, count}
 use Rattle.rules.specs.State.{StoredMessage, Consumer, Held, Dispatcher, Id, State, consumer_of, ledger_of, dispatcher}
-use Rattle.rules.specs.State.Kind.{shared}
 use Rattle.rules.specs.Ledger.{position_of, holds_id, message_at}
 use Rattle.rules.specs.Dispatcher.{with_places, with_marks, is_hold, mark_at}
 use Rattle.rules.specs.Groups.{Group}

@@ -7,7 +7,6 @@ use Rattle.seek.specs.Targets.{target_of, seek_to}
 use Rattle.operation_laws.proofs.Frame.{canon_of, refused_with, consumer_found_id}
 use Rattle.consumer.proofs.Looked.{found_live, found_missing}
 use Rattle.seek.proofs.Seeks.{seek_missing}
-use borrow.Author.Rules.{rules}
 use Rattle.seek.proofs.seek.Goals as goal
 
 pub find_consumer-requires : goal.find_consumer-requires

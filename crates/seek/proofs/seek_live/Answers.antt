@@ -11,7 +11,6 @@ use Rattle.seek.specs.Targets.{target_of}
 use Rattle.operation_laws.proofs.Frame.{done_with, value_cursor, consumer_twice, consumer_still_in}
 use Rattle.consumer.proofs.Found.{live_canon, live_in, live_valid, live_slot}
 use Rattle.seek.proofs.Seeks.{seek_found}
-use borrow.Author.Rules.{rules}
 use Rattle.seek.proofs.seek_live.Goals as goal
 
 pub topic-number-requires : goal.topic-number-requires

@@ -3,7 +3,6 @@ use native.Mathlib.Omega.{arith}
 use Rattle.consumer.specs.Made.{kind_at}
 use Rattle.operation_laws.proofs.Frame.{done_with_nothing}
 use Rattle.subscribe.proofs.Subscribing.{seats, subscribe_plain}
-use borrow.Author.Rules.{rules}
 use Rattle.subscribe.proofs.subscribe_plain.Goals as goal
 
 pub seat_consumer-requires : goal.seat_consumer-requires

@@ -2,7 +2,6 @@
 use mathlib.Core.Path.{sym, ◌∙◌}
 use Rattle.operation_laws.proofs.Frame.{canon_of, refused_with, done_with_nothing}
 use Rattle.subscribe.proofs.Subscribing.{seats, joins, subscribe_pairs, subscribe_ring, subscribe_shared}
-use borrow.Author.Rules.{rules}
 use Rattle.subscribe.proofs.subscribe_shared.Goals as goal
 
 pub pairs_full-requires : goal.pairs_full-requires

@@ -9,6 +9,5 @@ use Rattle.trace_call.proofs.make_push.Goals as goal
 
 pub returns : goal.returns
 returns c =
-    let s = c in
-    let list = s.args.list.now in
-    list_is_answered _ list (push_of_any _ _ (word _ (few_records (length list) (omega arith))) s.requires.1) c.push.ensures
+    let list = c.args.list.now in
+    list_is_answered _ list (push_of_any _ _ (word _ (few_records (length list) (omega arith))) c.requires.1) c.push.ensures

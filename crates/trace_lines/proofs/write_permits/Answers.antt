@@ -5,4 +5,4 @@ use Rattle.trace_lines.proofs.write_permits.Goals as goal
 
 pub returns : goal.returns
 returns c =
-    permits_wrote _ _ c.wrapping_add_u64-permits.ensures c.write_difference-end.ensures
+    permits_wrote _ _ c.wrapping_add_u64-permits.ensures.value c.write_difference-end.ensures

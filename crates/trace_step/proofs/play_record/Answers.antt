@@ -20,21 +20,18 @@ make_record-made-requires c = let p = c.requires in (p.0, taken_reach _ _ p.2, r
 
 pub write_outcome-written-requires : goal.write_outcome-written-requires
 write_outcome-written-requires c =
-    let m = c in
-    let p = m.requires in
-    let few = few_told _ p.0 _ _ _ m.kind_of-kind.ensures (sym c.in-Answer.is ∙ m.make_record-made.ensures.answer) in
+    let p = c.requires in
+    let few = few_told _ p.0 _ _ _ c.kind_of-kind.ensures (sym c.in-Answer.is ∙ c.make_record-made.ensures.answer) in
     (search rules, few, omega (arith, few))
 
 pub returns-in-Answer : goal.returns-in-Answer
 returns-in-Answer c =
-    let m = c in
-    let p = m.requires in
-    played_call _ _ _ _ p.0 p.1 _ p.2 _ m.kind_of-kind.ensures (sym c.in-Answer.is ∙ m.make_record-made.ensures.answer)
-    m.make_record-made.ensures.words.0 m.make_record-made.ensures.words.1 c.write_outcome-written.ensures
+    let p = c.requires in
+    played_call _ _ _ _ p.0 p.1 _ p.2 _ c.kind_of-kind.ensures (sym c.in-Answer.is ∙ c.make_record-made.ensures.answer)
+    c.make_record-made.ensures.words c.make_record-made.ensures.records c.write_outcome-written.ensures
 
 pub returns-in-NoCall : goal.returns-in-NoCall
 returns-in-NoCall c =
-    let m = c in
-    let p = m.requires in
-    played_none _ _ _ _ p.0 p.1 _ p.2 (sym c.in-NoCall.is ∙ m.make_record-made.ensures.answer)
-    m.make_record-made.ensures.words.0 (omega arith) c.write_bad-written.ensures
+    let p = c.requires in
+    played_none _ _ _ _ p.0 p.1 _ p.2 (sym c.in-NoCall.is ∙ c.make_record-made.ensures.answer)
+    c.make_record-made.ensures.words (omega arith) c.write_bad-written.ensures

@@ -1,5 +1,4 @@
 -- `trace_step::step_record` meets its contract, by how far the record reaches.
-use borrow.Author.Rules.{rules}
 use native.Mathlib.Omega.{arith}
 use mathlib.Core.Path.{sym, ◌∙◌}
 use Rattle.trace_read.proofs.Reaches.{ends_there, cut_there, wrong_there}

@@ -10,7 +10,6 @@ use Rattle.layout.specs.Layout.{decode, put}
 use Rattle.layout.specs.Fields.{dispatcher_nth, set_dispatcher}
 use Rattle.groups.specs.Walk.{group_at}
 use Rattle.dispatcher.specs.Values.{mark_of}
-use borrow.Author.Rules.{rules}
 use Rattle.ack.proofs.ack_id.ack_entry.Goals as goal
 
 pub load_mark-mark-requires : goal.load_mark-mark-requires

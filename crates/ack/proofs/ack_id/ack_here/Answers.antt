@@ -6,7 +6,6 @@ use Rattle.layout.specs.Layout.{decode, put}
 use Rattle.layout.specs.Fields.{dispatcher_nth, set_dispatcher}
 use Rattle.groups.specs.Walk.{group_at}
 use Rattle.ack.proofs.Marking.{ack_there, ack_missing, ack_room}
-use borrow.Author.Rules.{rules}
 use Rattle.ack.proofs.ack_id.ack_here.Goals as goal
 
 pub ack_entry-requires : goal.ack_entry-requires

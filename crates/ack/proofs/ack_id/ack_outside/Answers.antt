@@ -1,11 +1,9 @@
 -- `ack::ack_id::ack_outside` meets its contract: the id joins the outside ids, or is among them already.
 use mathlib.Core.Path.{sym, ◌∙◌}
-use borrow.Author.Tests.{not-true, not-false}
 use Rattle.layout.specs.Layout.{decode}
 use Rattle.layout.specs.Fields.{dispatcher_nth}
 use Rattle.topic.specs.Ids.{id_of}
 use Rattle.ack.proofs.Marking.{last_room, unchanged}
-use borrow.Author.Rules.{rules}
 use Rattle.ack.proofs.ack_id.ack_outside.Goals as goal
 
 pub insert_outside-requires : goal.insert_outside-requires

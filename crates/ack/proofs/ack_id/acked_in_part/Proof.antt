@@ -1,6 +1,6 @@
 -- `ack::ack_id::acked_in_part` meets its contract: the entry was complete, or is if no bit is left.
 use mathlib.Core.Path.{◌≡◌, ◌∙◌}
-use Rattle.bits.specs.Four.{words, four}
+use Rattle.bits.specs.Four.{four}
 use Rattle.rules.specs.Dispatcher.{bits_left}
 use Rattle.groups.specs.Walk.{group_at}
 use Rattle.ack.proofs.Marking.{bits_now, none_left, or_left, or_right, in_part}

@@ -5,7 +5,6 @@ use native.Mathlib.Omega.{arith}
 use lib.ListN.{length, drop, length-drop}
 use Rattle.groups.specs.Walk.{group_at, words_at}
 use Rattle.ack.proofs.Marking.{whole_small, whole_wordless, part, no_words, some_words}
-use borrow.Author.Rules.{rules}
 use Rattle.ack.proofs.ack_id.acked_mark.Goals as goal
 
 pub returns-then-batch-le1 : goal.returns-then-batch-le1

@@ -8,7 +8,6 @@ use Rattle.rules.specs.Ledger.{message_at}
 use Rattle.layout.specs.Layout.{decode}
 use Rattle.layout.proofs.Placed.{topic_in}
 use Rattle.ack.proofs.Marking.{ledger_there}
-use borrow.Author.Rules.{rules}
 use Rattle.ack.proofs.ack_id.batch_size_of.Goals as goal
 
 pub batch_size-requires : goal.batch_size-requires

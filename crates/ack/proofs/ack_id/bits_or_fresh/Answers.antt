@@ -1,7 +1,6 @@
 -- `ack::ack_id::bits_or_fresh` meets its contract: fresh bits, or the stored ones.
 use mathlib.Core.Path.{sym, ◌∙◌}
 use Rattle.ack.proofs.Marking.{bits_fresh, bits_stored}
-use borrow.Author.Rules.{rules}
 use Rattle.ack.proofs.ack_id.bits_or_fresh.Goals as goal
 
 pub returns-then-bits_empty : goal.returns-then-bits_empty

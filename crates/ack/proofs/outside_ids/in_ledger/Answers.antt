@@ -1,6 +1,5 @@
 -- `ack::outside_ids::in_ledger` meets its contract: the position lies in the ledger, or not.
 use Rattle.rules.specs.Ledger.{holds_id}
-use borrow.Author.Rules.{rules}
 use Rattle.ack.proofs.outside_ids.in_ledger.Goals as goal
 
 pub returns : goal.returns

@@ -4,7 +4,6 @@ use Rattle.layout.specs.Fields.{dispatcher_nth}
 use Rattle.topic.specs.Ids.{id_of}
 use Rattle.rules.specs.Dispatcher.{is_outside}
 use Rattle.ack.proofs.Counts.{slot_any}
-use borrow.Author.Rules.{rules}
 use Rattle.ack.proofs.outside_ids.is_outside.Goals as goal
 
 pub returns : goal.returns

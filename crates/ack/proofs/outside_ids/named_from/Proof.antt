@@ -10,7 +10,6 @@ use Rattle.ack.specs.NewIds.{named}
 use Rattle.ack.proofs.Counts.{named_here, named_next, named_nothing}
 use Rattle.ack.proofs.outside_ids.named_from.Statement.{statement}
 use Rattle.ack.proofs.outside_ids.named_from.Tie as tie
-use borrow.Author.Rules.{rules}
 
 abbrev invariant_loop : tie.invariant-loop-at
 invariant_loop list from ledger entry at₀ at = Stands list at × (named (id_of ledger entry) (groups_from list from) ≡ named (id_of ledger entry) (groups_from list at))

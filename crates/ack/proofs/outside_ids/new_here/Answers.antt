@@ -7,7 +7,6 @@ use Rattle.layout.specs.Layout.{decode}
 use Rattle.layout.specs.Fields.{dispatcher_nth}
 use Rattle.ack.specs.NewIds.{named}
 use Rattle.ack.proofs.Counts.{bit_held, bit_known, bit_later, bit_counts}
-use borrow.Author.Rules.{rules}
 use Rattle.ack.proofs.outside_ids.new_here.Goals as goal
 
 pub returns-then-in_ledger : goal.returns-then-in_ledger

@@ -12,7 +12,6 @@ use Rattle.ack.specs.NewIds.{new_count}
 use Rattle.ack.proofs.Counts.{count_few, count_first, count_nothing}
 use Rattle.ack.proofs.outside_ids.new_ids.Statement.{statement}
 use Rattle.ack.proofs.outside_ids.new_ids.Tie as tie
-use borrow.Author.Rules.{rules}
 
 abbrev invariant_loop : tie.invariant-loop-at
 invariant_loop store e d topic list at₀ count₀ at count = Stands list at × (count + new_count (ledger_of (decode store) topic) (dispatcher_nth (decode store) d).outside (groups_from list at) ≡ new_count (ledger_of (decode store) topic) (dispatcher_nth (decode store) d).outside (groups_from list 0))

@@ -11,7 +11,6 @@ use Rattle.groups.specs.Walk.{groups_from}
 use Rattle.groups.proofs.Walks.{stands_few}
 use Rattle.rules.specs.Commands.{ack_groups}
 use Rattle.ack.proofs.Counts.{count_after, count_few}
-use borrow.Author.Rules.{rules}
 use Rattle.ack.proofs.outside_ids.passes_64.Goals as goal
 
 pub overflow_add-result : goal.overflow_add-result

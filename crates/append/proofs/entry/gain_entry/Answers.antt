@@ -3,7 +3,6 @@ use mathlib.Core.Path.{ap, ◌∙◌}
 use Prim.Native.Nat.{◌≤◌, ◌<◌}
 use native.Mathlib.Omega.{arith}
 use lib.ListN.{length}
-use borrow.Author.Rules.{rules}
 use Rattle.layout.specs.Layout.{decode, put}
 use Rattle.rules.specs.State.{Dispatcher}
 use Rattle.layout.specs.Fields.{dispatcher_nth, set_dispatcher}

@@ -1,6 +1,5 @@
 -- `append::entry::new_entry` meets its contract, by whether the dispatcher is one of the topic.
 use mathlib.Core.Path.{sym, ap, ◌∙◌}
-use borrow.Author.Rules.{rules}
 use Rattle.layout.specs.Layout.{decode, put}
 use Rattle.rules.specs.State.{Dispatcher}
 use Rattle.layout.specs.Fields.{dispatcher_nth, set_dispatcher}

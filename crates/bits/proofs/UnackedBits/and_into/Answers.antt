@@ -6,7 +6,6 @@ use Rattle.bits.specs.Four.{words}
 use Rattle.bits.specs.declared.UnackedBits.{UnackedBits}
 use Rattle.bits.proofs.Sets.{and_into_masked}
 use Rattle.bits.proofs.Fours.{is_four}
-use borrow.Author.Rules.{rules}
 use Rattle.bits.proofs.UnackedBits.and_into.Goals as goal
 
 pub returns : goal.returns

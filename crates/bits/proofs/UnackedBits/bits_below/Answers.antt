@@ -1,6 +1,5 @@
 -- `UnackedBits::bits_below` meets its contract: the four tests are those of the list. Assumes nothing.
 use Rattle.bits.proofs.Fours.{four_below}
-use borrow.Author.Rules.{rules}
 use Rattle.bits.proofs.UnackedBits.bits_below.Goals as goal
 
 pub returns : goal.returns

@@ -1,6 +1,5 @@
 -- `UnackedBits::bits_cardinality` meets its contract: the four counts add up to that of the list. Assumes nothing.
 use Rattle.bits.proofs.Fours.{four_cardinality}
-use borrow.Author.Rules.{rules}
 use Rattle.bits.proofs.UnackedBits.bits_cardinality.Goals as goal
 
 pub returns : goal.returns

@@ -1,14 +1,10 @@
 -- The store keeps its length; the measure is the number of turns that are left.
-use native.Mathlib.Omega.{arith}
 use mathlib.Core.Path.{◌≡◌}
 use lib.ListN.{length}
-use borrow.Author.Rules.{rules}
-use Rattle.cases.proofs.replay.replay.Reads as reads
-use Rattle.cases.proofs.replay.replay.Lts as lts
 use Rattle.cases.proofs.replay.replay.Given as goal
 
 abbrev pub invariant-loop-turns : goal.invariant-loop-turns
-invariant-loop-turns l = 8192 ≡ length l.store
+invariant-loop-turns g l = 8192 ≡ length l.store
 
 abbrev pub decreases-loop-turns : goal.decreases-loop-turns
-decreases-loop-turns l = l.turns
+decreases-loop-turns g l = l.turns

@@ -13,11 +13,6 @@ use Rattle.check_state.proofs.Consumers.{consumer_by_parts}
 use borrow.Author.Rules.{rules}
 use Rattle.check_state.proofs.valid_consumers.consumer_valid.Statement.{statement}
 use Rattle.check_state.proofs.valid_consumers.consumer_valid.Tie as tie
-use Rattle.check_state.proofs.valid_consumers.consumer_valid.Reads as reads
-use Rattle.check_state.proofs.valid_consumers.consumer_valid.Lts as lts
-use Rattle.check_state.proofs.valid_consumers.attached_valid.Reads as attached_valid_reads
-use Rattle.check_state.proofs.valid_consumers.numbers_valid.Reads as numbers_valid_reads
-use Rattle.check_state.proofs.valid_consumers.places_valid.Reads as places_valid_reads
 
 -- the three parts make up the rule
 parts : (c : tie.After-shared_slice_known-1)

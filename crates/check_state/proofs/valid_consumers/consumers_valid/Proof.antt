@@ -17,11 +17,6 @@ use Rattle.check_state.proofs.Ascend.{below, ascending_steps}
 use Rattle.store.proofs.Prefixes.{Stepwise, Passed, all_steps, both_steps, passed_start, passed_stop, passed_turn, passed_end}
 use Rattle.check_state.proofs.valid_consumers.consumers_valid.Statement.{statement}
 use Rattle.check_state.proofs.valid_consumers.consumers_valid.Tie as tie
-use Rattle.check_state.proofs.valid_consumers.consumers_valid.Reads as reads
-use Rattle.check_state.proofs.valid_consumers.consumers_valid.Lts as lts
-use Rattle.store.proofs.stretch.word.Reads as word_reads
-use Rattle.check_state.proofs.valid_consumers.consumer_valid.Reads as consumer_valid_reads
-use Rattle.check_state.proofs.valid_consumers.id_ascends.Reads as id_ascends_reads
 
 abbrev invariant_loop : tie.invariant-loop-i
 invariant_loop store e n i₀ i = (i ≤ n) × Passed (λ l. ascending l && all (valid_consumer (decode store)) l) (decode store).consumers i

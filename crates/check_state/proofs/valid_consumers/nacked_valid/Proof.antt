@@ -18,9 +18,6 @@ use Rattle.store.proofs.Inside.{consumer_inside}
 use Rattle.store.proofs.Prefixes.{Passed, all_steps, passed_start, passed_stop, passed_turn, passed_end}
 use Rattle.check_state.proofs.valid_consumers.nacked_valid.Statement.{statement}
 use Rattle.check_state.proofs.valid_consumers.nacked_valid.Tie as tie
-use Rattle.check_state.proofs.valid_consumers.nacked_valid.Reads as reads
-use Rattle.check_state.proofs.valid_consumers.nacked_valid.Lts as lts
-use Rattle.store.proofs.stretch.word.Reads as word_reads
 
 abbrev invariant_loop : tie.invariant-loop-j
 invariant_loop store e i n first count j₀ j = (j ≤ count) × Passed (all (λ (k : ℕ). ltb k n)) (consumer_nth (decode store) i).nacked j

@@ -15,8 +15,6 @@ use Rattle.check_topics.proofs.Bytes.{byte_over, byte_within}
 use borrow.Author.Rules.{rules}
 use Rattle.check_state.proofs.valid_consumers.numbers_valid.Statement.{statement}
 use Rattle.check_state.proofs.valid_consumers.numbers_valid.Tie as tie
-use Rattle.check_state.proofs.valid_consumers.numbers_valid.Reads as reads
-use Rattle.check_state.proofs.valid_consumers.numbers_valid.Lts as lts
 
 -- the topic that is read
 topic : (c : tie.Start)

@@ -12,11 +12,6 @@ use Rattle.store.proofs.Tests.{fails, passes}
 use borrow.Author.Rules.{rules}
 use Rattle.check_state.proofs.valid_consumers.places_valid.Statement.{statement}
 use Rattle.check_state.proofs.valid_consumers.places_valid.Tie as tie
-use Rattle.check_state.proofs.valid_consumers.places_valid.Reads as reads
-use Rattle.check_state.proofs.valid_consumers.places_valid.Lts as lts
-use Rattle.topic.proofs.table.ledger_length.Reads as ledger_length_reads
-use Rattle.store.proofs.stretch.word.Reads as word_reads
-use Rattle.check_state.proofs.valid_consumers.nacked_valid.Reads as nacked_valid_reads
 
 -- the length is that of the consumer's ledger
 ledger : (c : tie.After-ledger_length-n)

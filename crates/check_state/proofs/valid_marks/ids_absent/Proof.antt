@@ -1,10 +1,8 @@
 -- `check_state::valid_marks::ids_absent` meets its contract. The loop's invariant: none of the ids before i is in the ledger.
 use borrow.Author.Rules.{rules}
 use mathlib.Core.Path.{◌≡◌, refl, sym, ap, ap₂, ◌∙◌}
-use mathlib.Core.Bool.{Bool, true, not}
-use Prim.Native.Nat.{ℕ, ◌+◌, ◌*◌, ◌-◌, ◌≤◌, ◌<◌}
-use native.Mathlib.Omega.{arith}
-use lib.ListN.{get_or}
+use mathlib.Core.Bool.{true, not}
+use Prim.Native.Nat.{ℕ, ◌-◌, ◌≤◌, ◌<◌}
 use Rattle.check_rows.specs.Below.{each_below}
 use Rattle.check_rows.specs.Rows.{row, row_second, above_last}
 use Rattle.check_state.specs.Marks.{absent_id, absent}

@@ -1,17 +1,10 @@
 -- `check_words::canonical::body_canonical` meets its contract: the tests are those of the body's parts, in order.
-use mathlib.Core.Path.{◌≡◌, sym, ◌∙◌}
+use mathlib.Core.Path.{sym, ◌∙◌}
 use Prim.Native.Nat.{◌+◌, ◌*◌}
 use native.Mathlib.Omega.{arith}
-use borrow.Author.Rules.{rules}
 use Rattle.layout.proofs.Body.{check_body}
 use Rattle.store.proofs.Tests.{fails, passes, answered_no, answered_yes}
 use Rattle.check_words.proofs.Spelt.{blank_is}
-use Rattle.check_words.proofs.canonical.body_canonical.Reads as reads
-use Rattle.check_words.proofs.canonical.body_canonical.Lts as lts
-use Rattle.check_words.proofs.canonical.consumers_canonical.Reads as consumers_canonical_reads
-use Rattle.check_words.proofs.canonical.dispatchers_canonical.Reads as dispatchers_canonical_reads
-use Rattle.check_words.proofs.canonical.topics_canonical.Reads as topics_canonical_reads
-use Rattle.store.proofs.stretch.is_blank.Reads as is_blank_reads
 use Rattle.check_words.proofs.canonical.body_canonical.Goals as goal
 
 pub returns-then-not-consumers_canonical : goal.returns-then-not-consumers_canonical

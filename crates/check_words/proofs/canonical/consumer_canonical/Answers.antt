@@ -1,12 +1,8 @@
 -- `check_words::canonical::consumer_canonical` meets its contract: the tests are those of a consumer's parts, in order.
 use mathlib.Core.Path.{refl, sym, ◌∙◌}
-use borrow.Author.Rules.{rules}
 use borrow.Author.Tests.{lt-leb, le-leb}
 use Rattle.store.proofs.Tests.{fails, passes, answered_no, answered_yes}
 use Rattle.check_words.proofs.Parts.{consumer_parts}
-use Rattle.check_words.proofs.canonical.consumer_canonical.Reads as reads
-use Rattle.check_words.proofs.canonical.consumer_canonical.Lts as lts
-use Rattle.check_words.proofs.canonical.list_canonical.Reads as list_canonical_reads
 use Rattle.check_words.proofs.canonical.consumer_canonical.Goals as goal
 
 pub returns-then-store-at-gt1 : goal.returns-then-store-at-gt1

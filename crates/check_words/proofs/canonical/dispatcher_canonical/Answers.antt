@@ -2,15 +2,9 @@
 use mathlib.Core.Path.{sym, ◌∙◌}
 use Prim.Native.Nat.{◌+◌}
 use native.Mathlib.Omega.{arith}
-use borrow.Author.Rules.{rules}
 use Rattle.store.proofs.Tests.{fails, passes, answered_no, answered_yes}
 use Rattle.check_words.proofs.Spelt.{blank_is}
 use Rattle.check_words.proofs.Parts.{dispatcher_parts}
-use Rattle.check_words.proofs.canonical.dispatcher_canonical.Reads as reads
-use Rattle.check_words.proofs.canonical.dispatcher_canonical.Lts as lts
-use Rattle.check_words.proofs.canonical.lists_canonical.Reads as lists_canonical_reads
-use Rattle.check_words.proofs.canonical.marks_canonical.Reads as marks_canonical_reads
-use Rattle.store.proofs.stretch.is_blank.Reads as is_blank_reads
 use Rattle.check_words.proofs.canonical.dispatcher_canonical.Goals as goal
 
 pub returns-then-not-is_blank : goal.returns-then-not-is_blank

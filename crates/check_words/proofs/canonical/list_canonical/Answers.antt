@@ -1,18 +1,9 @@
 -- `check_words::canonical::list_canonical` meets its contract: the count is tested, then the slots past it.
-use mathlib.Core.Path.{◌≡◌, refl, sym, ap, ◌∙◌}
-use Prim.Native.Nat.{ℕ, ◌+◌, ◌-◌, ◌*◌, ◌≤◌}
+use Prim.Native.Nat.{◌*◌, ◌≤◌}
 use native.Mathlib.Omega.{arith}
-use lib.ListN.{drop}
 use borrow.Author.Rules.{rules}
-use borrow.Author.Tests.{lt-leb, le-leb}
-use Rattle.words.specs.Words.{blank}
-use Rattle.check_words.specs.Canonical.{list_canonical}
 use Rattle.store.proofs.Rooms.{room_le}
 use Rattle.check_words.proofs.Spelt.{list_over, list_within}
-use Rattle.check_words.proofs.canonical.list_canonical.Reads as reads
-use Rattle.check_words.proofs.canonical.list_canonical.Lts as lts
-use Rattle.store.proofs.stretch.is_blank.Reads as is_blank_reads
-use Rattle.store.proofs.stretch.word.Reads as word_reads
 use Rattle.check_words.proofs.canonical.list_canonical.Goals as goal
 
 pub returns-then-most-n : goal.returns-then-most-n

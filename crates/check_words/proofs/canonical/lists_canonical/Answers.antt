@@ -1,10 +1,6 @@
 -- `check_words::canonical::lists_canonical` meets its contract: the four lists are tested in order.
-use borrow.Author.Rules.{rules}
 use Rattle.store.proofs.Tests.{fails, passes, answered_no, answered_yes}
 use Rattle.check_words.specs.Canonical.{lists_canonical}
-use Rattle.check_words.proofs.canonical.lists_canonical.Reads as reads
-use Rattle.check_words.proofs.canonical.lists_canonical.Lts as lts
-use Rattle.check_words.proofs.canonical.list_canonical.Reads as list_canonical_reads
 use Rattle.check_words.proofs.canonical.lists_canonical.Goals as goal
 
 pub returns-then-not-list_canonical : goal.returns-then-not-list_canonical

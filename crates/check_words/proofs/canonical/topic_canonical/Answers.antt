@@ -1,15 +1,10 @@
 -- `check_words::canonical::topic_canonical` meets its contract: the tests are those of a topic's parts, in order.
 use mathlib.Core.Path.{sym, ◌∙◌}
-use borrow.Author.Rules.{rules}
 use Prim.Native.Nat.{◌+◌}
 use native.Mathlib.Omega.{arith}
 use Rattle.store.proofs.Tests.{fails, passes, answered_no, answered_yes}
 use Rattle.check_words.proofs.Spelt.{blank_is}
 use Rattle.check_words.proofs.Parts.{topic_parts}
-use Rattle.check_words.proofs.canonical.topic_canonical.Reads as reads
-use Rattle.check_words.proofs.canonical.topic_canonical.Lts as lts
-use Rattle.check_words.proofs.canonical.list_canonical.Reads as list_canonical_reads
-use Rattle.store.proofs.stretch.is_blank.Reads as is_blank_reads
 use Rattle.check_words.proofs.canonical.topic_canonical.Goals as goal
 
 pub returns-then-not-is_blank : goal.returns-then-not-is_blank

@@ -11,11 +11,6 @@ use Rattle.store.proofs.Rooms.{slot_le, room_le}
 use Rattle.check_words.proofs.Tables.{Left, table_over, table_start, table_stop, table_turn, table_end}
 use Rattle.check_words.proofs.canonical.topics_canonical.Statement.{statement}
 use Rattle.check_words.proofs.canonical.topics_canonical.Tie as tie
-use Rattle.check_words.proofs.canonical.topics_canonical.Reads as reads
-use Rattle.check_words.proofs.canonical.topics_canonical.Lts as lts
-use Rattle.check_words.proofs.canonical.topic_canonical.Reads as topic_canonical_reads
-use Rattle.store.proofs.stretch.is_blank.Reads as is_blank_reads
-use Rattle.store.proofs.stretch.word.Reads as word_reads
 
 abbrev invariant_loop : tie.invariant-loop-i
 invariant_loop store e n width i₀ i = (i ≤ n) × Left (topic_codec e) (4 + 4 * e) store 2322 n i

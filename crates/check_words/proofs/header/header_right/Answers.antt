@@ -1,9 +1,5 @@
 -- `check_words::header::header_right` meets its contract: the tests are the header's, in order.
-use borrow.Author.Rules.{rules}
 use Rattle.check_words.proofs.Headers.{too_short, other_tag, E_low, E_high, no_leak_flag, no_noop_flag, rest_decides}
-use Rattle.check_words.proofs.header.header_right.Reads as reads
-use Rattle.check_words.proofs.header.header_right.Lts as lts
-use Rattle.store.proofs.stretch.is_blank.Reads as is_blank_reads
 use Rattle.check_words.proofs.header.header_right.Goals as goal
 
 pub returns-then-store-lt-HEADER_WORDS : goal.returns-then-store-lt-HEADER_WORDS

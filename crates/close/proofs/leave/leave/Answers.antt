@@ -1,6 +1,5 @@
 -- `close::leave::leave` meets its contract: what it holds goes back, then it leaves the ring, then the total is set.
 use Rattle.close.proofs.Rings.{back_in, out_in, left_words}
-use borrow.Author.Rules.{rules}
 use Rattle.close.proofs.leave.leave.Goals as goal
 
 pub leave_ring-requires : goal.leave_ring-requires

@@ -1,6 +1,5 @@
 -- `close::leave::next_of` meets its contract: 0 in an empty ring, else the remainder.
 use Rattle.close.proofs.Rings.{next_empty, next_rest}
-use borrow.Author.Rules.{rules}
 use Rattle.close.proofs.leave.next_of.Goals as goal
 
 pub returns-then-n-eq0 : goal.returns-then-n-eq0

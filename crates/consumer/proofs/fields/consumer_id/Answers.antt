@@ -1,6 +1,5 @@
 -- `consumer::fields::consumer_id` meets its contract: the word at its offset.
 use Rattle.layout.proofs.Gets.{read_consumer_id}
-use borrow.Author.Rules.{rules}
 use Rattle.consumer.proofs.fields.consumer_id.Goals as goal
 
 pub returns : goal.returns

@@ -1,7 +1,6 @@
 -- `consumer::fields::cursor` meets its contract: the word at its offset.
 use mathlib.Core.Path.{◌∙◌}
 use Rattle.layout.proofs.Gets.{read_consumer_cursor}
-use borrow.Author.Rules.{rules}
 use Rattle.consumer.proofs.fields.cursor.Goals as goal
 
 pub returns : goal.returns

@@ -4,7 +4,6 @@ use Rattle.rules.specs.State.{Pair, by_pair}
 use Rattle.layout.specs.Layout.{decode}
 use Rattle.layout.specs.Fields.{consumer_nth, pair_of}
 use Rattle.store.specs.Find.{slot}
-use borrow.Author.Rules.{rules}
 use Rattle.consumer.proofs.fields.dispatcher_of.Goals as goal
 
 pub returns : goal.returns

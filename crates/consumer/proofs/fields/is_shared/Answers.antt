@@ -4,7 +4,6 @@ use Prim.Native.Nat.{ℕ}
 use lib.Dec.{eqb}
 use Rattle.layout.proofs.Gets.{read_consumer_kind}
 use Rattle.dispatcher.proofs.Loads.{bit_set}
-use borrow.Author.Rules.{rules}
 use Rattle.consumer.proofs.fields.is_shared.Goals as goal
 
 pub returns : goal.returns

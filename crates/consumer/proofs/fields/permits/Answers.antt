@@ -1,6 +1,5 @@
 -- `consumer::fields::permits` meets its contract: the word at its offset.
 use Rattle.layout.proofs.Gets.{read_consumer_permits}
-use borrow.Author.Rules.{rules}
 use Rattle.consumer.proofs.fields.permits.Goals as goal
 
 pub returns : goal.returns

@@ -1,6 +1,5 @@
 -- `consumer::fields::set_cursor` meets its contract: the word at its offset.
 use Rattle.layout.proofs.Sets.{write_consumer_cursor}
-use borrow.Author.Rules.{rules}
 use Rattle.consumer.proofs.fields.set_cursor.Goals as goal
 
 pub returns : goal.returns

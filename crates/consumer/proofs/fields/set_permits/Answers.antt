@@ -1,6 +1,5 @@
 -- `consumer::fields::set_permits` meets its contract: the word at its offset.
 use Rattle.layout.proofs.Sets.{write_consumer_permits}
-use borrow.Author.Rules.{rules}
 use Rattle.consumer.proofs.fields.set_permits.Goals as goal
 
 pub returns : goal.returns

@@ -1,6 +1,5 @@
 -- `consumer::fields::subscription` meets its contract: the word at its offset.
 use Rattle.layout.proofs.Gets.{read_consumer_subscription}
-use borrow.Author.Rules.{rules}
 use Rattle.consumer.proofs.fields.subscription.Goals as goal
 
 pub returns : goal.returns

@@ -1,6 +1,5 @@
 -- `consumer::fields::topic` meets its contract: the word at its offset.
 use Rattle.layout.proofs.Gets.{read_consumer_topic}
-use borrow.Author.Rules.{rules}
 use Rattle.consumer.proofs.fields.topic.Goals as goal
 
 pub returns : goal.returns

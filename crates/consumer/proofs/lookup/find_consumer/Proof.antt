@@ -1,6 +1,6 @@
 -- `consumer::lookup::find_consumer` meets its contract: the consumers are looked at one by one. The loop's invariant: the
 -- consumer's slot among those from i on is its slot among all.
-use mathlib.Core.Path.{◌≡◌, refl, sym, ◌∙◌}
+use mathlib.Core.Path.{◌≡◌, sym, ◌∙◌}
 use Prim.Native.Nat.{◌+◌, ◌*◌, ◌-◌, ◌≤◌, ◌<◌}
 use native.Mathlib.Omega.{arith}
 use lib.ListN.{length}
@@ -14,9 +14,6 @@ use Rattle.store.proofs.Finding.{Sought, sought_start, sought_here, sought_on, s
 use Rattle.consumer.proofs.Lookups.{lookup_live, lookup_missing, lookup_rules}
 use Rattle.consumer.proofs.lookup.find_consumer.Statement.{statement}
 use Rattle.consumer.proofs.lookup.find_consumer.Tie as tie
-use Rattle.consumer.proofs.lookup.find_consumer.Reads as reads
-use Rattle.consumer.proofs.lookup.find_consumer.Lts as lts
-use Rattle.consumer.proofs.table.consumer_count.Reads as consumer_count_reads
 
 abbrev invariant_loop : tie.invariant-loop-i
 invariant_loop store e id n i₀ i = (i ≤ n) × Sought by_id id (decode store).consumers i

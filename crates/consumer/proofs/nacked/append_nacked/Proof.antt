@@ -1,8 +1,6 @@
 -- `consumer::nacked::append_nacked` meets its contract: the position at the end, then their count.
-use mathlib.Core.Path.{◌≡◌, refl, sym, ap, ◌∙◌}
+use mathlib.Core.Path.{◌≡◌, ◌∙◌}
 use native.Mathlib.Omega.{arith}
-use Prim.Native.Nat.{ℕ, ◌+◌, ◌-◌, ◌≤◌, ◌<◌}
-use mathlib.Core.List.{List, [], ◌∷◌}
 use lib.ListN.{length, length-set}
 use Rattle.layout.specs.Layout.{decode}
 use Rattle.layout.specs.Fields.{consumer_nth}
@@ -11,10 +9,6 @@ use Rattle.layout.proofs.Sets as layout
 use borrow.Author.Rules.{rules}
 use Rattle.consumer.proofs.nacked.append_nacked.Statement.{statement}
 use Rattle.consumer.proofs.nacked.append_nacked.Tie as tie
-use Rattle.consumer.proofs.nacked.append_nacked.Reads as reads
-use Rattle.consumer.proofs.nacked.append_nacked.Lts as lts
-use Rattle.store.proofs.offsets.consumer_at.Reads as consumer_at_reads
-use Rattle.store.proofs.stretch.word.Reads as word_reads
 
 -- the count is the number of nacked positions
 counted : (c : tie.After-word-n) → c.word-n.result ≡ length (consumer_nth (decode c.args.store.now) c.args.i).nacked

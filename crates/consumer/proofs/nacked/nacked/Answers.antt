@@ -1,7 +1,6 @@
 -- `consumer::nacked::nacked` meets its contract: the word at its offset.
 use mathlib.Core.Path.{◌∙◌}
 use Rattle.layout.proofs.Gets.{read_nacked}
-use borrow.Author.Rules.{rules}
 use Rattle.consumer.proofs.nacked.nacked.Goals as goal
 
 pub returns : goal.returns

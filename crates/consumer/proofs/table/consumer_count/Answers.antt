@@ -1,7 +1,6 @@
 -- `consumer::table::consumer_count` meets its contract: the word at its offset.
 use mathlib.Core.Path.{◌∙◌}
 use Rattle.layout.proofs.Gets.{read_consumer_count}
-use borrow.Author.Rules.{rules}
 use Rattle.consumer.proofs.table.consumer_count.Goals as goal
 
 pub returns : goal.returns

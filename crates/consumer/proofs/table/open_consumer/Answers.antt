@@ -1,6 +1,5 @@
 -- `consumer::table::open_consumer` meets its contract: the gap is opened, then the count is one more.
 use Rattle.consumer.proofs.Openings.{opened}
-use borrow.Author.Rules.{rules}
 use Rattle.consumer.proofs.table.open_consumer.Goals as goal
 
 pub returns : goal.returns

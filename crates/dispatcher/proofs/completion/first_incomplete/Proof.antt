@@ -1,22 +1,17 @@
 -- `dispatcher::completion::first_incomplete` meets its contract: the marks that lead from k on lead from the start on.
 use mathlib.Core.Path.{◌≡◌, refl, sym, ◌∙◌}
 use mathlib.Core.Bool.{true, false}
-use Prim.Native.Nat.{◌+◌, ◌-◌, ◌<◌}
+use Prim.Native.Nat.{◌+◌, ◌-◌}
 use native.Mathlib.Omega.{arith}
-use lib.ListN.{length, get_or, drop}
+use lib.ListN.{get_or, drop}
 use Rattle.rules.specs.State.{new_mark}
 use Rattle.rules.specs.Dispatcher.{leading_complete, mark_at, complete_at}
 use Rattle.layout.specs.Layout.{decode}
 use Rattle.layout.specs.Fields.{dispatcher_nth}
 use Rattle.dispatcher.proofs.Completing.{leads_on, leads_not, leads_past}
-use borrow.Author.Tests.{not-true, not-false}
 use borrow.Author.Rules.{rules}
 use Rattle.dispatcher.proofs.completion.first_incomplete.Statement.{statement}
 use Rattle.dispatcher.proofs.completion.first_incomplete.Tie as tie
-use Rattle.dispatcher.proofs.completion.first_incomplete.Reads as reads
-use Rattle.dispatcher.proofs.completion.first_incomplete.Lts as lts
-use Rattle.dispatcher.proofs.marks.is_complete.Reads as is_complete_reads
-use Rattle.dispatcher.proofs.marks.mark_count.Reads as mark_count_reads
 
 abbrev invariant_loop : tie.invariant-loop-k
 invariant_loop store e d from n k₀ k = from + leading_complete (drop from (dispatcher_nth (decode store) d).marks) ≡ k + leading_complete (drop k (dispatcher_nth (decode store) d).marks)

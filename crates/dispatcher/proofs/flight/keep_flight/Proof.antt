@@ -10,11 +10,6 @@ use Rattle.dispatcher.proofs.Loads.{kept_flight}
 use borrow.Author.Rules.{rules}
 use Rattle.dispatcher.proofs.flight.keep_flight.Statement.{statement}
 use Rattle.dispatcher.proofs.flight.keep_flight.Tie as tie
-use Rattle.dispatcher.proofs.flight.keep_flight.Reads as reads
-use Rattle.dispatcher.proofs.flight.keep_flight.Lts as lts
-use Rattle.store.proofs.offsets.dispatcher_at.Reads as dispatcher_at_reads
-use Rattle.store.proofs.stretch.clear_words.Reads as clear_words_reads
-use Rattle.store.proofs.stretch.word.Reads as word_reads
 
 -- the count is the number of entries in flight
 counted : (c : tie.After-word-count) → c.word-count.result ≡ length (dispatcher_nth (decode c.args.store.now) c.args.d).in_flight

@@ -11,10 +11,6 @@ use Rattle.layout.specs.Fields.{zero_dispatcher}
 use Rattle.store.proofs.Finding.{Sought, sought_start, sought_here, sought_on, sought_end}
 use Rattle.dispatcher.proofs.table.find_dispatcher.Statement.{statement}
 use Rattle.dispatcher.proofs.table.find_dispatcher.Tie as tie
-use Rattle.dispatcher.proofs.table.find_dispatcher.Reads as reads
-use Rattle.dispatcher.proofs.table.find_dispatcher.Lts as lts
-use Rattle.dispatcher.proofs.table.is_of_pair.Reads as is_of_pair_reads
-use Rattle.dispatcher.proofs.table.dispatcher_count.Reads as dispatcher_count_reads
 
 abbrev invariant_loop : tie.invariant-loop-d
 invariant_loop store e topic subscription n d₀ d =

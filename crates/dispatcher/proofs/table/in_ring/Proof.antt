@@ -13,11 +13,6 @@ use Rattle.dispatcher.proofs.Rings.{dispatcher_is, ring_none}
 use borrow.Author.Rules.{rules}
 use Rattle.dispatcher.proofs.table.in_ring.Statement.{statement}
 use Rattle.dispatcher.proofs.table.in_ring.Tie as tie
-use Rattle.dispatcher.proofs.table.in_ring.Reads as reads
-use Rattle.dispatcher.proofs.table.in_ring.Lts as lts
-use Rattle.dispatcher.proofs.table.find_dispatcher.Reads as find_dispatcher_reads
-use Rattle.dispatcher.proofs.table.ring_holds.Reads as ring_holds_reads
-use Rattle.dispatcher.proofs.table.dispatcher_count.Reads as dispatcher_count_reads
 
 -- the pair that is sought
 abbrev wanted : tie.Start → Pair

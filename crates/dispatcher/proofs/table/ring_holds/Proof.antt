@@ -17,9 +17,6 @@ use Rattle.store.proofs.Inside.{dispatcher_inside}
 use Rattle.store.proofs.Prefixes.{Passed, none_steps, passed_start, passed_stop, passed_turn, passed_end}
 use Rattle.dispatcher.proofs.table.ring_holds.Statement.{statement}
 use Rattle.dispatcher.proofs.table.ring_holds.Tie as tie
-use Rattle.dispatcher.proofs.table.ring_holds.Reads as reads
-use Rattle.dispatcher.proofs.table.ring_holds.Lts as lts
-use Rattle.store.proofs.stretch.word.Reads as word_reads
 
 abbrev invariant_loop : tie.invariant-loop-j
 invariant_loop store e d id first n j₀ j = (j ≤ n) × Passed (λ l. not (any (eqb id) l)) (dispatcher_nth (decode store) d).attached j

@@ -1,9 +1,6 @@
 -- `groups::form::group_fits` meets its contract, by the lemmas of `Forms` for each way out.
 use native.Mathlib.Omega.{arith}
 use Rattle.groups.proofs.Forms.{head_outside, too_many, words_fit}
-use borrow.Author.Rules.{rules}
-use Rattle.groups.proofs.form.group_fits.Reads as reads
-use Rattle.groups.proofs.form.group_fits.Lts as lts
 use Rattle.groups.proofs.form.group_fits.Goals as goal
 
 pub returns-then-left-lt3 : goal.returns-then-left-lt3

@@ -6,16 +6,11 @@ use mathlib.Core.Bool.{true}
 use native.Mathlib.Omega.{arith}
 use lib.ListN.{length}
 use borrow.Author.Rules.{rules}
-use borrow.Author.Tests.{not-true, not-false}
 use Rattle.groups.specs.Walk.{group_fits}
 use Rattle.groups.proofs.Steps.{says_fits}
 use Rattle.groups.proofs.Forms.{Formed, formed_start, formed_full, formed_broken, formed_on, formed_end}
 use Rattle.groups.proofs.form.list_right.Statement.{statement}
 use Rattle.groups.proofs.form.list_right.Tie as tie
-use Rattle.groups.proofs.form.list_right.Reads as reads
-use Rattle.groups.proofs.form.list_right.Lts as lts
-use Rattle.groups.proofs.form.group_fits.Reads as group_fits_reads
-use Rattle.groups.proofs.walk.group_end.Reads as group_end_reads
 
 abbrev invariant_loop : tie.invariant-loop-at
 invariant_loop list at₀ left₀ at left = (at ≤ length list) × (left ≤ 64) × Formed list at left

@@ -2,14 +2,9 @@
 use mathlib.Core.Path.{ap, ◌∙◌}
 use mathlib.Core.List.{List}
 use Prim.Native.Nat.{ℕ}
-use borrow.Author.Rules.{rules}
 use Rattle.bits.specs.Bits.{and_into}
 use Rattle.bits.specs.Four.{four, words}
 use Rattle.groups.proofs.Walks.{words_lent}
-use Rattle.groups.proofs.walk.and_group.Reads as reads
-use Rattle.groups.proofs.walk.and_group.Lts as lts
-use Rattle.bits.proofs.UnackedBits.and_into.Reads as and_into_reads
-use Rattle.groups.proofs.walk.group_end.Reads as group_end_reads
 use Rattle.groups.proofs.walk.and_group.Goals as goal
 
 pub returns : goal.returns

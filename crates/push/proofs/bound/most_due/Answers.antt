@@ -2,7 +2,6 @@
 use native.Mathlib.Omega.{arith}
 use Rattle.layout.specs.Layout.{decode}
 use Rattle.push.proofs.Most.{most_small}
-use borrow.Author.Rules.{rules}
 use Rattle.push.proofs.bound.most_due.Goals as goal
 
 pub overflow_add-result : goal.overflow_add-result

@@ -4,7 +4,6 @@ use Rattle.layout.specs.Layout.{decode}
 use Rattle.layout.specs.Fields.{consumer_nth}
 use Rattle.consumer.proofs.Records.{flag_shared, flag_plain}
 use Rattle.push.proofs.Most.{waits_not, waits}
-use borrow.Author.Rules.{rules}
 use Rattle.push.proofs.bound.waiting_for.Goals as goal
 
 pub returns-then-is_shared : goal.returns-then-is_shared

@@ -7,7 +7,6 @@ use Rattle.layout.specs.Fields.{consumer_nth}
 use Rattle.consumer.proofs.Records.{flag_shared, flag_plain}
 use Rattle.push_laws.specs.Plain.{ledger_for}
 use Rattle.push_plain.proofs.Entries.{charged_shared, charged_plain}
-use borrow.Author.Rules.{rules}
 use Rattle.push_plain.proofs.due.plain_due.Goals as goal
 
 pub returns-then-is_shared : goal.returns-then-is_shared

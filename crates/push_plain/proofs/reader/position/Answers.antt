@@ -5,7 +5,6 @@ use lib.ListN.{length}
 use Rattle.layout.specs.Layout.{decode}
 use Rattle.layout.specs.Fields.{consumer_nth}
 use Rattle.push_plain.proofs.Entries.{position_nacked, position_later}
-use borrow.Author.Rules.{rules}
 use Rattle.push_plain.proofs.reader.position.Goals as goal
 
 pub returns-then-j-n : goal.returns-then-j-n

@@ -3,7 +3,6 @@ use mathlib.Core.Path.{ap}
 use Rattle.rules.specs.State.{StoredMessage, no_bits}
 use Rattle.record.proofs.Filled.{record_flat}
 use Rattle.push_plain.specs.Reading.{record_to}
-use borrow.Author.Rules.{rules}
 use Rattle.push_plain.proofs.serve.plain_record.Goals as goal
 
 pub returns : goal.returns

@@ -1,7 +1,7 @@
 -- `push_plain::serve::send_entry` meets its contract: the record of the entry at its position.
 use mathlib.Core.Path.{ap, ◌∙◌}
 use mathlib.Core.List.{List}
-use Prim.Native.Nat.{ℕ, ◌+◌, ◌*◌, ◌-◌}
+use Prim.Native.Nat.{ℕ, ◌+◌, ◌*◌}
 use Rattle.words.specs.Act.{lay}
 use Rattle.rules.specs.Push.{flat}
 use Rattle.layout.specs.Layout.{decode}

@@ -5,12 +5,11 @@ use Rattle.rules.specs.State.{Consumer}
 use Rattle.rules.specs.Commands.{with_permits}
 use Rattle.layout.specs.Layout.{decode, put}
 use Rattle.layout.specs.Fields.{consumer_nth, set_consumer}
-use Rattle.push_laws.specs.Plain.{plain_due, plain_records, ledger_for}
+use Rattle.push_laws.specs.Plain.{plain_records, ledger_for}
 use Rattle.record.specs.Flat.{filled}
 use Rattle.push_plain.proofs.Entries.{charged_permitted, charged_served}
 use Rattle.push_plain.proofs.Parts.{due_few}
 use Rattle.push_plain.proofs.Topics.{cursor_low}
-use borrow.Author.Rules.{rules}
 use Rattle.push_plain.proofs.serve.serve_consumer.Goals as goal
 
 pub take_entries-requires : goal.take_entries-requires

@@ -9,7 +9,6 @@ use Rattle.store.specs.Find.{slot}
 use Rattle.push_laws.specs.Plain.{ledger_for}
 use Rattle.push_plain.proofs.Entries.{fill_none}
 use Rattle.push_plain.proofs.Topics.{above, sendable}
-use borrow.Author.Rules.{rules}
 use Rattle.push_plain.proofs.serve.serve_due.Goals as goal
 
 pub returns-then-n-eq0 : goal.returns-then-n-eq0

@@ -1,9 +1,9 @@
 -- `push_plain::serve::serve_plain` meets its contract: the consumers before `i` are served, and the list with what is left is the list with all.
-use Prim.Native.Nat.{◌-◌, ◌≤◌, ◌<◌}
+use Prim.Native.Nat.{◌≤◌, ◌<◌}
 use native.Mathlib.Omega.{arith}
 use lib.ListN.{length}
 use Rattle.layout.specs.Layout.{decode}
-use Rattle.push_plain.proofs.Served.{Going, going_first, going_in, going_readable, going_room, going_on, going_long, going_count, going_words, going_records}
+use Rattle.push_plain.proofs.Served.{going_first, going_in, going_readable, going_room, going_on, going_long, going_count, going_words, going_records}
 use borrow.Author.Rules.{rules}
 use Rattle.push_plain.proofs.serve.serve_plain.Goals as goal
 

@@ -1,20 +1,12 @@
 -- `push_plain::serve::serve_records` meets its contract. The loop's invariant: the list with what is left is the list with all.
-use mathlib.Core.Path.{◌≡◌, refl, sym, ap, ◌∙◌}
-use mathlib.Core.List.{List}
-use Prim.Native.Nat.{ℕ, ◌+◌, ◌-◌, ◌*◌, ◌≤◌, ◌<◌}
-use native.Mathlib.Omega.{arith}
+use mathlib.Core.Path.{◌≡◌}
+use Prim.Native.Nat.{◌+◌, ◌-◌, ◌≤◌}
 use lib.ListN.{length}
-use Rattle.words.specs.Act.{lay}
 use Rattle.rules.specs.Commands.{with_permits}
-use Rattle.rules.specs.Push.{flat}
 use Rattle.layout.specs.Layout.{decode}
 use Rattle.layout.specs.Fields.{consumer_nth}
 use Rattle.push_laws.specs.Plain.{plain_records, after_entries, ledger_for}
 use Rattle.record.specs.Flat.{filled}
-use Rattle.push_plain.specs.Reading.{entry_record}
-use Rattle.push_plain.proofs.Entries.{fill_start, fill_turn, fill_end}
-use Rattle.push_plain.proofs.Topics.{sendable_fewer}
-use borrow.Author.Rules.{rules}
 use Rattle.push_plain.proofs.serve.serve_records.Given as goal
 
 abbrev pub invariant-loop-j : goal.invariant-loop-j

@@ -1,7 +1,6 @@
 -- `push_plain::serve::take_entries` meets its contract: the permits, then what is read.
 use Prim.Native.Nat.{◌-◌}
 use Rattle.push_plain.proofs.Writes.{permits_set_in, permits_set_cursor, take_done}
-use borrow.Author.Rules.{rules}
 use Rattle.push_plain.proofs.serve.take_entries.Goals as goal
 
 pub read_on-requires : goal.read_on-requires

@@ -1,10 +1,6 @@
 -- `push_shared::deliver::ack_set_words` meets its contract: by whether bits are stored.
 use mathlib.Core.Path.{sym, ◌∙◌}
 use Rattle.bits.specs.Bits.{word_count}
-use borrow.Author.Rules.{rules}
-use Rattle.push_shared.proofs.deliver.ack_set_words.Reads as reads
-use Rattle.push_shared.proofs.deliver.ack_set_words.Lts as lts
-use Rattle.bits.proofs.UnackedBits.bits_empty.Reads as bits_empty_reads
 use Rattle.push_shared.proofs.deliver.ack_set_words.Goals as goal
 
 pub returns-then-bits_empty : goal.returns-then-bits_empty

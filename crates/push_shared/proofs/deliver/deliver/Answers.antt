@@ -8,13 +8,6 @@ use Rattle.push_laws.specs.Local.{fixed_of}
 use Rattle.push_laws.specs.Applied.{record_of}
 use Rattle.push_turn.specs.Turns.{step_of}
 use Rattle.push_shared.proofs.Records.{one_filled, record_found, flight_found}
-use borrow.Author.Rules.{rules}
-use Rattle.push_shared.proofs.deliver.deliver.Reads as reads
-use Rattle.push_shared.proofs.deliver.deliver.Lts as lts
-use Rattle.dispatcher.proofs.flight.append_flight.Reads as append_flight_reads
-use Rattle.consumer.proofs.fields.consumer_id.Reads as consumer_id_reads
-use Rattle.push_shared.proofs.deliver.record_to.Reads as record_to_reads
-use Rattle.record.proofs.write_record.Reads as write_record_reads
 use Rattle.push_shared.proofs.deliver.deliver.Goals as goal
 
 pub consumer_id-id-requires : goal.consumer_id-id-requires

@@ -2,12 +2,6 @@
 use mathlib.Core.Path.{refl}
 use Rattle.push_turn.proofs.Prices.{topic_there, entry_there}
 use Rattle.push_shared.proofs.Records.{batch_read, record_read}
-use borrow.Author.Rules.{rules}
-use Rattle.push_shared.proofs.deliver.record_to.Reads as reads
-use Rattle.push_shared.proofs.deliver.record_to.Lts as lts
-use Rattle.dispatcher.proofs.marks.load_mark.Reads as load_mark_reads
-use Rattle.topic.proofs.message.load_message.Reads as load_message_reads
-use Rattle.push_shared.proofs.deliver.ack_set_words.Reads as ack_set_words_reads
 use Rattle.push_shared.proofs.deliver.record_to.Goals as goal
 
 pub load_message-message-requires : goal.load_message-message-requires

@@ -1,10 +1,5 @@
 -- `push_shared::serve::finish` meets its contract: the queue dropped, then the numbers stored.
 use Rattle.push_shared.proofs.Writing.{dropped_in, finished}
-use borrow.Author.Rules.{rules}
-use Rattle.push_shared.proofs.serve.finish.Reads as reads
-use Rattle.push_shared.proofs.serve.finish.Lts as lts
-use Rattle.dispatcher.proofs.numbers.save_head.Reads as save_head_reads
-use Rattle.dispatcher.proofs.queue.drop_queue.Reads as drop_queue_reads
 use Rattle.push_shared.proofs.serve.finish.Goals as goal
 
 pub save_head-requires : goal.save_head-requires

@@ -1,12 +1,8 @@
 -- `push_shared::serve::serve_turns` meets its contract. The loop's invariant: what is left, with what is written, is the whole
 -- service.
 use mathlib.Core.Path.{◌≡◌, refl, sym, ap, ◌∙◌}
-use mathlib.Core.List.{List}
-use Prim.Native.Nat.{ℕ, ◌+◌, ◌*◌}
 use native.Mathlib.Omega.{arith}
 use lib.ListN.{length}
-use Rattle.layout.specs.Layout.{decode}
-use Rattle.layout.specs.Fields.{dispatcher_nth}
 use Rattle.push_laws.specs.Local.{local_turn}
 use Rattle.push_laws.specs.Local.LocalTurn.{stop, move}
 use Rattle.push_turn.specs.declared.turn.Turn as turns
@@ -16,12 +12,6 @@ use Rattle.push_shared.proofs.Writing.{fixed, Writing, writing_start, serving_on
 use borrow.Author.Rules.{rules}
 use Rattle.push_shared.proofs.serve.serve_turns.Statement.{statement}
 use Rattle.push_shared.proofs.serve.serve_turns.Tie as tie
-use Rattle.push_shared.proofs.serve.serve_turns.Reads as reads
-use Rattle.push_shared.proofs.serve.serve_turns.Lts as lts
-use Rattle.dispatcher.proofs.numbers.load_head.Reads as load_head_reads
-use Rattle.push_shared.proofs.deliver.deliver.Reads as deliver_reads
-use Rattle.push_shared.proofs.serve.finish.Reads as finish_reads
-use Rattle.push_turn.proofs.turn.take_turn.Reads as take_turn_reads
 
 abbrev invariant_loop : tie.invariant-loop-last
 invariant_loop store₀ e d t n ring permits₀ list₀ from head₀ taken₀ m₀ store permits list head taken m =

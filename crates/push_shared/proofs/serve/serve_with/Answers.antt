@@ -10,14 +10,6 @@ use Rattle.layout.specs.Fields.{dispatcher_nth}
 use Rattle.store.specs.Find.{slot}
 use Rattle.push_turn.proofs.Served.{ring_length, next_valid}
 use Rattle.push_shared.proofs.Readied.{ready_serving, ready_room}
-use borrow.Author.Rules.{rules}
-use Rattle.push_shared.proofs.serve.serve_with.Reads as reads
-use Rattle.push_shared.proofs.serve.serve_with.Lts as lts
-use Rattle.push_shared.proofs.serve.serve_turns.Reads as serve_turns_reads
-use Rattle.topic.proofs.table.find_topic.Reads as find_topic_reads
-use Rattle.topic.proofs.table.ledger_length.Reads as ledger_length_reads
-use Rattle.dispatcher.proofs.numbers.topic.Reads as topic_reads
-use Rattle.push_turn.proofs.ring.ring_slots.Reads as ring_slots_reads
 use Rattle.push_shared.proofs.serve.serve_with.Goals as goal
 
 pub serve_turns-requires : goal.serve_turns-requires

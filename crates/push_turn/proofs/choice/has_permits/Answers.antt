@@ -3,7 +3,6 @@ use mathlib.Core.Path.{refl}
 use native.Mathlib.Omega.{arith}
 use Rattle.rules.specs.Permits.{above_zero}
 use Rattle.push_turn.proofs.Choosing.{none_past}
-use borrow.Author.Rules.{rules}
 use Rattle.push_turn.proofs.choice.has_permits.Goals as goal
 
 pub returns-then-c-permits : goal.returns-then-c-permits

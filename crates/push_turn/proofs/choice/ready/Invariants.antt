@@ -1,9 +1,6 @@
 -- `push_turn::choice::ready` meets its contract. The loop's invariant: what is ready from j on is what is ready of the whole.
-use mathlib.Core.Path.{refl, sym, ◌∙◌}
 use Prim.Native.Nat.{◌-◌, ◌≤◌}
-use native.Mathlib.Omega.{arith}
-use Rattle.push_turn.proofs.Choosing.{Ahead, ahead_here, ahead_on, ahead_end}
-use borrow.Author.Rules.{rules}
+use Rattle.push_turn.proofs.Choosing.{Ahead}
 use Rattle.push_turn.proofs.choice.ready.Given as goal
 
 abbrev pub invariant-loop-j : goal.invariant-loop-j

@@ -3,7 +3,6 @@ use mathlib.Core.Path.{◌≡◌, sym, ◌∙◌}
 use Prim.Native.Nat.{ℕ, max}
 use native.Mathlib.Omega.{arith}
 use Rattle.push_turn.proofs.Prices.{topic_there, entry_there, price_small, by_bits, by_batch}
-use borrow.Author.Rules.{rules}
 use Rattle.push_turn.proofs.price.price.Goals as goal
 
 pub batch_size-batch-requires : goal.batch_size-batch-requires

@@ -5,7 +5,6 @@ use Rattle.rules.specs.State.{by_id}
 use Rattle.layout.specs.Layout.{decode}
 use Rattle.store.proofs.Finding.{slot_le}
 use Rattle.consumer.proofs.Looked.{found_live, found_missing}
-use borrow.Author.Rules.{rules}
 use Rattle.push_turn.proofs.ring.slot_of.Goals as goal
 
 pub returns-in_default : goal.returns-in_default

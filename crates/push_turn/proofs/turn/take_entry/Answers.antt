@@ -11,7 +11,6 @@ use Rattle.push_laws.specs.Local.{fixed_of}
 use Rattle.push_laws.specs.Local.LocalTurn.{stop}
 use Rattle.push_turn.specs.Turns.{turn_of, numbers_of, local_from}
 use Rattle.push_turn.proofs.Handing.{entry_queued, entry_waiting, entry_none}
-use borrow.Author.Rules.{rules}
 use Rattle.push_turn.proofs.turn.take_entry.Goals as goal
 
 pub hand_over-requires : goal.hand_over-requires

@@ -10,7 +10,6 @@ use Rattle.layout.specs.Fields.{dispatcher_nth}
 use Rattle.push_laws.specs.Local.{fixed_of, take_entry}
 use Rattle.push_turn.specs.Turns.{turn_of, numbers_of, local_from}
 use Rattle.push_turn.proofs.Handing.{turn_empty, turn_spent, no_place, at_place, place_ready}
-use borrow.Author.Rules.{rules}
 use Rattle.push_turn.proofs.turn.take_turn.Goals as goal
 
 pub returns-then-size-eq0 : goal.returns-then-size-eq0

@@ -1,22 +1,17 @@
 -- `redeliver::found::found_count` meets its contract. The loop's invariant: what is counted and what is ahead make up the whole.
-use mathlib.Core.Path.{◌≡◌, refl, sym, ap, ◌∙◌}
+use mathlib.Core.Path.{◌≡◌, refl}
 use native.Mathlib.Omega.{arith}
-use Prim.Native.Nat.{ℕ, ◌+◌, ◌-◌, ◌≤◌, ◌<◌}
+use Prim.Native.Nat.{◌+◌, ◌-◌}
 use mathlib.Core.List.{List, [], ◌∷◌}
 use lib.ListN.{length}
 use Rattle.layout.specs.Layout.{decode}
 use Rattle.rules.specs.State.{StoredMessage, ledger_of}
 use Rattle.rules.specs.Commands.{found_positions}
 use Rattle.groups.specs.Walk.{Stands, group_at, groups_from, end_at}
-use Rattle.redeliver.proofs.Finds.{found_one, found_none, found_first, found_first_count, found_few}
+use Rattle.redeliver.proofs.Finds.{found_first_count, found_few}
 use Rattle.groups.proofs.Walks.{Turn, stands_turn, stands_end, stands_few}
 use Rattle.redeliver.proofs.found.found_count.Statement.{statement}
 use Rattle.redeliver.proofs.found.found_count.Tie as tie
-use Rattle.redeliver.proofs.found.found_count.Reads as reads
-use Rattle.redeliver.proofs.found.found_count.Lts as lts
-use Rattle.groups.proofs.walk.group_end.Reads as group_end_reads
-use Rattle.redeliver.proofs.found.found_here.Reads as found_here_reads
-use borrow.Author.Rules.{rules}
 
 abbrev invariant_loop : tie.invariant-loop-at
 invariant_loop store e topic list at₀ count₀ at count = Stands list at × (count + length (found_positions (ledger_of (decode store) topic) (groups_from list at)) ≡ length (found_positions (ledger_of (decode store) topic) (groups_from list 0)))

@@ -1,17 +1,13 @@
 -- `redeliver::found::join_found` meets its contract. The loop's invariant: what was written and what is ahead make up the whole.
-use mathlib.Core.Path.{◌≡◌, refl, sym, ap, ◌∙◌}
+use mathlib.Core.Path.{◌≡◌, refl}
 use native.Mathlib.Omega.{arith}
-use Prim.Native.Nat.{ℕ, ◌+◌, ◌-◌, ◌≤◌, ◌<◌}
+use Prim.Native.Nat.{◌-◌}
 use lib.ListN.{length}
 use borrow.Author.Rules.{rules}
 use Rattle.groups.proofs.Walks.{Turn, stands_turn}
 use Rattle.redeliver.proofs.Joins.{Joining, joining_start, joining_in, joining_room, joining_turn, joining_end}
 use Rattle.redeliver.proofs.found.join_found.Statement.{statement}
 use Rattle.redeliver.proofs.found.join_found.Tie as tie
-use Rattle.redeliver.proofs.found.join_found.Reads as reads
-use Rattle.redeliver.proofs.found.join_found.Lts as lts
-use Rattle.groups.proofs.walk.group_end.Reads as group_end_reads
-use Rattle.redeliver.proofs.found.join_here.Reads as join_here_reads
 
 abbrev invariant_loop : tie.invariant-loop-at
 invariant_loop store₀ e i topic list at₀ store at = Joining store₀ store i topic list at × (length store ≡ length store₀)

@@ -1,7 +1,7 @@
 -- `redeliver::found::join_here` meets its contract: the position is found and joins, or nothing changes.
-use mathlib.Core.Path.{◌≡◌, refl, sym, ap, ◌∙◌}
+use mathlib.Core.Path.{ap}
 use native.Mathlib.Omega.{arith}
-use Prim.Native.Nat.{ℕ, ◌+◌, ◌≤◌, ◌<◌}
+use Prim.Native.Nat.{ℕ}
 use mathlib.Core.List.{List}
 use lib.ListN.{length}
 use Rattle.layout.specs.Layout.{decode}
@@ -9,12 +9,6 @@ use Rattle.rules.specs.State.{ledger_of}
 use Rattle.groups.specs.Walk.{group_at}
 use Rattle.redeliver.proofs.Finds.{found_one, found_none}
 use Rattle.redeliver.proofs.Joins.{joined_nothing}
-use borrow.Author.Rules.{rules}
-use Rattle.redeliver.proofs.found.join_here.Reads as reads
-use Rattle.redeliver.proofs.found.join_here.Lts as lts
-use Rattle.consumer.proofs.nacked.append_nacked.Reads as append_nacked_reads
-use Rattle.topic.proofs.position.position_here.Reads as position_here_reads
-use Rattle.topic.proofs.table.ledger_length.Reads as ledger_length_reads
 use Rattle.redeliver.proofs.found.join_here.Goals as goal
 
 pub append_nacked-requires : goal.append_nacked-requires

@@ -9,7 +9,6 @@ use Rattle.layout.specs.Fields.{dispatcher_nth, set_dispatcher}
 use Rattle.groups.specs.Walk.{group_at}
 use Rattle.redeliver.proofs.Holds.{held_room, held_marked, redeliver_held, redeliver_none}
 use Rattle.redeliver.proofs.Handing.{stays}
-use borrow.Author.Rules.{rules}
 use Rattle.redeliver.proofs.hand_back.hand_back.Goals as goal
 
 pub hand_back_held-requires : goal.hand_back_held-requires

@@ -1,6 +1,5 @@
 -- `redeliver::hand_back::hand_back_held` meets its contract: the position is queued, its entry is no longer in flight, and its count rises.
 use Rattle.redeliver.proofs.Handing.{queued_in, landed_in, handed_words}
-use borrow.Author.Rules.{rules}
 use Rattle.redeliver.proofs.hand_back.hand_back_held.Goals as goal
 
 pub remove_flight-requires : goal.remove_flight-requires

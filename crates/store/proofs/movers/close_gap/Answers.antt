@@ -1,6 +1,5 @@
 -- `store::movers::close_gap` meets its contract: the words move down, and those that they leave are cleared.
 use Rattle.store.proofs.Moving.{closed}
-use borrow.Author.Rules.{rules}
 use Rattle.store.proofs.movers.close_gap.Goals as goal
 
 pub returns : goal.returns

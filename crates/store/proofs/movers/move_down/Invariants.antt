@@ -1,12 +1,9 @@
 -- `store::movers::move_down` meets its contract. The loop's invariant: the words are those of the entry with i words
 -- moved.
-use mathlib.Core.Path.{◌≡◌, refl, sym, ◌∙◌, ap}
-use Prim.Native.Nat.{ℕ, ◌≤◌, ◌<◌, ◌-◌, ◌+◌}
-use native.Mathlib.Omega.{arith}
+use mathlib.Core.Path.{◌≡◌}
+use Prim.Native.Nat.{◌≤◌, ◌-◌, ◌+◌}
 use lib.ListN.{length}
-use borrow.Author.Rules.{rules}
 use Rattle.words.specs.Act.{down}
-use Rattle.words.proofs.Act.{down_none, down_turn}
 use Rattle.store.proofs.movers.move_down.Given as goal
 
 abbrev pub invariant-loop-i : goal.invariant-loop-i

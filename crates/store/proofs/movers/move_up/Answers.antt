@@ -1,10 +1,9 @@
 -- `store::movers::move_up` meets its contract. The loop's invariant: the words are those of the entry with the words from i
 -- on moved.
 use mathlib.Core.Path.{◌≡◌, refl}
-use Prim.Native.Nat.{◌≤◌, ◌<◌, ◌-◌, ◌+◌}
+use Prim.Native.Nat.{◌≤◌, ◌<◌, ◌+◌}
 use native.Mathlib.Omega.{arith}
 use lib.ListN.{length}
-use Rattle.words.specs.Act.{up}
 use Rattle.store.proofs.Moving.{up_begins, up_goes_on, up_ends}
 use borrow.Author.Rules.{rules}
 use Rattle.store.proofs.movers.move_up.Goals as goal

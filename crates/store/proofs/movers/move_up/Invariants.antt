@@ -1,12 +1,9 @@
 -- `store::movers::move_up` meets its contract. The loop's invariant: the words are those of the entry with the words from i
 -- on moved.
-use mathlib.Core.Path.{◌≡◌, refl}
-use Prim.Native.Nat.{◌≤◌, ◌<◌, ◌-◌, ◌+◌}
-use native.Mathlib.Omega.{arith}
+use mathlib.Core.Path.{◌≡◌}
+use Prim.Native.Nat.{◌≤◌, ◌-◌, ◌+◌}
 use lib.ListN.{length}
 use Rattle.words.specs.Act.{up}
-use Rattle.store.proofs.Moving.{up_begins, up_goes_on, up_ends}
-use borrow.Author.Rules.{rules}
 use Rattle.store.proofs.movers.move_up.Given as goal
 
 abbrev pub invariant-loop-i : goal.invariant-loop-i

@@ -1,6 +1,5 @@
 -- `store::movers::open_gap` meets its contract: the words move up, and those that they leave are cleared.
 use Rattle.store.proofs.Moving.{gap_opened}
-use borrow.Author.Rules.{rules}
 use Rattle.store.proofs.movers.open_gap.Goals as goal
 
 pub returns : goal.returns

@@ -2,8 +2,6 @@
 use Prim.Native.Nat.{◌+◌, ◌*◌}
 use borrow.Author.Rules.{rules}
 use Rattle.store.proofs.Rooms.{room_le}
-use Rattle.store.proofs.offsets.topic_at.Reads as reads
-use Rattle.store.proofs.offsets.topic_at.Lts as lts
 use Rattle.store.proofs.offsets.topic_at.Goals as goal
 
 pub overflow_mul-result-2 : goal.overflow_mul-result-2

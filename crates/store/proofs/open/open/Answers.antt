@@ -2,13 +2,8 @@
 use Prim.Native.Nat.{◌+◌, ◌*◌, ◌≤◌, ◌<◌}
 use native.Mathlib.Omega.{arith}
 use lib.ListN.{length}
-use borrow.Author.Rules.{rules}
 use Rattle.rules.specs.Calls.{needed}
 use Rattle.store.proofs.Opened.{open_refused, open_done, open_low, open_high, open_short, open_whole}
-use Rattle.store.proofs.open.open.Reads as reads
-use Rattle.store.proofs.open.open.Lts as lts
-use Rattle.store.proofs.open.open_words.Reads as open_words_reads
-use Rattle.store.proofs.open.switch.Reads as switch_reads
 use Rattle.store.proofs.open.open.Goals as goal
 
 pub returns-then-entries-lt1 : goal.returns-then-entries-lt1

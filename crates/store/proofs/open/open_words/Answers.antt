@@ -2,11 +2,7 @@
 use native.Mathlib.Nat.{sub-zero}
 use native.Mathlib.Omega.{arith}
 use lib.ListN.{length-set}
-use borrow.Author.Rules.{rules}
 use Rattle.store.specs.Open.{opened_words}
-use Rattle.store.proofs.open.open_words.Reads as reads
-use Rattle.store.proofs.open.open_words.Lts as lts
-use Rattle.store.proofs.stretch.clear_words.Reads as clear_words_reads
 use Rattle.store.proofs.open.open_words.Goals as goal
 
 pub bounds-store-1 : goal.bounds-store-1

@@ -1,8 +1,5 @@
 -- `store::open::switch` meets its contract, by whether the word is 0.
-use mathlib.Core.Path.{sym, ap}
-use mathlib.Core.Bool.{Bool, not}
 use borrow.Author.Tests.{eq-eqb, ne_eqb}
-use Rattle.words.specs.Codec.{bit}
 use Rattle.store.proofs.open.switch.Goals as goal
 
 pub returns-then-word-eq0 : goal.returns-then-word-eq0

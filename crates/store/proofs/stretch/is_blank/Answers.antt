@@ -1,12 +1,7 @@
 -- `store::stretch::is_blank` meets its contract. The loop's invariant: what was or-ed so far is 0 and the rest is blank
 -- exactly where the whole stretch is.
-use mathlib.Core.Path.{◌≡◌, refl, ◌∙◌}
-use mathlib.Core.Bool.{◌&&◌}
-use Prim.Native.Nat.{◌≤◌, ◌-◌}
-use lib.Dec.{eqb}
-use lib.ListN.{length, drop}
+use mathlib.Core.Path.{refl, ◌∙◌}
 use borrow.Author.Rules.{rules}
-use Rattle.words.specs.Words.{blank}
 use Rattle.store.proofs.Blank.{or_sixteen}
 use Rattle.store.proofs.stretch.is_blank.Goals as goal
 

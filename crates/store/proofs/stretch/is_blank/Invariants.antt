@@ -1,13 +1,11 @@
 -- `store::stretch::is_blank` meets its contract. The loop's invariant: what was or-ed so far is 0 and the rest is blank
 -- exactly where the whole stretch is.
-use mathlib.Core.Path.{◌≡◌, refl, ◌∙◌}
+use mathlib.Core.Path.{◌≡◌}
 use mathlib.Core.Bool.{◌&&◌}
 use Prim.Native.Nat.{◌≤◌, ◌-◌}
 use lib.Dec.{eqb}
 use lib.ListN.{length, drop}
-use borrow.Author.Rules.{rules}
 use Rattle.words.specs.Words.{blank}
-use Rattle.store.proofs.Blank.{or_sixteen}
 use Rattle.store.proofs.stretch.is_blank.Given as goal
 
 abbrev pub invariant-loop-i : goal.invariant-loop-i

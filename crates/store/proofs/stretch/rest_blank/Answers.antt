@@ -1,6 +1,6 @@
 -- `store::stretch::rest_blank` meets its contract. The loop's invariant: what was or-ed so far is 0 and the rest is blank
 -- exactly where `before` is 0 and the whole stretch is blank.
-use mathlib.Core.Path.{◌≡◌, refl, sym, ◌∙◌, ap}
+use mathlib.Core.Path.{refl, sym, ◌∙◌, ap}
 use mathlib.Core.Bool.{Bool, ◌&&◌}
 use Prim.Native.Nat.{◌≤◌, ◌<◌, ◌-◌, ◌+◌}
 use native.Mathlib.Omega.{arith}
@@ -10,8 +10,6 @@ use borrow.Author.Rules.{rules}
 use Rattle.words.specs.Words.{blank}
 use Rattle.words.proofs.Check.{and_true}
 use Rattle.store.proofs.Blank.{blank_next, blank_end, or_turn}
-use Rattle.store.proofs.stretch.rest_blank.Reads as reads
-use Rattle.store.proofs.stretch.rest_blank.Lts as lts
 use Rattle.store.proofs.stretch.rest_blank.Goals as goal
 
 pub loop-i-init : goal.loop-i-init

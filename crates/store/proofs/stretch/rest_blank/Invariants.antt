@@ -1,17 +1,11 @@
 -- `store::stretch::rest_blank` meets its contract. The loop's invariant: what was or-ed so far is 0 and the rest is blank
 -- exactly where `before` is 0 and the whole stretch is blank.
-use mathlib.Core.Path.{◌≡◌, refl, sym, ◌∙◌, ap}
-use mathlib.Core.Bool.{Bool, ◌&&◌}
-use Prim.Native.Nat.{◌≤◌, ◌<◌, ◌-◌, ◌+◌}
-use native.Mathlib.Omega.{arith}
+use mathlib.Core.Path.{◌≡◌}
+use mathlib.Core.Bool.{◌&&◌}
+use Prim.Native.Nat.{◌≤◌, ◌-◌}
 use lib.Dec.{eqb}
-use lib.ListN.{length, get_or, drop}
-use borrow.Author.Rules.{rules}
+use lib.ListN.{length, drop}
 use Rattle.words.specs.Words.{blank}
-use Rattle.words.proofs.Check.{and_true}
-use Rattle.store.proofs.Blank.{blank_next, blank_end, or_turn}
-use Rattle.store.proofs.stretch.rest_blank.Reads as reads
-use Rattle.store.proofs.stretch.rest_blank.Lts as lts
 use Rattle.store.proofs.stretch.rest_blank.Given as goal
 
 abbrev pub invariant-loop-i : goal.invariant-loop-i

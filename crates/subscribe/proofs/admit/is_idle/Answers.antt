@@ -1,5 +1,4 @@
 -- `subscribe::admit::is_idle` meets its contract: the switch counts for a live id alone.
-use borrow.Author.Rules.{rules}
 use Rattle.subscribe.proofs.admit.is_idle.Goals as goal
 
 pub returns-then-live : goal.returns-then-live

@@ -3,7 +3,6 @@ use mathlib.Core.Path.{sym, ◌∙◌}
 use Rattle.layout.specs.Layout.{decode}
 use Rattle.consumer.proofs.Looked.{found_live, found_missing}
 use Rattle.subscribe.proofs.Subscribing.{live_some, live_none}
-use borrow.Author.Rules.{rules}
 use Rattle.subscribe.proofs.admit.is_live.Goals as goal
 
 pub returns-in_default : goal.returns-in_default

@@ -4,7 +4,6 @@ use Prim.Native.Nat.{ℕ}
 use lib.Dec.{eqb}
 use Rattle.layout.proofs.Gets.{read_noop}
 use Rattle.dispatcher.proofs.Loads.{bit_set}
-use borrow.Author.Rules.{rules}
 use Rattle.subscribe.proofs.admit.is_noop.Goals as goal
 
 pub returns : goal.returns

@@ -6,7 +6,6 @@ use lib.Dec.{leb}
 use lib.ListN.{length}
 use Rattle.layout.specs.Layout.{decode}
 use Rattle.subscribe.proofs.Subscribing.{pair_some, pair_none, not_new, new_by}
-use borrow.Author.Rules.{rules}
 use Rattle.subscribe.proofs.admit.pairs_full.Goals as goal
 
 pub returns-then-d-n : goal.returns-then-d-n

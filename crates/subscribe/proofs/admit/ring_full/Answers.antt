@@ -9,7 +9,6 @@ use Rattle.layout.proofs.Placed.{dispatcher_in}
 use Rattle.operation_laws.proofs.Frame.{dispatcher_found}
 use Rattle.layout.specs.Layout.{decode}
 use Rattle.subscribe.proofs.Subscribing.{not_new, new_by, new_ring}
-use borrow.Author.Rules.{rules}
 use Rattle.subscribe.proofs.admit.ring_full.Goals as goal
 
 pub returns-then-in_ring : goal.returns-then-in_ring

@@ -4,7 +4,6 @@ use Rattle.rules.specs.State.Kind.{shared}
 use Rattle.rules.specs.Commands.{new_consumer}
 use Rattle.consumer.specs.Made.{kind_at}
 use Rattle.subscribe.proofs.Entering.{joins_after, entered}
-use borrow.Author.Rules.{rules}
 use Rattle.subscribe.proofs.enter.enter.Goals as goal
 
 pub join-requires : goal.join-requires

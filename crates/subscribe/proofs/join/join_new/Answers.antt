@@ -1,7 +1,6 @@
 -- `subscribe::join::join_new` meets its contract: the new dispatcher at the end, then the first id of its ring.
 use native.Mathlib.Omega.{arith}
 use Rattle.subscribe.proofs.Joining.{ledger_short, new_there, joined_new}
-use borrow.Author.Rules.{rules}
 use Rattle.subscribe.proofs.join.join_new.Goals as goal
 
 pub make_dispatcher-requires : goal.make_dispatcher-requires

@@ -1,7 +1,6 @@
 -- `topic::find::at_or_after` meets its contract, by whether the ledgers are the same.
 use mathlib.Core.Path.{sym}
 use Rattle.topic.proofs.Positions.{after_same, after_other}
-use borrow.Author.Rules.{rules}
 use Rattle.topic.proofs.find.at_or_after.Goals as goal
 
 pub returns-then-store-at : goal.returns-then-store-at

@@ -1,7 +1,6 @@
 -- `topic::find::same_id` meets its contract, by whether the ledgers are the same.
 use borrow.Author.Tests.{eq-eqb, ne_eqb}
 use Rattle.rules.specs.State.{same_id}
-use borrow.Author.Rules.{rules}
 use Rattle.topic.proofs.find.same_id.Goals as goal
 
 pub returns-then-ledger-store : goal.returns-then-ledger-store

@@ -1,9 +1,5 @@
 -- `topic::message::batch_size` meets its contract: the word at its offset.
 use Rattle.topic.proofs.Positions.{batch_here}
-use borrow.Author.Rules.{rules}
-use Rattle.topic.proofs.message.batch_size.Reads as reads
-use Rattle.topic.proofs.message.batch_size.Lts as lts
-use Rattle.store.proofs.offsets.topic_at.Reads as topic_at_reads
 use Rattle.topic.proofs.message.batch_size.Goals as goal
 
 pub returns : goal.returns

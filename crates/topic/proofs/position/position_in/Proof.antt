@@ -1,8 +1,6 @@
 -- `topic::position::position_in` meets its contract: the topic exists, or its ledger is empty.
-use mathlib.Core.Path.{◌≡◌, refl, sym, ap}
 use native.Mathlib.Omega.{arith}
-use Prim.Native.Nat.{ℕ, ◌+◌, ◌-◌, ◌≤◌, ◌<◌}
-use mathlib.Core.List.{List, [], ◌∷◌}
+use Prim.Native.Nat.{◌<◌}
 use lib.ListN.{length}
 use Rattle.layout.specs.Layout.{decode}
 use Rattle.layout.proofs.Placed.{topic_in}
@@ -11,11 +9,6 @@ use Rattle.topic.proofs.Finds.{position_there, position_none}
 use borrow.Author.Rules.{rules}
 use Rattle.topic.proofs.position.position_in.Statement.{statement}
 use Rattle.topic.proofs.position.position_in.Tie as tie
-use Rattle.topic.proofs.position.position_in.Reads as reads
-use Rattle.topic.proofs.position.position_in.Lts as lts
-use Rattle.topic.proofs.find.position_of.Reads as position_of_reads
-use Rattle.topic.proofs.table.find_topic.Reads as find_topic_reads
-use Rattle.topic.proofs.table.topic_count.Reads as topic_count_reads
 
 -- the slot that was found lies in the table
 here : (c : tie.Then-t-topic_count) → c.find_topic-t.result < length (decode c.args.store.now).topics

@@ -14,9 +14,6 @@ use Rattle.store.proofs.Inside.{topic_inside}
 use Rattle.store.proofs.Finding.{Sought, sought_start, sought_here, sought_on, sought_end}
 use Rattle.topic.proofs.table.find_topic.Statement.{statement}
 use Rattle.topic.proofs.table.find_topic.Tie as tie
-use Rattle.topic.proofs.table.find_topic.Reads as reads
-use Rattle.topic.proofs.table.find_topic.Lts as lts
-use Rattle.topic.proofs.table.topic_count.Reads as topic_count_reads
 
 abbrev invariant_loop : tie.invariant-loop-i
 invariant_loop store e topic n width i₀ i = (i ≤ n) × Sought by_number topic (decode store).topics i

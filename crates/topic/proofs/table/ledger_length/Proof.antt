@@ -13,10 +13,6 @@ use Rattle.topic.proofs.Ledgers.{ledger_at, ledger_none}
 use borrow.Author.Rules.{rules}
 use Rattle.topic.proofs.table.ledger_length.Statement.{statement}
 use Rattle.topic.proofs.table.ledger_length.Tie as tie
-use Rattle.topic.proofs.table.ledger_length.Reads as reads
-use Rattle.topic.proofs.table.ledger_length.Lts as lts
-use Rattle.topic.proofs.table.find_topic.Reads as find_topic_reads
-use Rattle.topic.proofs.table.topic_count.Reads as topic_count_reads
 
 -- the slot that was found lies in the table
 here : (c : tie.Then-t-topic_count) → c.find_topic-t.result < length (decode c.args.store.now).topics

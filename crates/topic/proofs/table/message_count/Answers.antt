@@ -1,7 +1,6 @@
 -- `topic::table::message_count` meets its contract: the word at its offset.
 use mathlib.Core.Path.{◌∙◌}
 use Rattle.topic.proofs.Positions.{count_here}
-use borrow.Author.Rules.{rules}
 use Rattle.topic.proofs.table.message_count.Goals as goal
 
 pub returns : goal.returns

@@ -4,7 +4,6 @@ use native.Mathlib.Omega.{arith}
 use lib.ListN.{length}
 use Rattle.layout.specs.Layout.{decode}
 use Rattle.layout.proofs.Sets as layout
-use borrow.Author.Rules.{rules}
 use Rattle.topic.proofs.table.raise_topics.Goals as goal
 
 pub returns : goal.returns

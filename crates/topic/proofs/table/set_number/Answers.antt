@@ -1,6 +1,5 @@
 -- `topic::table::set_number` meets its contract: the word at its offset.
 use Rattle.layout.proofs.Sets.{write_topic_number}
-use borrow.Author.Rules.{rules}
 use Rattle.topic.proofs.table.set_number.Goals as goal
 
 pub returns : goal.returns

@@ -1,7 +1,6 @@
 -- `topic::table::topic_count` meets its contract: the word at its offset.
 use mathlib.Core.Path.{◌∙◌}
 use Rattle.layout.proofs.Gets.{read_topic_count}
-use borrow.Author.Rules.{rules}
 use Rattle.topic.proofs.table.topic_count.Goals as goal
 
 pub returns : goal.returns

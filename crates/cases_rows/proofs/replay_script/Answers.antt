@@ -1,0 +1,12 @@
+-- The arrays that are lent hold zeros, and nothing else writes the store, whether what is printed is written or not.
+use Rattle.cases_rows.proofs.Lines.{with_zeros}
+use Rattle.cases_rows.proofs.replay_script.Goals as goal
+
+pub returns-in_err-show_outcome : goal.returns-in_err-show_outcome
+returns-in_err-show_outcome g c = with_zeros _ _ c.args.a c.args.room c.requires.0 c.requires.1 c.row_into-answer.ensures
+
+pub returns-then-answer-eq0 : goal.returns-then-answer-eq0
+returns-then-answer-eq0 g c = with_zeros _ _ c.args.a c.args.room c.requires.0 c.requires.1 c.row_into-answer.ensures
+
+pub returns : goal.returns
+returns g c = with_zeros _ _ c.args.a c.args.room c.requires.0 c.requires.1 c.row_into-answer.ensures
