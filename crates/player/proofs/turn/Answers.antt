@@ -1,12 +1,6 @@
 -- `player::turn` meets its contract, by what its step did.
-<<<<<<< HEAD
-use Rattle.std.proofs.Common.{◌+◌, ◌-◌, ◌≤◌, sym, arith}
-use Rattle.trace_lines.specs.Told.{lines_bytes}
-use Rattle.player.specs.Places.{GoesOn}
-=======
 use Rattle.std.proofs.Common.{sym, arith}
-use Rattle.player.specs.Places.{Goes_on}
->>>>>>> 07d494bffc6b6fc4cc416da2612e2f82747eac1a
+use Rattle.player.specs.Places.{GoesOn}
 use Rattle.player.proofs.Places.{went_within, bad_within, kept, goes_on}
 use Rattle.std.proofs.Math.Seq.{length-take-le}
 use borrow.Author.Rules.{rules}
