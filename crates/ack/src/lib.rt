@@ -15,6 +15,7 @@ ghost use Rattle.rules.specs.Calls.Call.{Ack};
 ghost use Rattle.layout.specs.Layout.{decode, spells};
 ghost use Rattle.layout.specs.Calls.{answer, after};
 ghost use Rattle.layout.specs.Fields.{consumer_now, dispatcher_now, dispatcher_changed};
+ghost use Rattle.refusal.specs.Words.{word_of};
 ghost use Rattle.groups.specs.Walk.{Stands, groups_from};
 ghost use Rattle.dispatcher.specs.Completion.{Marked};
 ghost use Rattle.consumer.specs.Live.{Live};
@@ -27,52 +28,53 @@ use dispatcher::completion::{advance_mark_delete, drop_complete};
 use dispatcher::numbers::mark_delete;
 use groups::form::list_right;
 use outside_ids::passes_64;
-use store::answers::{entries, value};
+use refusal::{Answer, Refusal};
+use store::answers::entries;
 
 // 4 if not live. 10 unless the list is of the form. 11 if outside ids would pass 64. The value is
 // mark-delete and whether it moved.
-pub fn ack(store: &mut [u64], consumer: u64, list: &[u64]) -> u64
+pub fn ack(store: &mut [u64], consumer: u64, list: &[u64]) -> Answer
     requires { spells store.old ≡ true }
-    ensures answer { result ≡ answer store.old (Ack consumer list.now) }
+    ensures answer { word_of result ≡ answer store.old (Ack consumer list.now) }
     ensures words { store.new ≡ after store.old (Ack consumer list.now) }
 {
     let e = entries(store);
     let Lookup::Live(i) = find_consumer(store, e, consumer) else {
-        return 4;
+        return Err(Refusal::NotLive);
     };
     if !list_right(list) {
-        return 10;
+        return Err(Refusal::BadList);
     }
     ack_live(store, e, i, consumer, list)
 }
 
 // An ack of the live consumer `i`.
-fn ack_live(store: &mut [u64], e: usize, i: usize, consumer: u64, list: &[u64]) -> u64
+fn ack_live(store: &mut [u64], e: usize, i: usize, consumer: u64, list: &[u64]) -> Answer
     requires { Live e store.old i × ((consumer_now store.old i).id ≡ consumer) × Stands list.now 0 }
-    ensures answer { result ≡ answer store.old (Ack consumer list.now) }
+    ensures answer { word_of result ≡ answer store.old (Ack consumer list.now) }
     ensures words { store.new ≡ after store.old (Ack consumer list.now) }
 {
     if is_shared(store, e, i) {
         return ack_shared(store, e, i, consumer, list);
     }
-    0
+    Ok(0)
 }
 
 // An ack of the live shared consumer `i`.
-fn ack_shared(store: &mut [u64], e: usize, i: usize, consumer: u64, list: &[u64]) -> u64
+fn ack_shared(store: &mut [u64], e: usize, i: usize, consumer: u64, list: &[u64]) -> Answer
     requires { Live e store.old i × ((consumer_now store.old i).id ≡ consumer) × Stands list.now 0
         × ((consumer_now store.old i).kind ≡ shared) }
-    ensures answer { result ≡ answer store.old (Ack consumer list.now) }
+    ensures answer { word_of result ≡ answer store.old (Ack consumer list.now) }
     ensures words { store.new ≡ after store.old (Ack consumer list.now) }
 {
     let d = dispatcher_of(store, e, i);
     let number = topic(store, e, i);
     if passes_64(store, e, d, number, list) {
-        return 11;
+        return Err(Refusal::IdsFull);
     }
     let from = mark_delete(store, e, d);
     complete(store, e, d, consumer, number, list);
-    moved(from, mark_delete(store, e, d))
+    Ok(moved(from, mark_delete(store, e, d)))
 }
 
 // Dispatcher `d` acknowledges the ids of a list, `consumer` drops its complete entries, and
@@ -88,15 +90,11 @@ fn complete(store: &mut [u64], e: usize, d: usize, consumer: u64, topic: u64, li
     advance_mark_delete(store, e, d);
 }
 
-// The answer of an ack that found mark-delete at `from` and left it at `to`.
+// The value of an ack that found mark-delete at `from` and left it at `to`.
 fn moved(from: usize, to: usize) -> u64
     requires { to ≤ 4096 }
-    ensures { result ≡ (to * 2 + bit_of (not (eqb from to))) % 2 ^ 56 * 256 }
+    ensures { result ≡ to * 2 + bit_of (not (eqb from to)) }
 {
     let twice = to as u64 * 2;
-    if from == to {
-        value(twice)
-    } else {
-        value(twice + 1)
-    }
+    if from == to { twice } else { twice + 1 }
 }

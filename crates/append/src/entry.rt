@@ -23,10 +23,8 @@ pub(crate) fn new_entries(store: &mut [u64], e: usize, topic: u64, ledger: u64, 
         (λ s. with_dispatchers s (map (with_new_entry topic (id_of ledger entry)) s.dispatchers)) }
 {
     let n = dispatcher_count(store, e);
-    let mut d = 0;
-    while d < n {
+    for d in 0..n {
         new_entry(store, e, d, topic, ledger, entry);
-        d += 1;
     }
 }
 

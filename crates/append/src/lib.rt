@@ -10,11 +10,13 @@ ghost use Rattle.layout.specs.Layout.{decode, spells};
 ghost use Rattle.layout.specs.Calls.{answer, after};
 ghost use Rattle.layout.specs.Canon.{CanonStore};
 ghost use Rattle.layout.specs.Fields.{state_changed};
+ghost use Rattle.refusal.specs.Words.{word_of, refusal_or_0};
 ghost use Rattle.store.specs.Find.{slot};
 ghost use Rattle.topic.specs.Ids.{id_of, message_of};
 ghost use Rattle.append.specs.Appends.{append_refusal, with_topic, append_state, AppendsTo};
 
 use entry::new_entries;
+use refusal::{Answer, Refusal};
 use store::answers::entries;
 use store::limits::{MOST_BATCH, MOST_TOPICS};
 use topic::append::append_message;
@@ -23,38 +25,50 @@ use topic::table::{find_topic, message_count, raise_topics, set_number, topic_co
 
 // 8 if the batch size is not 0 to 256. 7 if the topic holds that id. 5 if the topic is new and 8
 // exist. 6 if it has E entries.
-pub fn append(store: &mut [u64], topic: u8, ledger: u64, entry: u64, handle: u64, batch: u64) -> u64
+pub fn append(
+    store: &mut [u64],
+    topic: u8,
+    ledger: u64,
+    entry: u64,
+    handle: u64,
+    batch: u64,
+) -> Answer
     requires { spells store.old ≡ true }
-    ensures answer { result ≡ answer store.old (Append topic (message_of ledger entry handle batch)) }
+    ensures answer { word_of result ≡ answer store.old (Append topic (message_of ledger entry handle batch)) }
     ensures words { store.new ≡ after store.old (Append topic (message_of ledger entry handle batch)) }
 {
     if MOST_BATCH < batch {
-        return 8;
+        return Err(Refusal::BadBatch);
     }
     let e = entries(store);
     let t = find_topic(store, e, topic as u64);
-    let refusal = refusal_of_append(store, e, t, ledger, entry);
-    if refusal != 0 {
-        return refusal;
-    }
+    admit(store, e, t, ledger, entry)?;
     append_entry(store, e, t, topic as u64, ledger, entry, handle, batch);
-    0
+    Ok(0)
 }
 
-// The refusal 7, 5 or 6 of an append to the topic at slot `t`, or 0.
-fn refusal_of_append(store: &[u64], e: usize, t: usize, ledger: u64, entry: u64) -> u64
+// Whether the topic at slot `t` takes an append.
+fn admit(store: &[u64], e: usize, t: usize, ledger: u64, entry: u64) -> Result<(), Refusal>
     requires { CanonStore e store.now }
-    ensures { result ≡ append_refusal (decode store.now) t (id_of ledger entry) }
+    ensures { refusal_or_0 result ≡ append_refusal (decode store.now) t (id_of ledger entry) }
 {
     let topics = topic_count(store, e);
     if topics <= t {
-        return if MOST_TOPICS <= topics { 5 } else { 0 };
+        return if MOST_TOPICS <= topics {
+            Err(Refusal::TopicsFull)
+        } else {
+            Ok(())
+        };
     }
     let n = message_count(store, e, t);
     if position_of(store, e, t, ledger, entry) < n {
-        return 7;
+        return Err(Refusal::IdTaken);
     }
-    if e <= n { 6 } else { 0 }
+    if e <= n {
+        Err(Refusal::EntriesFull)
+    } else {
+        Ok(())
+    }
 }
 
 // An append that no refusal applies to, to the topic at slot `t`.

@@ -47,10 +47,8 @@ pub fn balance_check(store: &[u64], e: usize, d: usize) -> u64
 {
     let n = ring_count(store, e, d);
     let mut sum = ZERO_PERMITS;
-    let mut j = 0;
-    while j < n {
+    for j in 0..n {
         sum = add_permits(store, e, d, ring_id(store, e, d, j), sum);
-        j += 1;
     }
     sum
 }

@@ -21,6 +21,7 @@ use close::close;
 use flow::flow;
 use push::push;
 use redeliver::redeliver;
+use refusal::{Refusal, word_of};
 use seek::command::{Seek, Target};
 use seek::seek;
 use subscribe::command::{Kind, Subscribe};
@@ -31,7 +32,7 @@ pub fn broker_open(store: &mut [u64], entries: u64, leak: u64, noop: u64) -> u64
     ensures answer { result ≡ open_answer store.old entries leak noop }
     ensures words { store.new ≡ open_after store.old entries leak noop }
 {
-    store::open::open(store, entries, leak, noop)
+    word_of(store::open::open(store, entries, leak, noop))
 }
 
 // Appends a message of a batch size to a topic's ledger.
@@ -47,9 +48,9 @@ pub fn broker_append(
     ensures words { store.new ≡ after store.old (Append topic (message_of ledger entry handle batch)) }
 {
     if !spells(store) {
-        return 1;
+        return word_of(Err(Refusal::NoState));
     }
-    append(store, topic, ledger, entry, handle, batch)
+    word_of(append(store, topic, ledger, entry, handle, batch))
 }
 
 // Makes a consumer of a topic's subscription, or replaces a live one: kind 0 is plain, else shared.
@@ -64,28 +65,15 @@ pub fn broker_subscribe(
     ensures words { store.new ≡ after store.old (Subscribe_call consumer (kind_from kind) (pair_of topic subscription)) }
 {
     if !spells(store) {
-        return 1;
+        return word_of(Err(Refusal::NoState));
     }
-    if kind == 0 {
-        return subscribe(
-            store,
-            Subscribe {
-                consumer: consumer,
-                kind: Kind::Plain,
-                topic: topic,
-                subscription: subscription,
-            },
-        );
-    }
-    subscribe(
-        store,
-        Subscribe {
-            consumer: consumer,
-            kind: Kind::Shared,
-            topic: topic,
-            subscription: subscription,
-        },
-    )
+    let command = Subscribe {
+        consumer,
+        kind: Kind::from(kind),
+        topic,
+        subscription,
+    };
+    word_of(subscribe(store, command))
 }
 
 // Grants permits to a consumer. The value is its permits after, signed.
@@ -94,9 +82,9 @@ pub fn broker_flow(store: &mut [u64], consumer: u64, grant: u32) -> u64
     ensures words { store.new ≡ after store.old (Flow consumer grant) }
 {
     if !spells(store) {
-        return 1;
+        return word_of(Err(Refusal::NoState));
     }
-    flow(store, consumer, grant)
+    word_of(flow(store, consumer, grant))
 }
 
 // Acknowledges entries: a list of groups of ledger, entry, n and n words of its ack set. The value is
@@ -106,9 +94,9 @@ pub fn broker_ack(store: &mut [u64], consumer: u64, list: &[u64]) -> u64
     ensures words { store.new ≡ after store.old (Ack consumer list.now) }
 {
     if !spells(store) {
-        return 1;
+        return word_of(Err(Refusal::NoState));
     }
-    ack(store, consumer, list)
+    word_of(ack(store, consumer, list))
 }
 
 // Moves a consumer's cursor: target 0 is the start, else the id. The value is the cursor.
@@ -117,24 +105,10 @@ pub fn broker_seek(store: &mut [u64], consumer: u64, target: u64, ledger: u64, e
     ensures words { store.new ≡ after store.old (Seek_call consumer (target_from target ledger entry)) }
 {
     if !spells(store) {
-        return 1;
+        return word_of(Err(Refusal::NoState));
     }
-    if target == 0 {
-        return seek(
-            store,
-            Seek {
-                consumer: consumer,
-                target: Target::Start,
-            },
-        );
-    }
-    seek(
-        store,
-        Seek {
-            consumer: consumer,
-            target: Target::Id(ledger, entry),
-        },
-    )
+    let target = Target::from_words(target, ledger, entry);
+    word_of(seek(store, Seek { consumer, target }))
 }
 
 // Hands entries back: a list of groups of ledger, entry, n and n words, which are ignored.
@@ -143,9 +117,9 @@ pub fn broker_redeliver(store: &mut [u64], consumer: u64, list: &[u64]) -> u64
     ensures words { store.new ≡ after store.old (Redeliver consumer list.now) }
 {
     if !spells(store) {
-        return 1;
+        return word_of(Err(Refusal::NoState));
     }
-    redeliver(store, consumer, list)
+    word_of(redeliver(store, consumer, list))
 }
 
 // Closes a consumer. The value is 1 if one was live, else 0.
@@ -154,9 +128,9 @@ pub fn broker_close(store: &mut [u64], consumer: u64) -> u64
     ensures words { store.new ≡ after store.old (Close consumer) }
 {
     if !spells(store) {
-        return 1;
+        return word_of(Err(Refusal::NoState));
     }
-    close(store, consumer)
+    word_of(close(store, consumer))
 }
 
 // Hands out all that is due. The list is filled with records of 13 words; the value is how many. With 15
@@ -168,7 +142,7 @@ pub fn broker_push(store: &mut [u64], list: &mut [u64]) -> u64
         (outcome store.old (Push (length list.old / 13))) }
 {
     if !spells(store) {
-        return 1;
+        return word_of(Err(Refusal::NoState));
     }
-    push(store, list)
+    word_of(push(store, list))
 }

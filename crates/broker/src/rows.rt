@@ -2,6 +2,7 @@
 ghost use Rattle.row.specs.Row.{RowLeft};
 
 use check_state::spells;
+use refusal::{Refusal, word_of};
 use row_calls::make_row;
 
 // Makes the calls of a script, each a kind, a count and as many words; each call's answer goes into its word of the answers,
@@ -11,7 +12,7 @@ pub fn broker_calls(store: &mut [u64], script: &[u64], answers: &mut [u64], list
         result store.new answers.new list.new }
 {
     if !spells(store) {
-        return 1;
+        return word_of(Err(Refusal::NoState));
     }
-    make_row(store, script, answers, list)
+    word_of(make_row(store, script, answers, list))
 }

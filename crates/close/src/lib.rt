@@ -13,6 +13,7 @@ ghost use Rattle.rules.specs.State.{by_pair};
 ghost use Rattle.layout.specs.Layout.{decode, spells};
 ghost use Rattle.layout.specs.Calls.{answer, after};
 ghost use Rattle.layout.specs.Fields.{consumer_now, dispatcher_now};
+ghost use Rattle.refusal.specs.Words.{word_of};
 ghost use Rattle.store.specs.Find.{slot};
 ghost use Rattle.consumer.specs.Live.{Live};
 
@@ -21,12 +22,13 @@ use consumer::lookup::{Lookup, find_consumer};
 use consumer::table::remove_consumer;
 use dispatcher::total::total_available_permits;
 use leave::leave;
+use refusal::{Answer, Refusal};
 use store::answers::entries;
 use store::offsets::LEAK_AT;
 use store::permits::{LEAST_TOTAL, MOST_TOTAL, ZERO_PERMITS};
 
-// The answer of a close that closed one: the value 1.
-const CLOSED: u64 = 256;
+// The value of a close that closed one.
+const CLOSED: u64 = 1;
 
 // Whether a total stays within 2^60.
 fn in_range(total: u64) -> bool
@@ -63,9 +65,9 @@ fn total_without(store: &[u64], e: usize, i: usize, d: usize) -> u64
 }
 
 // The close of the live shared consumer `i`, whose id is `id`.
-fn close_shared(store: &mut [u64], e: usize, i: usize, id: u64) -> u64
+fn close_shared(store: &mut [u64], e: usize, i: usize, id: u64) -> Answer
     requires { Live e store.old i × (id ≡ (consumer_now store.old i).id) × ((consumer_now store.old i).kind ≡ shared) }
-    ensures answer { result ≡ answer store.old (Close id) }
+    ensures answer { word_of result ≡ answer store.old (Close id) }
     ensures words { store.new ≡ after store.old (Close id) }
 {
     let d = dispatcher_of(store, e, i);
@@ -73,33 +75,33 @@ fn close_shared(store: &mut [u64], e: usize, i: usize, id: u64) -> u64
     if in_range(total) {
         leave(store, e, d, id, total);
         remove_consumer(store, e, i);
-        return CLOSED;
+        return Ok(CLOSED);
     }
-    9
+    Err(Refusal::PermitsRange)
 }
 
 // The close of the live consumer `i`, whose id is `id`.
-fn close_live(store: &mut [u64], e: usize, i: usize, id: u64) -> u64
+fn close_live(store: &mut [u64], e: usize, i: usize, id: u64) -> Answer
     requires { Live e store.old i × (id ≡ (consumer_now store.old i).id) }
-    ensures answer { result ≡ answer store.old (Close id) }
+    ensures answer { word_of result ≡ answer store.old (Close id) }
     ensures words { store.new ≡ after store.old (Close id) }
 {
     if is_shared(store, e, i) {
         return close_shared(store, e, i, id);
     }
     remove_consumer(store, e, i);
-    CLOSED
+    Ok(CLOSED)
 }
 
 // 9 if the dispatcher's total would leave 2^60. The value is whether a consumer was closed.
-pub fn close(store: &mut [u64], consumer: u64) -> u64
+pub fn close(store: &mut [u64], consumer: u64) -> Answer
     requires { spells store.old ≡ true }
-    ensures answer { result ≡ answer store.old (Close consumer) }
+    ensures answer { word_of result ≡ answer store.old (Close consumer) }
     ensures words { store.new ≡ after store.old (Close consumer) }
 {
     let e = entries(store);
     let Lookup::Live(i) = find_consumer(store, e, consumer) else {
-        return 0;
+        return Ok(0);
     };
     close_live(store, e, i, consumer)
 }

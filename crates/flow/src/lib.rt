@@ -8,58 +8,60 @@ ghost use Rattle.rules.specs.Calls.Call.{Flow};
 ghost use Rattle.layout.specs.Layout.{spells};
 ghost use Rattle.layout.specs.Calls.{answer, after};
 ghost use Rattle.layout.specs.Fields.{consumer_now};
+ghost use Rattle.refusal.specs.Words.{word_of};
 ghost use Rattle.consumer.specs.Live.{Live};
 
 use consumer::fields::{dispatcher_of, is_shared, permits, set_permits};
 use consumer::lookup::{Lookup, find_consumer};
 use dispatcher::total::{set_total_available_permits, total_available_permits};
-use store::answers::{entries, value};
+use refusal::{Answer, Refusal};
+use store::answers::entries;
 use store::permits::{MOST_PERMITS, MOST_TOTAL};
 
 // 4 if not live. 9 if the consumer would pass 2^40 or the dispatcher 2^60. The value is the
 // consumer's permits after.
-pub fn flow(store: &mut [u64], consumer: u64, grant: u32) -> u64
+pub fn flow(store: &mut [u64], consumer: u64, grant: u32) -> Answer
     requires { spells store.old ≡ true }
-    ensures answer { result ≡ answer store.old (Flow consumer grant) }
+    ensures answer { word_of result ≡ answer store.old (Flow consumer grant) }
     ensures words { store.new ≡ after store.old (Flow consumer grant) }
 {
     let e = entries(store);
     let Lookup::Live(i) = find_consumer(store, e, consumer) else {
-        return 4;
+        return Err(Refusal::NotLive);
     };
     flow_live(store, e, i, grant as u64)
 }
 
 // A flow of the live consumer `i`.
-fn flow_live(store: &mut [u64], e: usize, i: usize, grant: u64) -> u64
+fn flow_live(store: &mut [u64], e: usize, i: usize, grant: u64) -> Answer
     requires { Live e store.old i × (grant < 2 ^ 32) }
-    ensures answer { result ≡ answer store.old (Flow (consumer_now store.old i).id grant) }
+    ensures answer { word_of result ≡ answer store.old (Flow (consumer_now store.old i).id grant) }
     ensures words { store.new ≡ after store.old (Flow (consumer_now store.old i).id grant) }
 {
     let granted = permits(store, e, i) + grant;
     if MOST_PERMITS < granted {
-        return 9;
+        return Err(Refusal::PermitsRange);
     }
     if is_shared(store, e, i) {
         return flow_shared(store, e, i, grant, granted);
     }
     set_permits(store, e, i, granted);
-    value(granted)
+    Ok(granted)
 }
 
 // A flow of the live shared consumer `i`, which would have the permits `granted`.
-fn flow_shared(store: &mut [u64], e: usize, i: usize, grant: u64, granted: u64) -> u64
+fn flow_shared(store: &mut [u64], e: usize, i: usize, grant: u64, granted: u64) -> Answer
     requires { Live e store.old i × (grant < 2 ^ 32) × ((consumer_now store.old i).kind ≡ shared)
         × (granted ≡ (consumer_now store.old i).permits + grant) × (granted ≤ most_permits) }
-    ensures answer { result ≡ answer store.old (Flow (consumer_now store.old i).id grant) }
+    ensures answer { word_of result ≡ answer store.old (Flow (consumer_now store.old i).id grant) }
     ensures words { store.new ≡ after store.old (Flow (consumer_now store.old i).id grant) }
 {
     let d = dispatcher_of(store, e, i);
     let total = total_available_permits(store, e, d) + grant;
     if MOST_TOTAL < total {
-        return 9;
+        return Err(Refusal::PermitsRange);
     }
     set_permits(store, e, i, granted);
     set_total_available_permits(store, e, d, total);
-    value(granted)
+    Ok(granted)
 }

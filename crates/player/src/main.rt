@@ -35,7 +35,7 @@ const OUT_BYTES: usize = 65_536;
 // Opens the store and plays.
 fn main(rt: HostRuntime) {
     let mut store = [0u64; STORE_WORDS];
-    open(&mut store, ENTRIES as u64, 0, 0);
+    let _ = open(&mut store, ENTRIES as u64, 0, 0);
     play(&rt, &mut store);
 }
 

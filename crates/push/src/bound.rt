@@ -45,10 +45,8 @@ fn waiting_shared(store: &[u64], e: usize) -> usize
 {
     let n = dispatcher_count(store, e);
     let mut sum = 0;
-    let mut d = 0;
-    while d < n {
+    for d in 0..n {
         sum += waiting_at(store, e, d);
-        d += 1;
     }
     sum
 }
@@ -60,10 +58,8 @@ fn waiting_plain(store: &[u64], e: usize) -> usize
 {
     let n = consumer_count(store, e);
     let mut sum = 0;
-    let mut i = 0;
-    while i < n {
+    for i in 0..n {
         sum += waiting_for(store, e, i);
-        i += 1;
     }
     sum
 }

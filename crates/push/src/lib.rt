@@ -11,6 +11,7 @@ ghost use Rattle.layout.specs.Layout.{decode, spells};
 ghost use Rattle.layout.specs.Canon.{CanonStore};
 ghost use Rattle.layout.specs.Fields.{state_changed};
 ghost use Rattle.layout.specs.Calls.{outcome, answer, after, list_after};
+ghost use Rattle.refusal.specs.Words.{word_of};
 ghost use Rattle.record.specs.Flat.{filled};
 ghost use Rattle.push_laws.specs.Whole.{permits_now, local_push};
 
@@ -22,17 +23,16 @@ use push_plain::serve::serve_plain;
 use push_shared::push_pending_shared;
 use push_turn::due::due_shared;
 use record::RECORD_WORDS;
-use store::answers::{entries, value};
+use refusal::{Answer, Refusal};
+use store::answers::entries;
 
 // The permits of all consumers, by slot.
 fn load_permits(store: &[u64], e: usize, list: &mut [u64])
     requires { CanonStore e store.now × (length list.old ≡ length (decode store.now).consumers) }
     ensures { list.new ≡ permits_now (decode store.now) }
 {
-    let mut i = 0;
-    while i < list.len() {
+    for i in 0..list.len() {
         list[i] = permits(store, e, i);
-        i += 1;
     }
 }
 
@@ -85,9 +85,9 @@ fn push_pending(store: &mut [u64], e: usize, list: &mut [u64]) -> usize
 
 // 15 with the number due if more dispatches are due than the list holds records of 13 words. The value is
 // the dispatches made.
-pub fn push(store: &mut [u64], list: &mut [u64]) -> u64
+pub fn push(store: &mut [u64], list: &mut [u64]) -> Answer
     requires { spells store.old ≡ true }
-    ensures answer { result ≡ answer store.old (Push (length list.old / 13)) }
+    ensures answer { word_of result ≡ answer store.old (Push (length list.old / 13)) }
     ensures words { store.new ≡ after store.old (Push (length list.old / 13)) }
     ensures records { list.new ≡ list_after list.old
         (outcome store.old (Push (length list.old / 13))) }
@@ -97,9 +97,9 @@ pub fn push(store: &mut [u64], list: &mut [u64]) -> u64
     if room < most_due(store, e) {
         let n = due(store, e);
         if room < n {
-            return value(n as u64) + 15;
+            return Err(Refusal::ListShort(n as u64));
         }
     }
     let made = push_pending(store, e, list);
-    value(made as u64)
+    Ok(made as u64)
 }

@@ -52,10 +52,8 @@ pub fn due_plain(store: &[u64], e: usize, permits: &[u64]) -> usize
 {
     let n = permits.len();
     let mut due = 0;
-    let mut i = 0;
-    while i < n {
+    for i in 0..n {
         due += plain_due(store, e, i, permits[i]);
-        i += 1;
     }
     due
 }

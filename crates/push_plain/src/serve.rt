@@ -83,10 +83,8 @@ fn serve_records(
     requires { Sendable e store.now i t permits n × ((m + n) * 13 ≤ length list.old) }
     ensures { list.new ≡ filled list.old m (records_now store.now i permits n) }
 {
-    let mut j = 0;
-    while j < n {
+    for j in 0..n {
         send_entry(store, e, i, t, permits, j, list, m + j);
-        j += 1;
     }
 }
 
@@ -154,10 +152,8 @@ pub fn serve_plain(
 {
     let n = permits.len();
     let mut at = m;
-    let mut i = 0;
-    while i < n {
+    for i in 0..n {
         at = serve_consumer(store, e, i, permits[i], list, at);
-        i += 1;
     }
     at
 }

@@ -9,7 +9,7 @@ use super::fill::fill;
 use bits::UnackedBits;
 use broker::broker_push;
 use record::{Dispatch, RECORD_WORDS};
-use store::answers::NUMBERS;
+use refusal::NUMBERS;
 
 // How many dispatches fit into a flat list of so many words and a list of so many records.
 fn room(words: usize, records: usize) -> usize

@@ -37,10 +37,8 @@ pub fn push_pending_shared(
 {
     let n = dispatcher_count(store, e);
     let mut m = 0;
-    let mut d = 0;
-    while d < n {
+    for d in 0..n {
         m = serve_dispatcher(store, e, d, permits, list, m);
-        d += 1;
     }
     m
 }

@@ -25,12 +25,10 @@ fn ready(ring: &[usize], permits: &[u64], from: usize, to: usize) -> usize
     ensures { (place_named ring.now to result ≡ first_with_permits permits.now from
         (take (to - from) (drop from ring.now)) none) × (result ≤ to) }
 {
-    let mut j = from;
-    while j < to {
+    for j in from..to {
         if has_permits(permits, ring[j]) {
             return j;
         }
-        j += 1;
     }
     to
 }

@@ -75,10 +75,8 @@ pub fn due_shared(store: &[u64], e: usize, permits: &mut [u64]) -> usize
 {
     let n = dispatcher_count(store, e);
     let mut count = 0;
-    let mut d = 0;
-    while d < n {
+    for d in 0..n {
         count += due_of(store, e, d, permits);
-        d += 1;
     }
     count
 }

@@ -11,6 +11,7 @@ ghost use Rattle.rules.specs.Calls.Call.{Redeliver};
 ghost use Rattle.layout.specs.Layout.{spells};
 ghost use Rattle.layout.specs.Calls.{answer, after};
 ghost use Rattle.layout.specs.Fields.{consumer_now};
+ghost use Rattle.refusal.specs.Words.{word_of};
 ghost use Rattle.groups.specs.Walk.{Stands};
 ghost use Rattle.consumer.specs.Live.{Live};
 
@@ -20,29 +21,30 @@ use consumer::nacked::nacked_count;
 use found::{found_count, join_found};
 use groups::form::list_right;
 use hand_back::hand_back_all;
+use refusal::{Answer, Refusal};
 use store::answers::entries;
 use store::limits::MOST_NACKED;
 
 // 4 if not live. 10 unless the list is of the form. 11 if nacked would pass 64. Words are ignored.
-pub fn redeliver(store: &mut [u64], consumer: u64, list: &[u64]) -> u64
+pub fn redeliver(store: &mut [u64], consumer: u64, list: &[u64]) -> Answer
     requires { spells store.old ≡ true }
-    ensures answer { result ≡ answer store.old (Redeliver consumer list.now) }
+    ensures answer { word_of result ≡ answer store.old (Redeliver consumer list.now) }
     ensures words { store.new ≡ after store.old (Redeliver consumer list.now) }
 {
     let e = entries(store);
     let Lookup::Live(i) = find_consumer(store, e, consumer) else {
-        return 4;
+        return Err(Refusal::NotLive);
     };
     if !list_right(list) {
-        return 10;
+        return Err(Refusal::BadList);
     }
     redeliver_live(store, e, i, consumer, list)
 }
 
 // A redeliver of the live consumer `i`, of a list of the form.
-fn redeliver_live(store: &mut [u64], e: usize, i: usize, consumer: u64, list: &[u64]) -> u64
+fn redeliver_live(store: &mut [u64], e: usize, i: usize, consumer: u64, list: &[u64]) -> Answer
     requires { Live e store.old i × ((consumer_now store.old i).id ≡ consumer) × Stands list.now 0 }
-    ensures answer { result ≡ answer store.old (Redeliver consumer list.now) }
+    ensures answer { word_of result ≡ answer store.old (Redeliver consumer list.now) }
     ensures words { store.new ≡ after store.old (Redeliver consumer list.now) }
 {
     if is_shared(store, e, i) {
@@ -52,30 +54,30 @@ fn redeliver_live(store: &mut [u64], e: usize, i: usize, consumer: u64, list: &[
 }
 
 // A redeliver of the live plain consumer `i`.
-fn redeliver_plain(store: &mut [u64], e: usize, i: usize, consumer: u64, list: &[u64]) -> u64
+fn redeliver_plain(store: &mut [u64], e: usize, i: usize, consumer: u64, list: &[u64]) -> Answer
     requires { Live e store.old i × ((consumer_now store.old i).id ≡ consumer) × Stands list.now 0
         × ((consumer_now store.old i).kind ≡ plain) }
-    ensures answer { result ≡ answer store.old (Redeliver consumer list.now) }
+    ensures answer { word_of result ≡ answer store.old (Redeliver consumer list.now) }
     ensures words { store.new ≡ after store.old (Redeliver consumer list.now) }
 {
     let number = topic(store, e, i);
     let n = nacked_count(store, e, i) + found_count(store, e, number, list);
     if MOST_NACKED < n {
-        return 11;
+        return Err(Refusal::IdsFull);
     }
     join_found(store, e, i, number, list);
-    0
+    Ok(0)
 }
 
 // A redeliver of the live shared consumer `i`.
-fn redeliver_shared(store: &mut [u64], e: usize, i: usize, consumer: u64, list: &[u64]) -> u64
+fn redeliver_shared(store: &mut [u64], e: usize, i: usize, consumer: u64, list: &[u64]) -> Answer
     requires { Live e store.old i × ((consumer_now store.old i).id ≡ consumer) × Stands list.now 0
         × ((consumer_now store.old i).kind ≡ shared) }
-    ensures answer { result ≡ answer store.old (Redeliver consumer list.now) }
+    ensures answer { word_of result ≡ answer store.old (Redeliver consumer list.now) }
     ensures words { store.new ≡ after store.old (Redeliver consumer list.now) }
 {
     let number = topic(store, e, i);
     let d = dispatcher_of(store, e, i);
     hand_back_all(store, e, d, number, consumer, list);
-    0
+    Ok(0)
 }

@@ -6,22 +6,17 @@
 ghost use Rattle.std.specs.Prelude.{◌≡◌, true, [], ◌++◌, ◌≤◌, length, take, drop};
 ghost use Rattle.rules.specs.Table.{or_else};
 ghost use Rattle.layout.specs.Layout.{spells};
+ghost use Rattle.refusal.specs.Words.{word_of};
 ghost use Rattle.trace_call.specs.Made.{answered, words_made, list_made};
 ghost use Rattle.row.specs.Script.{script_calls};
 ghost use Rattle.row.specs.Row.{RowLeft};
 ghost use Rattle.row_calls.specs.Rows.{words_filled, CallThere, call_at, Ready, MadeAll};
 
 use record::RECORD_WORDS;
+use refusal::{Answer, NUMBERS, Refusal, word_of};
 use row_script::{Counted, FRONT_WORDS, count_calls};
-use store::answers::{NUMBERS, value};
 use trace_call::answer_call;
 use trace_kind::PUSH;
-
-// The refusal of a script that has a record which is no call.
-const NO_CALL: u64 = 18;
-
-// The refusal of a row with more calls than words for their answers.
-const ANSWERS_SHORT: u64 = 64;
 
 // How many words of its list a call filled, by its kind and its answer.
 fn words_filled(kind: u64, answer: u64) -> usize
@@ -47,7 +42,7 @@ fn call_at(store: &mut [u64], script: &[u64], at: usize, list: &mut [u64], from:
     let kind = script[at];
     let begin = at + FRONT_WORDS;
     let end = begin + script[at + 1] as usize;
-    answer_call(store, kind, &script[begin..end], &mut list[from..])
+    word_of(answer_call(store, kind, &script[begin..end], &mut list[from..]))
 }
 
 // Makes the calls of a script, each of which is one, and writes their answers; each push is given what is left of the list.
@@ -70,20 +65,20 @@ fn make_calls(store: &mut [u64], script: &[u64], answers: &mut [u64], list: &mut
 
 // Makes a row of calls. 18 if a record of the script is no call. 64, with the number of calls, if there are more of them than
 // words for answers. The value is the number of calls made.
-pub fn make_row(store: &mut [u64], script: &[u64], answers: &mut [u64], list: &mut [u64]) -> u64
+pub fn make_row(store: &mut [u64], script: &[u64], answers: &mut [u64], list: &mut [u64]) -> Answer
     requires { spells store.old ≡ true }
     ensures { RowLeft store.old script.now answers.old list.old
-        result store.new answers.new list.new }
+        (word_of result) store.new answers.new list.new }
 {
     let counted = count_calls(script);
     match counted {
         Counted::Calls(calls) => {
             if answers.len() < calls {
-                return value(calls as u64) + ANSWERS_SHORT;
+                return Err(Refusal::AnswersShort(calls as u64));
             }
             make_calls(store, script, answers, list);
-            value(calls as u64)
+            Ok(calls as u64)
         }
-        Counted::Bad => NO_CALL,
+        Counted::Bad => Err(Refusal::NoCall),
     }
 }

@@ -12,6 +12,7 @@ ghost use Rattle.layout.specs.Layout.{decode, spells};
 ghost use Rattle.layout.specs.Calls.{answer, after};
 ghost use Rattle.layout.specs.Canon.{CanonStore};
 ghost use Rattle.layout.specs.Fields.{consumer_now};
+ghost use Rattle.refusal.specs.Words.{word_of};
 ghost use Rattle.topic.specs.Ids.{id_of};
 ghost use Rattle.consumer.specs.Live.{Live};
 ghost use Rattle.seek.specs.Targets.{target_of, seek_to, seek_call};
@@ -20,35 +21,36 @@ use command::{Seek, Target};
 use consumer::fields::{set_cursor, topic};
 use consumer::lookup::{Lookup, find_consumer};
 use consumer::nacked::clear_nacked;
-use store::answers::{entries, value};
+use refusal::{Answer, Refusal};
+use store::answers::entries;
 use topic::find::first_at_or_after;
 use topic::table::{find_topic, topic_count};
 
 // 4 if not live. The value is the cursor.
-pub fn seek(store: &mut [u64], command: Seek) -> u64
+pub fn seek(store: &mut [u64], command: Seek) -> Answer
     requires { spells store.old ≡ true }
-    ensures answer { result ≡ answer store.old (seek_call command) }
+    ensures answer { word_of result ≡ answer store.old (seek_call command) }
     ensures words { store.new ≡ after store.old (seek_call command) }
 {
     let e = entries(store);
     let Lookup::Live(i) = find_consumer(store, e, command.consumer) else {
-        return 4;
+        return Err(Refusal::NotLive);
     };
     let target = command.target;
     seek_live(store, e, i, target)
 }
 
 // A seek of the live consumer `i`.
-fn seek_live(store: &mut [u64], e: usize, i: usize, target: Target) -> u64
+fn seek_live(store: &mut [u64], e: usize, i: usize, target: Target) -> Answer
     requires { Live e store.old i }
-    ensures answer { result ≡ answer store.old (seek_to (consumer_now store.old i).id target) }
+    ensures answer { word_of result ≡ answer store.old (seek_to (consumer_now store.old i).id target) }
     ensures words { store.new ≡ after store.old (seek_to (consumer_now store.old i).id target) }
 {
     let number = topic(store, e, i);
     let cursor = target_position(store, e, number, target);
     set_cursor(store, e, i, cursor);
     clear_nacked(store, e, i);
-    value(cursor as u64)
+    Ok(cursor as u64)
 }
 
 // The position of a target in the ledger of a topic.

@@ -2,30 +2,32 @@
 ghost use Rattle.std.specs.Prelude.{◌≡◌, not, ◌≤◌, eqb, length};
 ghost use Rattle.words.specs.Codec.{bit};
 ghost use Rattle.layout.specs.Calls.{open_answer, open_after};
+ghost use Rattle.refusal.specs.Words.{word_of};
 ghost use Rattle.store.specs.Open.{opened_words};
 
 use super::limits::MOST_ENTRIES;
 use super::offsets::{ENTRIES_AT, LAYOUT_TAG, LEAK_AT, NEEDED_WORDS, NEEDED_WORDS_E, NOOP_AT};
 use super::stretch::clear_words;
+use refusal::{Answer, Refusal};
 
 // The words become those of a store just opened, or stay as they are: 2 if E is not 1 to 4,096,
 // 3 if the store is too short.
-pub fn open(store: &mut [u64], entries: u64, leak: u64, noop: u64) -> u64
-    ensures answer { result ≡ open_answer store.old entries leak noop }
+pub fn open(store: &mut [u64], entries: u64, leak: u64, noop: u64) -> Answer
+    ensures answer { word_of result ≡ open_answer store.old entries leak noop }
     ensures words { store.new ≡ open_after store.old entries leak noop }
 {
     if entries < 1 {
-        return 2;
+        return Err(Refusal::BadEntries);
     }
     if MOST_ENTRIES < entries {
-        return 2;
+        return Err(Refusal::BadEntries);
     }
     let needed = NEEDED_WORDS + NEEDED_WORDS_E * (entries as usize);
     if store.len() < needed {
-        return 3;
+        return Err(Refusal::StoreShort);
     }
     open_words(store, entries, needed, switch(leak), switch(noop));
-    0
+    Ok(0)
 }
 
 // The needed words become those of the empty state.

@@ -13,29 +13,31 @@ ghost use Rattle.rules.specs.Calls.Call.{Subscribe as Subscribed};
 ghost use Rattle.layout.specs.Layout.{spells};
 ghost use Rattle.layout.specs.Fields.{pair_of};
 ghost use Rattle.layout.specs.Calls.{answer, after};
+ghost use Rattle.refusal.specs.Words.{word_of};
 ghost use Rattle.subscribe.specs.Admitted.{Admitted};
 ghost use Rattle.subscribe.specs.Commanded.{subscribe_call};
 
 use admit::{is_full, is_idle, is_live, pairs_full, ring_full};
 use command::{Kind, Subscribe};
 use enter::enter;
+use refusal::{Answer, Refusal};
 use seat::seat_consumer;
 use store::answers::entries;
 
 // Done at once if the id is live and that is a no-op. 12 if the id is not live and 32 are. 13 if it is
 // shared, its pair is new, and 8 exist. 14 if it is shared, not in that ring, and the ring has 32.
-pub fn subscribe(store: &mut [u64], command: Subscribe) -> u64
+pub fn subscribe(store: &mut [u64], command: Subscribe) -> Answer
     requires { spells store.old ≡ true }
-    ensures answer { result ≡ answer store.old (subscribe_call command) }
+    ensures answer { word_of result ≡ answer store.old (subscribe_call command) }
     ensures words { store.new ≡ after store.old (subscribe_call command) }
 {
     let e = entries(store);
     let live = is_live(store, e, command.consumer);
     if is_idle(store, e, live) {
-        return 0;
+        return Ok(0);
     }
     if is_full(store, e, live) {
-        return 12;
+        return Err(Refusal::ConsumersFull);
     }
     let topic = command.topic as u64;
     let subscription = command.subscription as u64;
@@ -47,27 +49,27 @@ pub fn subscribe(store: &mut [u64], command: Subscribe) -> u64
 }
 
 // A plain consumer is made.
-fn subscribe_plain(store: &mut [u64], e: usize, id: u64, topic: u64, subscription: u64) -> u64
+fn subscribe_plain(store: &mut [u64], e: usize, id: u64, topic: u64, subscription: u64) -> Answer
     requires { Admitted e store.old id }
-    ensures answer { result ≡ answer store.old (Subscribed id plain (pair_of topic subscription)) }
+    ensures answer { word_of result ≡ answer store.old (Subscribed id plain (pair_of topic subscription)) }
     ensures words { store.new ≡ after store.old (Subscribed id plain (pair_of topic subscription)) }
 {
     seat_consumer(store, e, id, 0, topic, subscription);
-    0
+    Ok(0)
 }
 
 // A shared consumer is made and joins its ring, if both have room.
-fn subscribe_shared(store: &mut [u64], e: usize, id: u64, topic: u64, subscription: u64) -> u64
+fn subscribe_shared(store: &mut [u64], e: usize, id: u64, topic: u64, subscription: u64) -> Answer
     requires { Admitted e store.old id }
-    ensures answer { result ≡ answer store.old (Subscribed id shared (pair_of topic subscription)) }
+    ensures answer { word_of result ≡ answer store.old (Subscribed id shared (pair_of topic subscription)) }
     ensures words { store.new ≡ after store.old (Subscribed id shared (pair_of topic subscription)) }
 {
     if pairs_full(store, e, topic, subscription) {
-        return 13;
+        return Err(Refusal::DispatchersFull);
     }
     if ring_full(store, e, topic, subscription, id) {
-        return 14;
+        return Err(Refusal::RingFull);
     }
     enter(store, e, id, topic, subscription);
-    0
+    Ok(0)
 }

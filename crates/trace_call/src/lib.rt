@@ -7,6 +7,7 @@ ghost use Rattle.std.specs.Prelude.{◌≡◌, true, false, ◌/◌, eqb, length
 ghost use Rattle.std.proofs.Math.Option.{bind};
 ghost use Rattle.rules.specs.Table.{is_some};
 ghost use Rattle.layout.specs.Layout.{spells};
+ghost use Rattle.refusal.specs.Words.{word_of};
 ghost use Rattle.trace.specs.Calls.{PUSH as Push_kind, call_of, that_fits, append_from, subscribe_from, flow_from, ack_from, seek_from};
 ghost use Rattle.trace.specs.Calls.{redeliver_from, close_from, push_from};
 ghost use Rattle.trace_call.specs.Made.{made, answered, words_made, list_made};
@@ -17,6 +18,7 @@ use close::close;
 use flow::flow;
 use push::push;
 use redeliver::redeliver;
+use refusal::{Answer, word_of};
 use seek::command::{Seek, Target};
 use seek::seek;
 use subscribe::command::{Kind, Subscribe};
@@ -42,13 +44,13 @@ pub fn make_call(store: &mut [u64], kind: u64, words: &[u64], list: &mut [u64]) 
     if !is_call(kind, words) {
         return Made::NoCall;
     }
-    Made::Answer(answer_call(store, kind, words, list))
+    Made::Answer(word_of(answer_call(store, kind, words, list)))
 }
 
 // Makes the call that a kind and its words are, and answers as its export does; a push fills the list.
-pub fn answer_call(store: &mut [u64], kind: u64, words: &[u64], list: &mut [u64]) -> u64
+pub fn answer_call(store: &mut [u64], kind: u64, words: &[u64], list: &mut [u64]) -> Answer
     requires { (spells store.old ≡ true) × (is_some (call_of 0 kind words.now) ≡ true) }
-    ensures answer { result ≡ answered store.old (call_of (length list.old / 13) kind words.now) }
+    ensures answer { word_of result ≡ answered store.old (call_of (length list.old / 13) kind words.now) }
     ensures words { store.new ≡ words_made store.old (call_of (length list.old / 13) kind words.now) }
     ensures records { list.new ≡ list_made store.old list.old
         (call_of (length list.old / 13) kind words.now) }
@@ -60,9 +62,9 @@ pub fn answer_call(store: &mut [u64], kind: u64, words: &[u64], list: &mut [u64]
 }
 
 // Any kind but a push. Words that are a call and of none of these six kinds are a close.
-fn make_command(store: &mut [u64], kind: u64, words: &[u64]) -> u64
+fn make_command(store: &mut [u64], kind: u64, words: &[u64]) -> Answer
     requires { (spells store.old ≡ true) × (is_some (call_of 0 kind words.now) ≡ true) × (eqb kind Push_kind ≡ false) }
-    ensures answer { result ≡ answered store.old (call_of 0 kind words.now) }
+    ensures answer { word_of result ≡ answered store.old (call_of 0 kind words.now) }
     ensures words { store.new ≡ words_made store.old (call_of 0 kind words.now) }
 {
     if kind == FLOW {
@@ -87,9 +89,9 @@ fn make_command(store: &mut [u64], kind: u64, words: &[u64]) -> u64
 }
 
 // An append: topic, ledger, entry, handle, batch size.
-fn make_append(store: &mut [u64], words: &[u64]) -> u64
+fn make_append(store: &mut [u64], words: &[u64]) -> Answer
     requires { (spells store.old ≡ true) × (is_some (bind (append_from words.now) that_fits) ≡ true) }
-    ensures answer { result ≡ answered store.old (bind (append_from words.now) that_fits) }
+    ensures answer { word_of result ≡ answered store.old (bind (append_from words.now) that_fits) }
     ensures words { store.new ≡ words_made store.old (bind (append_from words.now) that_fits) }
 {
     append(
@@ -103,55 +105,42 @@ fn make_append(store: &mut [u64], words: &[u64]) -> u64
 }
 
 // A subscribe: consumer, 0 plain or 1 shared, topic, subscription.
-fn make_subscribe(store: &mut [u64], words: &[u64]) -> u64
+fn make_subscribe(store: &mut [u64], words: &[u64]) -> Answer
     requires { (spells store.old ≡ true) × (is_some (bind (subscribe_from words.now) that_fits) ≡ true) }
-    ensures answer { result ≡ answered store.old (bind (subscribe_from words.now) that_fits) }
+    ensures answer { word_of result ≡ answered store.old (bind (subscribe_from words.now) that_fits) }
     ensures words { store.new ≡ words_made store.old (bind (subscribe_from words.now) that_fits) }
 {
-    if words[1] == 0 {
-        return subscribe(
-            store,
-            Subscribe {
-                consumer: words[0],
-                kind: Kind::Plain,
-                topic: words[2] as u8,
-                subscription: words[3] as u8,
-            },
-        );
-    }
-    subscribe(
-        store,
-        Subscribe {
-            consumer: words[0],
-            kind: Kind::Shared,
-            topic: words[2] as u8,
-            subscription: words[3] as u8,
-        },
-    )
+    let command = Subscribe {
+        consumer: words[0],
+        kind: Kind::from(words[1]),
+        topic: words[2] as u8,
+        subscription: words[3] as u8,
+    };
+    subscribe(store, command)
 }
 
 // A flow: consumer, grant.
-fn make_flow(store: &mut [u64], words: &[u64]) -> u64
+fn make_flow(store: &mut [u64], words: &[u64]) -> Answer
     requires { (spells store.old ≡ true) × (is_some (bind (flow_from words.now) that_fits) ≡ true) }
-    ensures answer { result ≡ answered store.old (bind (flow_from words.now) that_fits) }
+    ensures answer { word_of result ≡ answered store.old (bind (flow_from words.now) that_fits) }
     ensures words { store.new ≡ words_made store.old (bind (flow_from words.now) that_fits) }
 {
     flow(store, words[0], words[1] as u32)
 }
 
 // An ack: consumer, list.
-fn make_ack(store: &mut [u64], words: &[u64]) -> u64
+fn make_ack(store: &mut [u64], words: &[u64]) -> Answer
     requires { (spells store.old ≡ true) × (is_some (bind (ack_from words.now) that_fits) ≡ true) }
-    ensures answer { result ≡ answered store.old (bind (ack_from words.now) that_fits) }
+    ensures answer { word_of result ≡ answered store.old (bind (ack_from words.now) that_fits) }
     ensures words { store.new ≡ words_made store.old (bind (ack_from words.now) that_fits) }
 {
     ack(store, words[0], &words[1..])
 }
 
 // A seek: consumer, then 0, or 1, ledger, entry.
-fn make_seek(store: &mut [u64], words: &[u64]) -> u64
+fn make_seek(store: &mut [u64], words: &[u64]) -> Answer
     requires { (spells store.old ≡ true) × (is_some (bind (seek_from words.now) that_fits) ≡ true) }
-    ensures answer { result ≡ answered store.old (bind (seek_from words.now) that_fits) }
+    ensures answer { word_of result ≡ answered store.old (bind (seek_from words.now) that_fits) }
     ensures words { store.new ≡ words_made store.old (bind (seek_from words.now) that_fits) }
 {
     if words[1] == 0 {
@@ -173,27 +162,27 @@ fn make_seek(store: &mut [u64], words: &[u64]) -> u64
 }
 
 // A redeliver: consumer, list.
-fn make_redeliver(store: &mut [u64], words: &[u64]) -> u64
+fn make_redeliver(store: &mut [u64], words: &[u64]) -> Answer
     requires { (spells store.old ≡ true) × (is_some (bind (redeliver_from words.now) that_fits) ≡ true) }
-    ensures answer { result ≡ answered store.old (bind (redeliver_from words.now) that_fits) }
+    ensures answer { word_of result ≡ answered store.old (bind (redeliver_from words.now) that_fits) }
     ensures words { store.new ≡ words_made store.old (bind (redeliver_from words.now) that_fits) }
 {
     redeliver(store, words[0], &words[1..])
 }
 
 // A close: consumer.
-fn make_close(store: &mut [u64], words: &[u64]) -> u64
+fn make_close(store: &mut [u64], words: &[u64]) -> Answer
     requires { (spells store.old ≡ true) × (is_some (bind (close_from words.now) that_fits) ≡ true) }
-    ensures answer { result ≡ answered store.old (bind (close_from words.now) that_fits) }
+    ensures answer { word_of result ≡ answered store.old (bind (close_from words.now) that_fits) }
     ensures words { store.new ≡ words_made store.old (bind (close_from words.now) that_fits) }
 {
     close(store, words[0])
 }
 
 // A push: no words.
-fn make_push(store: &mut [u64], words: &[u64], list: &mut [u64]) -> u64
+fn make_push(store: &mut [u64], words: &[u64], list: &mut [u64]) -> Answer
     requires { (spells store.old ≡ true) × (is_some (bind (push_from 0 words.now) that_fits) ≡ true) }
-    ensures answer { result ≡ answered store.old (bind (push_from (length list.old / 13) words.now) that_fits) }
+    ensures answer { word_of result ≡ answered store.old (bind (push_from (length list.old / 13) words.now) that_fits) }
     ensures words { store.new ≡ words_made store.old
         (bind (push_from (length list.old / 13) words.now) that_fits) }
     ensures records { list.new ≡ list_made store.old list.old

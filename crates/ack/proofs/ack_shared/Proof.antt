@@ -1,6 +1,6 @@
 -- `ack::ack_shared` meets its contract: 64 outside ids are passed, or the dispatcher after the ack is written.
 use mathlib.Core.Path.{◌≡◌, refl, sym, ap, ◌∙◌}
-use Prim.Native.Nat.{ℕ, ◌≤◌, ◌<◌}
+use Prim.Native.Nat.{ℕ, ◌*◌, ◌%◌, ◌^◌, ◌≤◌, ◌<◌}
 use native.Mathlib.Omega.{arith}
 use lib.ListN.{length}
 use borrow.Author.Tests.{ltb-false}
@@ -124,10 +124,10 @@ returns_2 c =
     let s = decode a.store.now in
     let from = c.mark_delete-from.ensures in
     let to = c.mark_delete.ensures ∙ after_is c.before.before.before.before in
-    both (done_with a.store.now _ h.spelt _ c.moved.result
+    both (done_with a.store.now _ h.spelt _ _
     (ack_done s a.i a.consumer a.list.now (own_slot c.before.before.before.before.before.before.before.before.before) h.there (groups_from a.list.now 0) p.2.reads p.3
     c.dispatcher_of-d.result c.topic-number.result c.dispatcher_of-d.ensures (there c.before.before.before.before.before.before.before.before.before.before) c.topic-number.ensures (sym c.passes_64.ensures ∙ c.if-passes_64.false))
-    (value_moved _ _) (c.moved.ensures ∙ rw (from, to)) c.complete.ensures)
+    (value_moved _ _) (ap (λ (n : ℕ). n % 2 ^ 56 * 256) (c.moved.ensures ∙ rw (from, to))) c.complete.ensures)
 
 pub ack_shared_spec : {M : Type 1} → statement M
 ack_shared_spec = tie.close (tie.spec dispatcher_of_requires topic_requires passes_64_requires same_length returns mark_delete_requires complete_requires mark_delete_requires_2 moved_requires same_length_2 returns_2)

@@ -9,7 +9,10 @@ use Rattle.check_state.proofs.spells.Reads as spells_reads
 use Rattle.broker.proofs.broker_append.Goals as goal
 
 pub returns-then-not-spells : goal.returns-then-not-spells
-returns-then-not-spells c = unspelt _ _ (answered_no c.spells.ensures c.if-not-spells.true)
+returns-then-not-spells c = rw c.word_of.ensures (unspelt _ _ (answered_no c.spells.ensures c.if-not-spells.true))
 
 pub append-requires : goal.append-requires
 append-requires c = answered_yes c.spells.ensures c.if-not-spells.false
+
+pub returns : goal.returns
+returns c = rw c.word_of-2.ensures c.append.ensures

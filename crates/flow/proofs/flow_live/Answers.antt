@@ -50,6 +50,6 @@ returns c =
     let p : n ≡ (consumer_nth (decode ws) c.args.i).permits + c.args.grant = let q = c.permits.ensures in omega arith in
     let le : n ≤ most_permits = let t = c.if-granted-gt-MOST_PERMITS.false in omega arith in
     let k = flag_plain _ (sym c.is_shared.ensures ∙ c.if-is_shared.false) in
-    done_with ws _ h.spelt n c.value.result
+    done_with ws _ h.spelt n _
     (flow_plain (decode ws) c.args.i _ c.args.grant (live_slot h) refl (live_valid h) h.there n p le k)
-    (value_permits n) c.value.ensures c.set_permits.ensures
+    (value_permits n) refl c.set_permits.ensures

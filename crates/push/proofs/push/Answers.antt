@@ -1,5 +1,6 @@
 -- `push::push` meets its contract: 15 with the number due, or all of it dispatched. The list has room if it has
 -- room for all that waits, or else for the number due.
+use mathlib.Core.Path.{refl}
 use Prim.Native.Nat.{◌/◌, ◌≤◌}
 use native.Mathlib.Omega.{arith}
 use lib.ListN.{length}
@@ -17,7 +18,7 @@ most_due-requires c = canon_of c.entries-e.result c.args.store.now c.requires c.
 pub returns-then-room-n : goal.returns-then-room-n
 returns-then-room-n c =
     let a = c.args in
-    let r = answers_short a.store.now c.requires (length a.list.now / 13) c.due-n.result c.value.result c.due-n.ensures c.value.ensures
+    let r = answers_short a.store.now c.requires (length a.list.now / 13) c.due-n.result _ c.due-n.ensures refl
     a.list.now c.if-room-n.true in
     record { answer = r.0; words = r.1; records = r.2 }
 
@@ -41,6 +42,6 @@ returns c =
     ] in
     let n = p.ensures.value in
     let fits : p.result ≤ length a.list.now / 13 = omega (arith, f, n) in
-    let r = answers_done a.store.now c.requires (length a.list.now / 13) p.result c.value-2.result p.ensures.value c.value-2.ensures
+    let r = answers_done a.store.now c.requires (length a.list.now / 13) p.result _ p.ensures.value refl
     a.list.now fits (omega (arith, fits)) p.ensures.words p.ensures.records in
     record { answer = r.0; words = r.1; records = r.2 }

@@ -27,6 +27,9 @@ returns c = not_made _ _ (none_there _ (same_there c.before.before.before.before
 answer_call_requires : tie.Need-answer_call-requires
 answer_call_requires c κs = (c.requires, sym c.is_call.ensures ∙ c.if-not-is_call.false)
 
+word_of_requires : tie.Need-word_of-requires
+word_of_requires c κs = search rules
+
 same_length : tie.Need-shape_of-store
 same_length c = search rules
 
@@ -36,8 +39,8 @@ same_length_2 c = search rules
 returns_2 : tie.Need-returns
 returns_2 c =
     let e = c.answer_call.ensures in
-    let there = same_there c.before.before.before.before.before.before.before.before.before.before.before.before ∙ sym c.is_call.ensures ∙ c.if-not-is_call.false in
-    (is_made _ _ there e.0, e.1)
+    let there = same_there c.before.before.before.before.before.before.before.before.before.before.before.before.before ∙ sym c.is_call.ensures ∙ c.if-not-is_call.false in
+    (is_made _ _ there (c.word_of.ensures ∙ e.0), e.1)
 
 pub make_call_spec : {M : Type 1} → statement M
-make_call_spec = tie.close (tie.spec is_call_requires returns answer_call_requires same_length same_length_2 returns_2)
+make_call_spec = tie.close (tie.spec is_call_requires returns answer_call_requires word_of_requires same_length same_length_2 returns_2)

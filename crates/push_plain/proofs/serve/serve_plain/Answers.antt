@@ -4,36 +4,35 @@ use native.Mathlib.Omega.{arith}
 use lib.ListN.{length}
 use Rattle.layout.specs.Layout.{decode}
 use Rattle.push_plain.proofs.Served.{going_first, going_in, going_readable, going_room, going_on, going_long, going_count, going_words, going_records}
-use borrow.Author.Rules.{rules}
 use Rattle.push_plain.proofs.serve.serve_plain.Goals as goal
 
 pub loop-i-init : goal.loop-i-init
-loop-i-init c = (search rules, going_first c.requires.0 c.args.permits.now c.args.list.now c.args.m)
+loop-i-init c = going_first c.requires.0 c.args.permits.now c.args.list.now c.args.m
 
 pub serve_consumer-at-requires : goal.serve_consumer-at-requires
 serve_consumer-at-requires c =
     let p = c.requires in
-    let g = c.loop-i.invariant.1 in
+    let g = c.loop-i.invariant in
     let h : c.loop-i.i < length (decode c.args.store.now).consumers = omega (arith, p.2) in
     (going_in p.0 g h, going_readable p.0 g h p.1, going_room p.0 g h p.3)
 
 pub loop-i-preserved : goal.loop-i-preserved
 loop-i-preserved c =
     let p = c.requires in
-    let g = c.loop-i.invariant.1 in
+    let g = c.loop-i.invariant in
     let h : c.loop-i.i < length (decode c.args.store.now).consumers = omega (arith, p.2) in
     let e = c.serve_consumer-at.ensures in
-    (search rules, going_on p.0 g h e.value e.words e.records)
+    going_on p.0 g h e.value e.words e.records
 
 pub shape_of-store : goal.shape_of-store
-shape_of-store c = going_long c.requires.0 c.loop-i.invariant.1
+shape_of-store c = going_long c.requires.0 c.loop-i.invariant
 
 pub shape_of-list : goal.shape_of-list
-shape_of-list c = c.loop-i.invariant.1.long
+shape_of-list c = c.loop-i.invariant.long
 
 pub returns : goal.returns
 returns c =
     let p = c.requires in
-    let g = c.loop-i.invariant.1 in
+    let g = c.loop-i.invariant in
     let h : length (decode c.args.store.now).consumers ≤ c.loop-i.i = omega (arith, p.2) in
     record { value = going_count g h; words = going_words g h; records = going_records g h }

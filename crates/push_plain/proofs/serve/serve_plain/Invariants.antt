@@ -1,10 +1,6 @@
 -- `push_plain::serve::serve_plain` meets its contract: the consumers before `i` are served, and the list with what is left is the list with all.
-use Prim.Native.Nat.{◌-◌, ◌≤◌}
 use Rattle.push_plain.proofs.Served.{Going}
 use Rattle.push_plain.proofs.serve.serve_plain.Given as goal
 
 abbrev pub invariant-loop-i : goal.invariant-loop-i
-invariant-loop-i l = (l.i ≤ l.n) × Going l.initial.store l.permits l.initial.list l.m l.store l.list l.at l.i
-
-abbrev pub decreases-loop-i : goal.decreases-loop-i
-decreases-loop-i l = l.n - l.i
+invariant-loop-i l = Going l.initial.store l.permits l.initial.list l.m l.store l.list l.at l.i

@@ -22,7 +22,7 @@ loop-j-init c =
     let a = c.args in
     let s = decode a.store.now in
     let x = consumer_nth s a.i in
-    (search rules, refl, fill_start (ledger_for s x) (with_permits x a.permits) a.list.now a.m a.n)
+    (refl, fill_start (ledger_for s x) (with_permits x a.permits) a.list.now a.m a.n)
 
 pub overflow_add-m : goal.overflow_add-m
 overflow_add-m c = let p = c.requires.1 in search rules
@@ -30,7 +30,7 @@ overflow_add-m c = let p = c.requires.1 in search rules
 pub send_entry-requires : goal.send_entry-requires
 send_entry-requires c =
     let p = c.requires.1 in
-    let v = c.loop-j.invariant.1 in
+    let v = c.loop-j.invariant.0 in
     (sendable_fewer c.requires.0 (c.loop-j.j + 1) (search rules), omega arith)
 
 pub loop-j-preserved : goal.loop-j-preserved
@@ -42,11 +42,10 @@ loop-j-preserved c =
     let d = flat (entry_record (ledger_for s x) (with_permits x a.permits) j) in
     let h : j < a.n = search rules in
     let w = c.send_entry.ensures in (
-      search rules,
-      ap (λ (l : List ℕ). length l) w ∙ (lay d).even ((a.m + j) * 13) c.loop-j.list ∙ c.loop-j.invariant.1,
+      ap (λ (l : List ℕ). length l) w ∙ (lay d).even ((a.m + j) * 13) c.loop-j.list ∙ c.loop-j.invariant.0,
       ap (λ (l : List ℕ). filled l (a.m + (j + 1)) (plain_records (ledger_for s x) (after_entries (with_permits x a.permits) (j + 1)) (a.n - (j + 1)))) w
           ∙ sym (fill_turn (ledger_for s x) (with_permits x a.permits) c.loop-j.list a.m a.n j h)
-          ∙ c.loop-j.invariant.2,
+          ∙ c.loop-j.invariant.1,
     )
 
 pub returns : goal.returns
@@ -55,4 +54,4 @@ returns c =
     let s = decode a.store.now in
     let x = consumer_nth s a.i in
     let e : c.loop-j.j ≡ a.n = omega arith in
-    fill_end (ledger_for s x) (after_entries (with_permits x a.permits) c.loop-j.j) c.loop-j.list a.m a.n c.loop-j.j e ∙ c.loop-j.invariant.2
+    fill_end (ledger_for s x) (after_entries (with_permits x a.permits) c.loop-j.j) c.loop-j.list a.m a.n c.loop-j.j e ∙ c.loop-j.invariant.1

@@ -1,4 +1,4 @@
--- `append::refusal_of_append` meets its contract: each way out is one refusal, or none.
+-- `append::admit` meets its contract: each way out is one refusal, or none.
 use mathlib.Core.Path.{◌≡◌}
 use Prim.Native.Nat.{◌<◌}
 use native.Mathlib.Omega.{arith}
@@ -9,8 +9,8 @@ use Rattle.layout.proofs.Store.{canon_entries}
 use Rattle.layout.proofs.Placed.{topic_in}
 use Rattle.topic.specs.Ids.{id_of}
 use Rattle.append.proofs.Appends.{refusal_5, refusal_new, refusal_7, refusal_6, refusal_none}
-use Rattle.append.proofs.refusal_of_append.Statement.{statement}
-use Rattle.append.proofs.refusal_of_append.Tie as tie
+use Rattle.append.proofs.admit.Statement.{statement}
+use Rattle.append.proofs.admit.Tie as tie
 
 -- the count is the number of topics
 counted : (c : tie.After-topic_count-topics) → c.topic_count-topics.result ≡ length (decode c.args.store.now).topics
@@ -73,5 +73,5 @@ returns_5 c =
     let l = c.if-e-n.false in
     refusal_none (decode a.store.now) a.t (id_of a.ledger a.entry) (there c.before.before.before.before) (omega arith) (omega arith)
 
-pub refusal_of_append_spec : {M : Type 1} → statement M
-refusal_of_append_spec = tie.close (tie.spec topic_count_requires returns returns_2 message_count_requires position_of_requires returns_3 returns_4 returns_5)
+pub admit_spec : {M : Type 1} → statement M
+admit_spec = tie.close (tie.spec topic_count_requires returns returns_2 message_count_requires position_of_requires returns_3 returns_4 returns_5)
