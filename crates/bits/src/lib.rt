@@ -9,6 +9,8 @@ ghost use Rattle.bits.specs.Bits.{fresh_unacked_bits, and_into, bits_empty, bits
 ghost use Rattle.bits.specs.Four.{four, words};
 ghost use Rattle.bits.specs.Masks.{mask};
 
+// Four fields and no array: in clauses an array is a list of any length, and each fact about a mark or a record would have
+// to add that it is four; four fields say it by themselves.
 #[derive(Clone, Copy)]
 pub struct UnackedBits {
     pub w0: u64,
@@ -181,5 +183,5 @@ fn word_below(word: u64, batch_size: u64, from: u64) -> bool
 fn word_or_zero(list: &[u64], at: usize) -> u64
     ensures { result ≡ get_or list.now at 0 }
 {
-    if at < list.len() { list[at] } else { 0 }
+    list.get(at).copied().unwrap_or(0)
 }
