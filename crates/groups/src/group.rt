@@ -2,6 +2,7 @@
 ghost use Rattle.std.specs.Prelude.{◌≡◌, false, true, MatchOption};
 ghost use Rattle.bits.specs.Bits.{and_into};
 ghost use Rattle.bits.specs.Four.{four, words};
+ghost use Rattle.rules.specs.State.{same_id};
 ghost use Rattle.groups.specs.Walk.{group_fits, end_at, group_at};
 ghost use Rattle.groups.specs.Lent.{group_of, SplitsGroup};
 
@@ -41,6 +42,13 @@ pub(crate) fn split_group(list: &[u64]) -> Option<(Group, &[u64])>
 }
 
 impl<'a> Group<'a> {
+    // Whether another group has the same id.
+    pub fn same_id(self, other: Group) -> bool
+        ensures { result ≡ same_id (group_of self.entry).id (group_of other.entry).id }
+    {
+        self.ledger == other.ledger && self.entry == other.entry
+    }
+
     // The bits that are also set in the words of the group.
     pub fn and(self, bits: UnackedBits) -> UnackedBits
         ensures { result ≡ four (and_into (words bits) (group_of self.entry).words) }

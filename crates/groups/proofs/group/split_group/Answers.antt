@@ -1,6 +1,5 @@
 -- `groups::group::split_group` meets its contract, by the lemmas of `Forms` for each way out.
-use Rattle.std.proofs.Common.{arith, sym, ap, ◌∙◌, ℕ, List, take, drop, length}
-use Rattle.groups.specs.Walk.{words_at}
+use Rattle.std.proofs.Common.{arith, sym}
 use Rattle.groups.proofs.Forms.{head_outside, too_many, words_short, words_stand, group_before, after_group}
 use Rattle.groups.proofs.group.split_group.Goals as goal
 

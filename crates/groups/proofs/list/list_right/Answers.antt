@@ -1,6 +1,6 @@
 -- `groups::list::list_right` meets its contract: a list that has ended, or where no group may follow or none fits, has the
 -- form exactly if it has ended.
-use Rattle.std.proofs.Common.{arith, ℕ, suc, ◌+◌, ◌-◌, ◌≡◌, sym, ◌∙◌}
+use Rattle.std.proofs.Common.{arith, suc, ◌+◌, ◌-◌, ◌≡◌, sym, ◌∙◌}
 use Rattle.groups.proofs.Forms.{formed_start, formed_full, formed_broken, formed_on}
 use Rattle.groups.proofs.list.list_right.Goals as goal
 use Rattle.groups.proofs.list.list_right.Goals.{else-loop-test, then-loop-test+in_default}

@@ -1,5 +1,5 @@
 -- `next` of `groups::list::Groups` meets its contract: it gives the first group that is left.
-use Rattle.std.proofs.Common.{arith, sym, ◌∙◌, ap, length}
+use Rattle.std.proofs.Common.{arith, ap, length}
 use Rattle.groups.proofs.Lists.{none_ahead, first_ahead, form_after, groups_ahead}
 use Rattle.groups.proofs.list.GroupsIterator.next.Goals as goal
 
