@@ -18,8 +18,6 @@ use Rattle.rules.proofs.Table.{by_test, turned_round}
 use Rattle.rules.proofs.State.{decides_ids}
 use Rattle.rules.proofs.Ids.{any_insert_id, length_insert_id}
 use Rattle.store.specs.Find.{slot}
-use Rattle.groups.specs.Walk.{group_at, groups_from, end_at}
-use Rattle.groups.proofs.Walks.{Turn, stands_end}
 use Rattle.dispatcher.specs.Outside.{by_itself}
 use Rattle.ack.specs.NewIds.{named, new_bit, new_count}
 
@@ -130,30 +128,29 @@ module _ (ledger : List StoredMessage) (d : Dispatcher) (g : Group) (gs : List G
   unfolding new_bit is_outside
   bit_counts t u n = rw (t, u, n)
 
--- ---- along the list
+-- ---- along the groups
 
-module _ (list : List ℕ) (at : ℕ) (k : Turn list at) where
-  -- the group here has an id
-  pub named_here : (i : Id) → same_id i (group_at list at).id ≡ true → true ≡ named i (groups_from list at)
+module _ (gs : List Group) (g : Group) (rest : List Group) (k : gs ≡ g ∷ rest) where
+  -- the first has an id
+  pub named_here : (i : Id) → same_id i g.id ≡ true → true ≡ named i gs
   unfolding named any
-  named_here i t = rw (k.here, t)
+  named_here i t = rw (k, t)
 
   -- or only later ones may have it
-  pub named_next : (i : Id) → same_id i (group_at list at).id ≡ false → named i (groups_from list at) ≡ named i (groups_from list (end_at list at))
+  pub named_next : (i : Id) → same_id i g.id ≡ false → named i gs ≡ named i rest
   unfolding named any
-  named_next i t = rw (k.here, t)
+  named_next i t = rw (k, t)
 
-  -- the group here, and the later ones
-  pub count_first : (ledger : List StoredMessage) (ids : List Id)
-      → new_count ledger ids (groups_from list at) ≡ new_bit ledger ids (group_at list at) (groups_from list (end_at list at)) + new_count ledger ids (groups_from list (end_at list at))
+  -- the first, and the later ones
+  pub count_first : (ledger : List StoredMessage) (ids : List Id) → new_count ledger ids gs ≡ new_bit ledger ids g rest + new_count ledger ids rest
   unfolding new_count
-  count_first ledger ids = rw k.here
+  count_first ledger ids = rw k
 
 -- at the end no group is left
-pub named_nothing : (list : List ℕ) (at : ℕ) (i : Id) → length list ≤ at → false ≡ named i (groups_from list at)
+pub named_nothing : (gs : List Group) (i : Id) → gs ≡ [] → false ≡ named i gs
 unfolding named any
-named_nothing list at i h = rw (stands_end list at h)
+named_nothing gs i h = rw h
 
-pub count_nothing : (list : List ℕ) (at : ℕ) (ledger : List StoredMessage) (ids : List Id) → length list ≤ at → new_count ledger ids (groups_from list at) ≡ 0
+pub count_nothing : (gs : List Group) (ledger : List StoredMessage) (ids : List Id) → gs ≡ [] → new_count ledger ids gs ≡ 0
 unfolding new_count
-count_nothing list at ledger ids h = rw (stands_end list at h)
+count_nothing gs ledger ids h = rw h

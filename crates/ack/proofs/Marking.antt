@@ -2,12 +2,11 @@
 use mathlib.Core.Path.{◌≡◌, refl, sym, ap, ◌∙◌}
 use mathlib.Core.Bool.{Bool, true, false, cond, not, ◌&&◌, ◌||◌}
 use mathlib.Core.List.{List, [], ◌∷◌}
-use Prim.Native.Nat.{ℕ, zero, suc, ◌≤◌, ◌<◌}
-use native.Mathlib.Nat.{not-suc-le-zero}
+use Prim.Native.Nat.{ℕ, ◌≤◌, ◌<◌}
 use native.Mathlib.Omega.{arith}
-use lib.Dec.{ltb}
+use lib.Dec.{eqb, ltb, eqb-suc-zero}
 use lib.Seq.{set-get_or}
-use lib.ListN.{length, set, take}
+use lib.ListN.{length, set}
 use borrow.Author.Tests.{lt-ltb, le-ltb, ltb-true, ltb-false}
 use Rattle.bits.specs.declared.UnackedBits.{UnackedBits}
 use Rattle.bits.specs.Bits.{fresh_unacked_bits, and_into, bits_empty}
@@ -95,17 +94,11 @@ module _ (m : declared.Mark) (batch : ℕ) (incoming : List ℕ) where
   unfolding mark_of ack_mark ack_entry
   part h e = rw (lt-ltb 1 batch h, e)
 
--- no words are taken
-pub no_words : (n : ℕ) (l : List ℕ) → n ≡ 0 → is_empty (take n l) ≡ true
+-- whether words are none is told by their number
+pub none_told : (l : List ℕ) → eqb (length l) 0 ≡ is_empty l
 unfolding is_empty
-no_words n l e = rw e
-
--- some words are
-pub some_words : (n : ℕ) (l : List ℕ) → 0 < n → n ≤ length l → is_empty (take n l) ≡ false
-unfolding is_empty
-some_words zero l h k = absurd (not-suc-le-zero h)
-some_words (suc n) [] h k = absurd (not-suc-le-zero k)
-some_words (suc n) (a ∷ l) h k = refl
+none_told [] = refl
+none_told (a ∷ l) = eqb-suc-zero (length l)
 
 -- ---- one id
 

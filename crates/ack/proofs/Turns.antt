@@ -20,8 +20,6 @@ use Rattle.layout.specs.Placed.{DispatcherIn}
 use Rattle.layout.proofs.Store.{canon_entries, put_decode}
 use Rattle.layout.proofs.Placed.{shaped_set_dispatcher}
 use Rattle.operation_laws.proofs.Frame.{decode_after, dispatcher_twice, dispatcher_set_in, dispatcher_now_is}
-use Rattle.groups.specs.Walk.{Stands, group_at, groups_from, end_at}
-use Rattle.groups.proofs.Walks.{Turn, stands_end}
 use Rattle.dispatcher.specs.Completion.{Marked}
 use Rattle.ack.specs.Ackable.{Ackable}
 use Rattle.ack.proofs.Counts.{count_after}
@@ -92,31 +90,29 @@ kept_marked k h = record { each_has_mark = rw (k.same_flight, k.same_marks) h.ea
 -- ---- the loop
 
 -- the words us are ws with another dispatcher d, and that with what is ahead is the whole
-pub record Acking (ws us : List ℕ) (d topic : ℕ) (list : List ℕ) (at : ℕ) : Type 0 where
-  pub stands : Stands list at
+pub record Acking (ws us : List ℕ) (d topic : ℕ) (all ahead : List Group) : Type 0 where
   pub kept : Kept (dispatcher_nth (decode ws) d) (dispatcher_nth (decode us) d)
   pub written : us ≡ put ws (set_dispatcher (decode ws) d (dispatcher_nth (decode us) d))
-  pub whole : ack_groups (ledger_of (decode ws) topic) (dispatcher_nth (decode us) d) (groups_from list at)
-      ≡ ack_groups (ledger_of (decode ws) topic) (dispatcher_nth (decode ws) d) (groups_from list 0)
+  pub whole : ack_groups (ledger_of (decode ws) topic) (dispatcher_nth (decode us) d) ahead
+      ≡ ack_groups (ledger_of (decode ws) topic) (dispatcher_nth (decode ws) d) all
 
 -- at the start
-pub acking_start : {e : ℕ} {ws : List ℕ} (d topic : ℕ) (list : List ℕ) → DispatcherIn e ws d → Stands list 0 → Acking ws ws d topic list 0
+pub acking_start : {e : ℕ} {ws : List ℕ} (d topic : ℕ) (all : List Group) → DispatcherIn e ws d → Acking ws ws d topic all all
 unfolding set_dispatcher with_dispatchers
-acking_start {e} {ws} d topic list h s =
+acking_start {e} {ws} d topic all h =
     record {
-      stands = s;
       kept = kept_all (dispatcher_nth (decode ws) d);
       written = rw (set-get_or (decode ws).dispatchers d zero_dispatcher) (sym (put_decode h.canon));
       whole = refl;
     }
 
-module _ {e : ℕ} {ws us : List ℕ} (d topic : ℕ) (list : List ℕ) (at : ℕ) (h : Ackable e ws d topic) (j : Acking ws us d topic list at)
-    (b : length (ack_groups (ledger_of (decode ws) topic) (dispatcher_nth (decode ws) d) (groups_from list 0)).outside ≤ 64) where
+module _ {e : ℕ} {ws us : List ℕ} (d topic : ℕ) (all gs : List Group) (h : Ackable e ws d topic) (j : Acking ws us d topic all gs)
+    (b : length (ack_groups (ledger_of (decode ws) topic) (dispatcher_nth (decode ws) d) all).outside ≤ 64) where
   -- the outside ids so far fit
   few : length (dispatcher_nth (decode us) d).outside ≤ 64
   few =
       let q = ap (λ (x : Dispatcher). length x.outside) j.whole in
-      let n = count_after (ledger_of (decode ws) topic) (dispatcher_nth (decode us) d) (groups_from list at) in omega arith
+      let n = count_after (ledger_of (decode ws) topic) (dispatcher_nth (decode us) d) gs in omega arith
 
   -- so the dispatcher fits
   now_fits : ShapedDispatcher (decode ws).entries (dispatcher_nth (decode us) d)
@@ -141,38 +137,37 @@ module _ {e : ℕ} {ws us : List ℕ} (d topic : ℕ) (list : List ℕ) (at : �
       }
 
   -- at the end
-  pub acking_end : length list ≤ at → us ≡ put ws (set_dispatcher (decode ws) d (ack_groups (ledger_of (decode ws) topic) (dispatcher_nth (decode ws) d) (groups_from list 0)))
+  pub acking_end : gs ≡ [] → us ≡ put ws (set_dispatcher (decode ws) d (ack_groups (ledger_of (decode ws) topic) (dispatcher_nth (decode ws) d) all))
   unfolding ack_groups
   acking_end l =
-      let w : ack_groups (ledger_of (decode ws) topic) (dispatcher_nth (decode us) d) [] ≡ ack_groups (ledger_of (decode ws) topic) (dispatcher_nth (decode ws) d) (groups_from list 0) =
-      ap (λ (gs : List Group). ack_groups (ledger_of (decode ws) topic) (dispatcher_nth (decode us) d) gs) (sym (stands_end list at l)) ∙ j.whole in
+      let w : ack_groups (ledger_of (decode ws) topic) (dispatcher_nth (decode us) d) [] ≡ ack_groups (ledger_of (decode ws) topic) (dispatcher_nth (decode ws) d) all =
+      ap (λ (gs : List Group). ack_groups (ledger_of (decode ws) topic) (dispatcher_nth (decode us) d) gs) (sym l) ∙ j.whole in
       j.written ∙ ap (λ (x : Dispatcher). put ws (set_dispatcher (decode ws) d x)) w
 
-  module _ (k : Turn list at) where
+  module _ (g : Group) (rest : List Group) (k : gs ≡ g ∷ rest) where
     -- the whole from the next group on
-    ahead : ack_groups (ledger_of (decode ws) topic) (ack_id (ledger_of (decode ws) topic) (dispatcher_nth (decode us) d) (group_at list at).id (group_at list at).words) (groups_from list (end_at list at))
-        ≡ ack_groups (ledger_of (decode ws) topic) (dispatcher_nth (decode ws) d) (groups_from list 0)
+    ahead : ack_groups (ledger_of (decode ws) topic) (ack_id (ledger_of (decode ws) topic) (dispatcher_nth (decode us) d) g.id g.words) rest
+        ≡ ack_groups (ledger_of (decode ws) topic) (dispatcher_nth (decode ws) d) all
     unfolding ack_groups
-    ahead = ap (λ (gs : List Group). ack_groups (ledger_of (decode ws) topic) (dispatcher_nth (decode us) d) gs) (sym k.here) ∙ j.whole
+    ahead = ap (λ (gs : List Group). ack_groups (ledger_of (decode ws) topic) (dispatcher_nth (decode us) d) gs) (sym k) ∙ j.whole
 
     -- there is room for what this group adds
-    room : length (ack_id (ledger_of (decode ws) topic) (dispatcher_nth (decode us) d) (group_at list at).id (group_at list at).words).outside ≤ 64
+    room : length (ack_id (ledger_of (decode ws) topic) (dispatcher_nth (decode us) d) g.id g.words).outside ≤ 64
     room =
         let q = ap (λ (x : Dispatcher). length x.outside) ahead in
-        let n = count_after (ledger_of (decode ws) topic) (ack_id (ledger_of (decode ws) topic) (dispatcher_nth (decode us) d) (group_at list at).id (group_at list at).words) (groups_from list (end_at list at)) in
+        let n = count_after (ledger_of (decode ws) topic) (ack_id (ledger_of (decode ws) topic) (dispatcher_nth (decode us) d) g.id g.words) rest in
         omega arith
 
     -- in the words as they are
-    pub acking_room : length (ack_id (ledger_of (decode us) topic) (dispatcher_nth (decode us) d) (group_at list at).id (group_at list at).words).outside ≤ 64
-    acking_room = subst (λ (m : List StoredMessage). length (ack_id m (dispatcher_nth (decode us) d) (group_at list at).id (group_at list at).words).outside ≤ 64) (sym same_ledger) room
+    pub acking_room : length (ack_id (ledger_of (decode us) topic) (dispatcher_nth (decode us) d) g.id g.words).outside ≤ 64
+    acking_room = subst (λ (m : List StoredMessage). length (ack_id m (dispatcher_nth (decode us) d) g.id g.words).outside ≤ 64) (sym same_ledger) room
 
     -- a turn
     pub acking_turn : {vs : List ℕ}
-        → vs ≡ put us (set_dispatcher (decode us) d (ack_id (ledger_of (decode us) topic) (dispatcher_nth (decode us) d) (group_at list at).id (group_at list at).words))
-        → Acking ws vs d topic list (end_at list at)
+        → vs ≡ put us (set_dispatcher (decode us) d (ack_id (ledger_of (decode us) topic) (dispatcher_nth (decode us) d) g.id g.words))
+        → Acking ws vs d topic all rest
     acking_turn {vs} f =
         let l : List StoredMessage = ledger_of (decode ws) topic in
-        let g : Group = group_at list at in
         let x : Dispatcher = dispatcher_nth (decode us) d in
         let f' : vs ≡ put us (set_dispatcher (decode us) d (ack_id l x g.id g.words)) =
         f ∙ ap (λ (m : List StoredMessage). put us (set_dispatcher (decode us) d (ack_id m x g.id g.words))) same_ledger in
@@ -182,8 +177,7 @@ module _ {e : ℕ} {ws us : List ℕ} (d topic : ℕ) (list : List ℕ) (at : �
         let n : dispatcher_nth (decode vs) d ≡ ack_id l x g.id g.words =
         dispatcher_now_is ws (decode ws) d (ack_id l x g.id g.words) h.within.canon.shaped fits w h.within.there in
         record {
-          stands = k.next;
           kept = subst (λ (y : Dispatcher). Kept (dispatcher_nth (decode ws) d) y) (sym n) (kept_then j.kept (kept_id l x g.id g.words));
           written = w ∙ ap (λ (y : Dispatcher). put ws (set_dispatcher (decode ws) d y)) (sym n);
-          whole = ap (λ (y : Dispatcher). ack_groups l y (groups_from list (end_at list at))) n ∙ ahead;
+          whole = ap (λ (y : Dispatcher). ack_groups l y rest) n ∙ ahead;
         }

@@ -3,11 +3,11 @@ use Rattle.std.specs.Prelude.{ℕ, ◌≤◌, ◌≡◌, cond, List, length}
 use Rattle.rules.specs.State.{Id, Dispatcher, ledger_of}
 use Rattle.rules.specs.Ledger.{insert_id}
 use Rattle.rules.specs.Dispatcher.{is_outside}
+use Rattle.rules.specs.Groups.{Group}
 use Rattle.rules.specs.Commands.{ack_groups}
 use Rattle.layout.specs.Layout.{decode}
 use Rattle.layout.specs.Fields.{dispatcher_nth, dispatcher_now}
 use Rattle.layout.specs.Placed.{DispatcherIn}
-use Rattle.groups.specs.Walk.{groups_from}
 
 -- groups may be acknowledged by dispatcher d over the ledger of a topic
 pub record Ackable (e : ℕ) (ws : List ℕ) (d topic : ℕ) : Type 0 where
@@ -18,7 +18,6 @@ pub record Ackable (e : ℕ) (ws : List ℕ) (d topic : ℕ) : Type 0 where
 abbrev pub outside_with : Id → Dispatcher → List Id
 outside_with i x = cond (is_outside i x) x.outside (insert_id i x.outside)
 
--- the groups of a list leave dispatcher d at most 64 acknowledged ids outside the ledger of a topic
-abbrev pub OutsideFits : List ℕ → ℕ → ℕ → List ℕ → Type 0
-OutsideFits ws d topic list =
-    length (ack_groups (ledger_of (decode ws) topic) (dispatcher_now ws d) (groups_from list 0)).outside ≤ 64
+-- groups leave dispatcher d at most 64 acknowledged ids outside the ledger of a topic
+abbrev pub OutsideFits : List ℕ → ℕ → ℕ → List Group → Type 0
+OutsideFits ws d topic gs = length (ack_groups (ledger_of (decode ws) topic) (dispatcher_now ws d) gs).outside ≤ 64

@@ -11,7 +11,7 @@ ghost use Rattle.layout.specs.Layout.{decode};
 ghost use Rattle.layout.specs.Canon.{CanonStore};
 ghost use Rattle.layout.specs.Fields.{dispatcher_now, dispatcher_changed};
 ghost use Rattle.layout.specs.Placed.{DispatcherIn};
-ghost use Rattle.groups.specs.Walk.{Fits, Stands, group_at, groups_from};
+ghost use Rattle.groups.specs.Lent.{group_of, groups_in};
 ghost use Rattle.topic.specs.Ids.{id_of};
 ghost use Rattle.dispatcher.specs.Values.{mark_of};
 ghost use Rattle.ack.specs.Ackable.{Ackable, outside_with, OutsideFits};
@@ -20,10 +20,11 @@ use super::outside_ids::is_outside;
 use bits::UnackedBits;
 use dispatcher::marks::{Mark, load_mark, save_mark};
 use dispatcher::outside::insert_outside;
-use groups::walk::{and_group, group_end, group_words};
+use groups::group::Group;
+use groups::list::Groups;
 use topic::message::batch_size;
-use topic::position::position_here;
-use topic::table::{find_topic, ledger_length};
+use topic::position::position_in;
+use topic::table::find_topic;
 
 // The stored bits of an entry, fresh if none.
 fn bits_or_fresh(bits: UnackedBits, batch: u64) -> UnackedBits
@@ -52,19 +53,18 @@ fn acked_whole(mark: Mark) -> Mark
     }
 }
 
-// A mark with its bits and-ed with the words of the group at `at`; none left means complete.
-fn acked_in_part(mark: Mark, batch: u64, list: &[u64], at: usize) -> Mark
-    requires { Fits list.now at }
+// A mark with its bits and-ed with the words of a group; none left means complete.
+fn acked_in_part(mark: Mark, batch: u64, group: Group) -> Mark
     ensures { mark_of result ≡ record {
       acked = record {
-        complete = mark.complete || bits_empty (bits_left batch (group_at list.now at).words mark.unacked);
-        unacked = four (bits_left batch (group_at list.now at).words mark.unacked);
+        complete = mark.complete || bits_empty (bits_left batch (group_of group.entry).words mark.unacked);
+        unacked = four (bits_left batch (group_of group.entry).words mark.unacked);
       };
       redelivery_count = mark.redelivery_count;
     } }
 {
     let bits = bits_or_fresh(mark.unacked, batch);
-    let left = and_group(bits, list, at);
+    let left = group.and(bits);
     Mark {
         complete: mark.complete || left.bits_empty(),
         redelivery_count: mark.redelivery_count,
@@ -72,18 +72,17 @@ fn acked_in_part(mark: Mark, batch: u64, list: &[u64], at: usize) -> Mark
     }
 }
 
-// A mark with its entry, of `batch` messages, acknowledged by the group at `at`.
-fn acked_mark(mark: Mark, batch: u64, list: &[u64], at: usize) -> Mark
-    requires { Fits list.now at }
-    ensures { mark_of result ≡ ack_mark batch (group_at list.now at).words (mark_of mark) }
+// A mark with its entry, of `batch` messages, acknowledged by a group.
+fn acked_mark(mark: Mark, batch: u64, group: Group) -> Mark
+    ensures { mark_of result ≡ ack_mark batch (group_of group.entry).words (mark_of mark) }
 {
     if batch <= 1 {
         return acked_whole(mark);
     }
-    if group_words(list, at) == 0 {
+    if group.words.is_empty() {
         return acked_whole(mark);
     }
-    acked_in_part(mark, batch, list, at)
+    acked_in_part(mark, batch, group)
 }
 
 // The batch size of message `k` of a topic.
@@ -95,16 +94,16 @@ fn batch_size_of(store: &[u64], e: usize, topic: u64, k: usize) -> u64
     batch_size(store, e, t, k)
 }
 
-// Dispatcher `d` acknowledges entry `k` of a topic by the group at `at`.
-fn ack_entry(store: &mut [u64], e: usize, d: usize, topic: u64, k: usize, list: &[u64], at: usize)
-    requires { Ackable e store.old d topic × (k < length (ledger_of (decode store.old) topic)) × Fits list.now at }
+// Dispatcher `d` acknowledges entry `k` of a topic by a group.
+fn ack_entry(store: &mut [u64], e: usize, d: usize, topic: u64, k: usize, group: Group)
+    requires { Ackable e store.old d topic × (k < length (ledger_of (decode store.old) topic)) }
     ensures { store.new ≡ dispatcher_changed store.old d (λ x. with_marks x (set x.marks k
-        (ack_mark (message_at (ledger_of (decode store.old) topic) k).batch_size (group_at list.now at).words (mark_at x k)))
+        (ack_mark (message_at (ledger_of (decode store.old) topic) k).batch_size (group_of group.entry).words (mark_at x k)))
         x.outside) }
 {
     let batch = batch_size_of(store, e, topic, k);
     let mark = load_mark(store, e, d, k);
-    let acked = acked_mark(mark, batch, list, at);
+    let acked = acked_mark(mark, batch, group);
     save_mark(store, e, d, k, acked);
 }
 
@@ -120,31 +119,28 @@ fn ack_outside(store: &mut [u64], e: usize, d: usize, ledger: u64, entry: u64)
     }
 }
 
-// Dispatcher `d` acknowledges the id of the group at `at`.
-fn ack_here(store: &mut [u64], e: usize, d: usize, topic: u64, list: &[u64], at: usize)
-    requires { Ackable e store.old d topic × Fits list.now at
-        × (length (ack_id (ledger_of (decode store.old) topic) (dispatcher_now store.old d) (group_at list.now at).id
-        (group_at list.now at).words).outside ≤ 64) }
+// Dispatcher `d` acknowledges the id of a group.
+fn ack_here(store: &mut [u64], e: usize, d: usize, topic: u64, group: Group)
+    requires { Ackable e store.old d topic
+        × (length (ack_id (ledger_of (decode store.old) topic) (dispatcher_now store.old d) (group_of group).id
+        (group_of group).words).outside ≤ 64) }
     ensures { store.new ≡ dispatcher_changed store.old d
-        (λ x. ack_id (ledger_of (decode store.old) topic) x (group_at list.now at).id (group_at list.now at).words) }
+        (λ x. ack_id (ledger_of (decode store.old) topic) x (group_of group.entry).id (group_of group.entry).words) }
 {
-    let k = position_here(store, e, topic, list, at);
-    if k < ledger_length(store, e, topic) {
-        ack_entry(store, e, d, topic, k, list, at);
+    if let Some(k) = position_in(store, e, topic, group) {
+        ack_entry(store, e, d, topic, k, group);
     } else {
-        ack_outside(store, e, d, list[at], list[at + 1]);
+        ack_outside(store, e, d, group.ledger, group.entry);
     }
 }
 
-// Dispatcher `d` acknowledges the ids of a list, in order.
-pub(crate) fn ack_all(store: &mut [u64], e: usize, d: usize, topic: u64, list: &[u64])
-    requires { Ackable e store.old d topic × Stands list.now 0 × OutsideFits store.old d topic list.now }
+// Dispatcher `d` acknowledges the ids of groups, in order.
+pub(crate) fn ack_all(store: &mut [u64], e: usize, d: usize, topic: u64, groups: Groups)
+    requires { Ackable e store.old d topic × OutsideFits store.old d topic (groups_in groups) }
     ensures { store.new ≡ dispatcher_changed store.old d
-        (λ x. ack_groups (ledger_of (decode store.old) topic) x (groups_from list.now 0)) }
+        (λ x. ack_groups (ledger_of (decode store.old) topic) x (groups_in groups.entry)) }
 {
-    let mut at = 0;
-    while at < list.len() {
-        ack_here(store, e, d, topic, list, at);
-        at = group_end(list, at);
+    for group in groups {
+        ack_here(store, e, d, topic, group);
     }
 }

@@ -16,7 +16,7 @@ ghost use Rattle.layout.specs.Layout.{decode, spells};
 ghost use Rattle.layout.specs.Calls.{answer, after};
 ghost use Rattle.layout.specs.Fields.{consumer_now, dispatcher_now, dispatcher_changed};
 ghost use Rattle.refusal.specs.Words.{word_of};
-ghost use Rattle.groups.specs.Walk.{Stands, groups_from};
+ghost use Rattle.groups.specs.Lent.{groups_in};
 ghost use Rattle.dispatcher.specs.Completion.{Marked};
 ghost use Rattle.consumer.specs.Live.{Live};
 ghost use Rattle.ack.specs.Ackable.{Ackable, OutsideFits};
@@ -26,7 +26,7 @@ use consumer::fields::{dispatcher_of, is_shared, topic};
 use consumer::lookup::{Lookup, find_consumer};
 use dispatcher::completion::{advance_mark_delete, drop_complete};
 use dispatcher::numbers::mark_delete;
-use groups::form::list_right;
+use groups::list::Groups;
 use outside_ids::passes_64;
 use refusal::{Answer, Refusal};
 use store::answers::entries;
@@ -42,50 +42,49 @@ pub fn ack(store: &mut [u64], consumer: u64, list: &[u64]) -> Answer
     let Lookup::Live(i) = find_consumer(store, e, consumer) else {
         return Err(Refusal::NotLive);
     };
-    if !list_right(list) {
+    let Some(groups) = Groups::of(list) else {
         return Err(Refusal::BadList);
-    }
-    ack_live(store, e, i, consumer, list)
+    };
+    ack_live(store, e, i, consumer, groups)
 }
 
 // An ack of the live consumer `i`.
-fn ack_live(store: &mut [u64], e: usize, i: usize, consumer: u64, list: &[u64]) -> Answer
-    requires { Live e store.old i × ((consumer_now store.old i).id ≡ consumer) × Stands list.now 0 }
-    ensures answer { word_of result ≡ answer store.old (Ack consumer list.now) }
-    ensures words { store.new ≡ after store.old (Ack consumer list.now) }
+fn ack_live(store: &mut [u64], e: usize, i: usize, consumer: u64, groups: Groups) -> Answer
+    requires { Live e store.old i × ((consumer_now store.old i).id ≡ consumer) }
+    ensures answer { word_of result ≡ answer store.old (Ack consumer groups.entry.list.now) }
+    ensures words { store.new ≡ after store.old (Ack consumer groups.entry.list.now) }
 {
     if is_shared(store, e, i) {
-        return ack_shared(store, e, i, consumer, list);
+        return ack_shared(store, e, i, consumer, groups);
     }
     Ok(0)
 }
 
 // An ack of the live shared consumer `i`.
-fn ack_shared(store: &mut [u64], e: usize, i: usize, consumer: u64, list: &[u64]) -> Answer
-    requires { Live e store.old i × ((consumer_now store.old i).id ≡ consumer) × Stands list.now 0
-        × ((consumer_now store.old i).kind ≡ shared) }
-    ensures answer { word_of result ≡ answer store.old (Ack consumer list.now) }
-    ensures words { store.new ≡ after store.old (Ack consumer list.now) }
+fn ack_shared(store: &mut [u64], e: usize, i: usize, consumer: u64, groups: Groups) -> Answer
+    requires { Live e store.old i × ((consumer_now store.old i).id ≡ consumer) × ((consumer_now store.old i).kind ≡ shared) }
+    ensures answer { word_of result ≡ answer store.old (Ack consumer groups.entry.list.now) }
+    ensures words { store.new ≡ after store.old (Ack consumer groups.entry.list.now) }
 {
     let d = dispatcher_of(store, e, i);
     let number = topic(store, e, i);
-    if passes_64(store, e, d, number, list) {
+    if passes_64(store, e, d, number, groups) {
         return Err(Refusal::IdsFull);
     }
     let from = mark_delete(store, e, d);
-    complete(store, e, d, consumer, number, list);
+    complete(store, e, d, consumer, number, groups);
     Ok(moved(from, mark_delete(store, e, d)))
 }
 
 // Dispatcher `d` acknowledges the ids of a list, `consumer` drops its complete entries, and
 // mark-delete advances.
-fn complete(store: &mut [u64], e: usize, d: usize, consumer: u64, topic: u64, list: &[u64])
-    requires { Ackable e store.old d topic × Stands list.now 0 × OutsideFits store.old d topic list.now
+fn complete(store: &mut [u64], e: usize, d: usize, consumer: u64, topic: u64, groups: Groups)
+    requires { Ackable e store.old d topic × OutsideFits store.old d topic (groups_in groups)
         × Marked (dispatcher_now store.old d) }
     ensures { store.new ≡ dispatcher_changed store.old d (λ x. advance_mark_delete (drop_complete consumer
-        (ack_groups (ledger_of (decode store.old) topic) x (groups_from list.now 0)))) }
+        (ack_groups (ledger_of (decode store.old) topic) x (groups_in groups.entry)))) }
 {
-    ack_all(store, e, d, topic, list);
+    ack_all(store, e, d, topic, groups);
     drop_complete(store, e, d, consumer);
     advance_mark_delete(store, e, d);
 }

@@ -9,24 +9,22 @@ ghost use Rattle.layout.specs.Layout.{decode};
 ghost use Rattle.layout.specs.Canon.{CanonStore};
 ghost use Rattle.layout.specs.Fields.{dispatcher_now};
 ghost use Rattle.layout.specs.Placed.{DispatcherIn};
-ghost use Rattle.groups.specs.Walk.{Fits, Stands, group_at, groups_from, end_at};
+ghost use Rattle.groups.specs.Lent.{group_of, groups_in};
 ghost use Rattle.topic.specs.Ids.{id_of};
 ghost use Rattle.ack.specs.NewIds.{named, new_bit, new_count};
 
 use dispatcher::outside::{find_outside, outside_count};
-use groups::walk::group_end;
+use groups::group::Group;
+use groups::list::Groups;
 use store::limits::MOST_OUTSIDE;
-use topic::find::same_id;
-use topic::position::position_here;
-use topic::table::ledger_length;
+use topic::position::position_in;
 
-// Whether the id of the group at `at` is in the ledger of a topic.
-fn in_ledger(store: &[u64], e: usize, topic: u64, list: &[u64], at: usize) -> bool
-    requires { CanonStore e store.now × Fits list.now at }
-    ensures { result ≡ holds_id (group_at list.now at).id (ledger_of (decode store.now) topic) }
+// Whether the id of a group is in the ledger of a topic.
+fn in_ledger(store: &[u64], e: usize, topic: u64, group: Group) -> bool
+    requires { CanonStore e store.now }
+    ensures { result ≡ holds_id (group_of group.entry).id (ledger_of (decode store.now) topic) }
 {
-    let k = position_here(store, e, topic, list, at);
-    k < ledger_length(store, e, topic)
+    position_in(store, e, topic, group).is_some()
 }
 
 // Whether an id is among the outside ids of dispatcher `d`.
@@ -38,61 +36,56 @@ pub(crate) fn is_outside(store: &[u64], e: usize, d: usize, ledger: u64, entry: 
     j < outside_count(store, e, d)
 }
 
-// Whether some group from `from` on has an id.
-fn named_from(list: &[u64], from: usize, ledger: u64, entry: u64) -> bool
-    requires { Stands list.now from }
-    ensures { result ≡ named (id_of ledger entry) (groups_from list.now from) }
+// Whether some group of those that are left has the id of `group`.
+fn names(left: Groups, group: Group) -> bool
+    ensures { result ≡ named (group_of group.entry).id (groups_in left.entry) }
 {
-    let mut at = from;
-    while at < list.len() {
-        if same_id(list, at, ledger, entry) {
+    for later in left {
+        if group.same_id(later) {
             return true;
         }
-        at = group_end(list, at);
     }
     false
 }
 
-// 1 if the group at `at` counts, else 0.
-fn new_here(store: &[u64], e: usize, d: usize, topic: u64, list: &[u64], at: usize) -> usize
-    requires { DispatcherIn e store.now d × Fits list.now at × Stands list.now (end_at list.now at) }
+// 1 if a group counts with those that are left after it, else 0.
+fn new_here(store: &[u64], e: usize, d: usize, topic: u64, group: Group, left: Groups) -> usize
+    requires { DispatcherIn e store.now d }
     ensures { result ≡ new_bit (ledger_of (decode store.now) topic) (dispatcher_now store.now d).outside
-        (group_at list.now at) (groups_from list.now (end_at list.now at)) }
+        (group_of group.entry) (groups_in left.entry) }
 {
-    if in_ledger(store, e, topic, list, at) {
+    if in_ledger(store, e, topic, group) {
         return 0;
     }
-    if is_outside(store, e, d, list[at], list[at + 1]) {
+    if is_outside(store, e, d, group.ledger, group.entry) {
         return 0;
     }
-    let next = group_end(list, at);
-    if named_from(list, next, list[at], list[at + 1]) {
+    if names(left, group) {
         return 0;
     }
     1
 }
 
-// How many groups of a list count.
-fn new_ids(store: &[u64], e: usize, d: usize, topic: u64, list: &[u64]) -> usize
-    requires { DispatcherIn e store.now d × Stands list.now 0 }
+// How many groups count.
+fn new_ids(store: &[u64], e: usize, d: usize, topic: u64, groups: Groups) -> usize
+    requires { DispatcherIn e store.now d }
     ensures { result ≡ new_count (ledger_of (decode store.now) topic) (dispatcher_now store.now d).outside
-        (groups_from list.now 0) }
+        (groups_in groups.entry) }
 {
-    let mut at = 0;
+    let mut left = groups;
     let mut count = 0;
-    while at < list.len() {
-        count += new_here(store, e, d, topic, list, at);
-        at = group_end(list, at);
+    while let Some(group) = left.next() {
+        count += new_here(store, e, d, topic, group, left);
     }
     count
 }
 
-// Whether more than 64 ids would stand outside the ledger after an ack of a list.
-pub(crate) fn passes_64(store: &[u64], e: usize, d: usize, topic: u64, list: &[u64]) -> bool
-    requires { DispatcherIn e store.now d × Stands list.now 0 }
+// Whether more than 64 ids would stand outside the ledger after an ack of groups.
+pub(crate) fn passes_64(store: &[u64], e: usize, d: usize, topic: u64, groups: Groups) -> bool
+    requires { DispatcherIn e store.now d }
     ensures { result ≡ ltb 64 (length (ack_groups (ledger_of (decode store.now) topic) (dispatcher_now store.now d)
-        (groups_from list.now 0)).outside) }
+        (groups_in groups.entry)).outside) }
 {
     let n = outside_count(store, e, d);
-    MOST_OUTSIDE < n + new_ids(store, e, d, topic, list)
+    MOST_OUTSIDE < n + new_ids(store, e, d, topic, groups)
 }

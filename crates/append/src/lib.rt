@@ -60,11 +60,10 @@ fn admit(store: &[u64], e: usize, t: usize, ledger: u64, entry: u64) -> Result<(
             Ok(())
         };
     }
-    let n = message_count(store, e, t);
-    if position_of(store, e, t, ledger, entry) < n {
+    if position_of(store, e, t, ledger, entry).is_some() {
         return Err(Refusal::IdTaken);
     }
-    if e <= n {
+    if e <= message_count(store, e, t) {
         Err(Refusal::EntriesFull)
     } else {
         Ok(())

@@ -1,2 +1,3 @@
--- What the code of this crate means. The rules have the groups of a list; here they are read by offset.
+-- What the code of this crate means. The rules have the groups of a list; here they are read one by one.
 pub mod Walk
+pub mod Lent

@@ -1,5 +1,6 @@
 -- The position of an id in the ledger of a topic, and the positions that a list of groups finds there, one group at a time.
-use mathlib.Core.Path.{◌≡◌}
+use mathlib.Core.Path.{◌≡◌, refl}
+use mathlib.Core.Bool.{true, false}
 use mathlib.Core.List.{List, [], ◌∷◌, ◌++◌}
 use Prim.Native.Nat.{ℕ, ◌+◌, ◌≤◌, ◌<◌}
 use native.Mathlib.Omega.{arith}
@@ -14,14 +15,23 @@ use Rattle.rules.proofs.Table.{by_test}
 
 module _ (ledger : List StoredMessage) (g : Group) where
   -- a group whose id is found
-  pub found_one : (k n : ℕ) → k ≡ position_of g.id ledger → n ≡ length ledger → k < n → found_positions ledger (g ∷ []) ≡ k ∷ []
+  pub found_one : (k : ℕ) → k ≡ position_of g.id ledger → k < length ledger → found_positions ledger (g ∷ []) ≡ k ∷ []
   unfolding found_positions holds_id
-  found_one k n p q h = rw (lt-ltb (position_of g.id ledger) (length ledger) (omega arith), ← p)
+  found_one k p h = rw (lt-ltb (position_of g.id ledger) (length ledger) (omega arith), ← p)
 
   -- a group whose id is not
-  pub found_none : (k n : ℕ) → k ≡ position_of g.id ledger → n ≡ length ledger → n ≤ k → found_positions ledger (g ∷ []) ≡ []
+  pub found_none : length ledger ≤ position_of g.id ledger → found_positions ledger (g ∷ []) ≡ []
   unfolding found_positions holds_id
-  found_none k n p q h = rw (le-ltb (position_of g.id ledger) (length ledger) (omega arith))
+  found_none h = rw (le-ltb (position_of g.id ledger) (length ledger) h)
+
+  -- counted, by whether it is
+  pub found_told : ltb (position_of g.id ledger) (length ledger) ≡ true → 1 ≡ length (found_positions ledger (g ∷ []))
+  unfolding found_positions holds_id
+  found_told t = rw t
+
+  pub found_not_told : ltb (position_of g.id ledger) (length ledger) ≡ false → 0 ≡ length (found_positions ledger (g ∷ []))
+  unfolding found_positions holds_id
+  found_not_told t = rw t
 
   -- the first group and the rest
   pub found_first : (gs : List Group) → found_positions ledger (g ∷ gs) ≡ found_positions ledger (g ∷ []) ++ found_positions ledger gs
@@ -32,6 +42,16 @@ module _ (ledger : List StoredMessage) (g : Group) where
   pub found_first_count : (gs : List Group) → length (found_positions ledger (g ∷ gs)) ≡ length (found_positions ledger (g ∷ [])) + length (found_positions ledger gs)
   unfolding found_positions holds_id
   found_first_count gs = by_test (ltb (position_of g.id ledger) (length ledger)) (λ t. rw t (omega arith)) (λ t. rw t (omega arith))
+
+-- the same of groups of which it is the first
+pub found_ahead : (ledger : List StoredMessage) (g : Group) (gs rest : List Group) → gs ≡ g ∷ rest
+    → length (found_positions ledger gs) ≡ length (found_positions ledger (g ∷ [])) + length (found_positions ledger rest)
+found_ahead ledger g gs rest e = rw e (found_first_count ledger g rest)
+
+-- nothing is found among no groups
+pub found_nothing : (ledger : List StoredMessage) → length (found_positions ledger []) ≡ 0
+unfolding found_positions
+found_nothing ledger = refl
 
 -- no more positions than groups are found
 pub found_few : (ledger : List StoredMessage) (gs : List Group) → length (found_positions ledger gs) ≤ length gs

@@ -17,8 +17,7 @@ use Rattle.layout.specs.Fields.{zero_dispatcher, dispatcher_nth, set_dispatcher}
 use Rattle.layout.specs.Placed.{DispatcherIn}
 use Rattle.layout.proofs.Store.{canon_entries, put_decode}
 use Rattle.layout.proofs.Placed.{shaped_places, shaped_set_dispatcher}
-use Rattle.groups.specs.Walk.{Stands, group_at, groups_from, end_at}
-use Rattle.groups.proofs.Walks.{Turn, stands_end}
+use Rattle.rules.specs.Groups.{Group}
 use Rattle.operation_laws.proofs.Frame.{decode_after, dispatcher_twice, dispatcher_set_in, dispatcher_now_is}
 use Rattle.redeliver.specs.Back.{handed}
 use Rattle.redeliver.proofs.Holds.{valid_fits}
@@ -102,80 +101,80 @@ stays {e} {ws} d x h q = rw (q, set-get_or (decode ws).dispatchers d zero_dispat
 
 -- some ids are handed back: the words us are ws with another dispatcher d, which is valid, and what is ahead of it comes to
 -- what the whole list does
-pub record Handing (e : ℕ) (ws us : List ℕ) (d topic i : ℕ) (list : List ℕ) (at : ℕ) : Type 0 where
-  pub stands : Stands list at
+pub record Handing (e : ℕ) (ws us : List ℕ) (d topic i : ℕ) (all ahead : List Group) : Type 0 where
   pub here : DispatcherIn e us d
   pub good : ValidDispatcher (decode us) (dispatcher_nth (decode us) d)
+  pub of_topic : (dispatcher_nth (decode us) d).pair.topic ≡ topic
   pub ledger : ledger_of (decode us) topic ≡ ledger_of (decode ws) topic
   pub words : us ≡ put ws (set_dispatcher (decode ws) d (dispatcher_nth (decode us) d))
-  pub same : redeliver_groups (ledger_of (decode ws) topic) i (dispatcher_nth (decode us) d) (groups_from list at)
-      ≡ redeliver_groups (ledger_of (decode ws) topic) i (dispatcher_nth (decode ws) d) (groups_from list 0)
+  pub same : redeliver_groups (ledger_of (decode ws) topic) i (dispatcher_nth (decode us) d) ahead
+      ≡ redeliver_groups (ledger_of (decode ws) topic) i (dispatcher_nth (decode ws) d) all
 
-module _ {e : ℕ} {ws : List ℕ} (d topic i : ℕ) (list : List ℕ) (h : DispatcherIn e ws d) where
+module _ {e : ℕ} {ws : List ℕ} (d topic i : ℕ) (all : List Group) (h : DispatcherIn e ws d) where
   -- at the start
-  pub handing_start : Stands list 0 → ValidDispatcher (decode ws) (dispatcher_nth (decode ws) d) → Handing e ws ws d topic i list 0
-  handing_start s v = record { stands = s; here = h; good = v; ledger = refl; words = stays d (dispatcher_nth (decode ws) d) h refl; same = refl }
+  pub handing_start : ValidDispatcher (decode ws) (dispatcher_nth (decode ws) d) → (dispatcher_nth (decode ws) d).pair.topic ≡ topic
+      → Handing e ws ws d topic i all all
+  handing_start v t = record { here = h; good = v; of_topic = t; ledger = refl; words = stays d (dispatcher_nth (decode ws) d) h refl; same = refl }
 
-  module _ {us : List ℕ} (at : ℕ) (r : Handing e ws us d topic i list at) where
+  module _ {us : List ℕ} (gs : List Group) (r : Handing e ws us d topic i all gs) where
     -- at the end
-    pub handing_end : length list ≤ at → us ≡ put ws (set_dispatcher (decode ws) d (redeliver_groups (ledger_of (decode ws) topic) i (dispatcher_nth (decode ws) d) (groups_from list 0)))
+    pub handing_end : gs ≡ [] → us ≡ put ws (set_dispatcher (decode ws) d (redeliver_groups (ledger_of (decode ws) topic) i (dispatcher_nth (decode ws) d) all))
     unfolding redeliver_groups
     handing_end l =
-        let n : redeliver_groups (ledger_of (decode ws) topic) i (dispatcher_nth (decode us) d) (groups_from list at) ≡ dispatcher_nth (decode us) d = rw (stands_end list at l) in
+        let n : redeliver_groups (ledger_of (decode ws) topic) i (dispatcher_nth (decode us) d) gs ≡ dispatcher_nth (decode us) d = rw l in
         r.words ∙ ap (λ (y : Dispatcher). put ws (set_dispatcher (decode ws) d y)) (sym n ∙ r.same)
 
     -- the dispatcher after a turn
-    abbrev turned : Dispatcher
-    turned = redeliver_id (ledger_of (decode us) topic) i (dispatcher_nth (decode us) d) (group_at list at).id
+    abbrev turned : Group → Dispatcher
+    turned g = redeliver_id (ledger_of (decode us) topic) i (dispatcher_nth (decode us) d) g.id
 
-    turned_valid : ValidDispatcher (decode us) turned
-    turned_valid = redeliver_id_valid (decode us) (ledger_of (decode us) topic) i (dispatcher_nth (decode us) d) (group_at list at).id r.good
+    turned_valid : (g : Group) → ValidDispatcher (decode us) (turned g)
+    turned_valid g = redeliver_id_valid (decode us) (ledger_of (decode us) topic) i (dispatcher_nth (decode us) d) g.id r.good
 
-    turned_fits : ShapedDispatcher (decode us).entries turned
-    turned_fits =
-        let p = ap (λ (x : Pair). length (ledger_of (decode us) x.topic)) (redeliver_id_pair (ledger_of (decode us) topic) i (dispatcher_nth (decode us) d) (group_at list at).id) in
+    turned_fits : (g : Group) → ShapedDispatcher (decode us).entries (turned g)
+    turned_fits g =
+        let p = ap (λ (x : Pair). length (ledger_of (decode us) x.topic)) (redeliver_id_pair (ledger_of (decode us) topic) i (dispatcher_nth (decode us) d) g.id) in
         let m = r.good.entry_marks.one_each in
         let f = r.here.lists_fit.marks_fit in
-        subst (λ (n : ℕ). ShapedDispatcher n turned) (sym (canon_entries r.here.canon)) (valid_fits e (decode us) turned turned_valid (omega (arith, p, m, f)))
+        subst (λ (n : ℕ). ShapedDispatcher n (turned g)) (sym (canon_entries r.here.canon)) (valid_fits e (decode us) (turned g) (turned_valid g) (omega (arith, p, m, f)))
 
-    module _ {vs : List ℕ} (w : vs ≡ put us (set_dispatcher (decode us) d turned)) where
+    module _ {vs : List ℕ} (g : Group) (w : vs ≡ put us (set_dispatcher (decode us) d (turned g))) where
       -- what the words decode to
-      now_turned : dispatcher_nth (decode vs) d ≡ turned
-      now_turned = dispatcher_now_is us (decode us) d turned r.here.canon.shaped turned_fits w r.here.there
+      now_turned : dispatcher_nth (decode vs) d ≡ turned g
+      now_turned = dispatcher_now_is us (decode us) d (turned g) r.here.canon.shaped (turned_fits g) w r.here.there
 
       same_ledger : (t : ℕ) → ledger_of (decode vs) t ≡ ledger_of (decode us) t
       unfolding ledger_of topic_of set_dispatcher with_dispatchers
-      same_ledger t = ap (λ (s : State). ledger_of s t) (decode_after us _ (shaped_set_dispatcher (decode us) r.here.canon.shaped d turned turned_fits) w)
+      same_ledger t = ap (λ (s : State). ledger_of s t) (decode_after us _ (shaped_set_dispatcher (decode us) r.here.canon.shaped d (turned g) (turned_fits g)) w)
 
       turn_words : vs ≡ put ws (set_dispatcher (decode ws) d (dispatcher_nth (decode vs) d))
       turn_words =
           let x = dispatcher_nth (decode us) d in
           let f : ShapedDispatcher (decode ws).entries x = rw (canon_entries h.canon) r.here.lists_fit in
-          dispatcher_twice ws (decode ws) d x (λ (y : Dispatcher). redeliver_id (ledger_of (decode us) topic) i y (group_at list at).id) h.canon.shaped f h.there r.words w
+          dispatcher_twice ws (decode ws) d x (λ (y : Dispatcher). redeliver_id (ledger_of (decode us) topic) i y g.id) h.canon.shaped f h.there r.words w
           ∙ ap (λ (y : Dispatcher). put ws (set_dispatcher (decode ws) d y)) (sym now_turned)
 
       turn_valid : ValidDispatcher (decode vs) (dispatcher_nth (decode vs) d)
-      turn_valid = rw now_turned (move_dispatcher (decode us) (decode vs) turned (same_ledger turned.pair.topic) turned_valid)
+      turn_valid = rw now_turned (move_dispatcher (decode us) (decode vs) (turned g) (same_ledger (turned g).pair.topic) (turned_valid g))
 
-      turn_same : Turn list at → redeliver_groups (ledger_of (decode ws) topic) i (dispatcher_nth (decode vs) d) (groups_from list (end_at list at))
-          ≡ redeliver_groups (ledger_of (decode ws) topic) i (dispatcher_nth (decode ws) d) (groups_from list 0)
+      turn_same : (rest : List Group) → gs ≡ g ∷ rest → redeliver_groups (ledger_of (decode ws) topic) i (dispatcher_nth (decode vs) d) rest
+          ≡ redeliver_groups (ledger_of (decode ws) topic) i (dispatcher_nth (decode ws) d) all
       unfolding redeliver_groups
-      turn_same k =
+      turn_same rest k =
           let x = dispatcher_nth (decode us) d in
-          let rest = groups_from list (end_at list at) in
           let l = ledger_of (decode ws) topic in
-          let n : dispatcher_nth (decode vs) d ≡ redeliver_id l i x (group_at list at).id = now_turned ∙ ap (λ (m : List StoredMessage). redeliver_id m i x (group_at list at).id) r.ledger in
-          let f : redeliver_groups l i x (groups_from list at) ≡ redeliver_groups l i (redeliver_id l i x (group_at list at).id) rest = rw k.here in
+          let n : dispatcher_nth (decode vs) d ≡ redeliver_id l i x g.id = now_turned ∙ ap (λ (m : List StoredMessage). redeliver_id m i x g.id) r.ledger in
+          let f : redeliver_groups l i x gs ≡ redeliver_groups l i (redeliver_id l i x g.id) rest = rw k in
           ap (λ (y : Dispatcher). redeliver_groups l i y rest) n ∙ sym f ∙ r.same
 
       -- a turn
-      pub handing_turn : Turn list at → Handing e ws vs d topic i list (end_at list at)
-      handing_turn k =
+      pub handing_turn : (rest : List Group) → gs ≡ g ∷ rest → Handing e ws vs d topic i all rest
+      handing_turn rest k =
           record {
-            stands = k.next;
-            here = dispatcher_set_in us (decode us) d turned r.here.canon.shaped (canon_entries r.here.canon) turned_fits w r.here.there;
+            here = dispatcher_set_in us (decode us) d (turned g) r.here.canon.shaped (canon_entries r.here.canon) (turned_fits g) w r.here.there;
             good = turn_valid;
+            of_topic = rw now_turned (ap (λ (x : Pair). x.topic) (redeliver_id_pair (ledger_of (decode us) topic) i (dispatcher_nth (decode us) d) g.id) ∙ r.of_topic);
             ledger = same_ledger topic ∙ r.ledger;
             words = turn_words;
-            same = turn_same k;
+            same = turn_same rest k;
           }

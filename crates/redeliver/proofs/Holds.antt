@@ -7,9 +7,9 @@ use Prim.Native.Nat.{ℕ, suc, ◌+◌, ◌≤◌, ◌<◌}
 use native.Mathlib.Nat.{le_of_suc-le-suc, not-suc-le-zero}
 use native.Mathlib.Numerals.{add-one}
 use native.Mathlib.Omega.{arith}
-use lib.Dec.{eqb}
+use lib.Dec.{eqb, ltb}
 use lib.ListN.{length, take, drop, length-append}
-use borrow.Author.Tests.{eq-eqb}
+use borrow.Author.Tests.{eq-eqb, ltb-true, ltb-false}
 use Rattle.rules.specs.Table.{any, keep, count}
 use Rattle.rules.specs.State.{Id, StoredMessage, Held, Dispatcher, State, ledger_of}
 use Rattle.rules.specs.Ledger.{position_of}
@@ -139,3 +139,18 @@ module _ (s : State) (i j k : ℕ) (d : Dispatcher) (v : ValidDispatcher s d) (q
     pub redeliver_none : length d.in_flight ≤ j → redeliver_id ledger i d m ≡ d
     unfolding redeliver_id
     redeliver_none h = rw (← p, hold_none i k d.in_flight (rw q at h))
+
+-- an id that is not in the ledger of the topic is not held
+pub redeliver_absent : (s : State) (i topic : ℕ) (d : Dispatcher) (m : Id) → ValidDispatcher s d → d.pair.topic ≡ topic
+    → length (ledger_of s topic) ≤ position_of m (ledger_of s topic) → redeliver_id (ledger_of s topic) i d m ≡ d
+redeliver_absent s i topic d m v t h =
+    let k = position_of m (ledger_of s topic) in
+    let l = ap (λ (n : ℕ). length (ledger_of s n)) t in
+    redeliver_none s i (slot by_hold (held_of i k) d.in_flight) k d v refl (ledger_of s topic) m refl
+    (by_test (ltb (slot by_hold (held_of i k) d.in_flight) (length d.in_flight))
+    (λ u.
+    let c = hold_counted i k d.in_flight (ltb-true _ _ u) in
+    let b : k < d.cursor = (places_of d v.places).below k (omega arith) in
+    let n = v.cursor_in_ledger in
+    absurd (omega (arith, b, n, l, h)))
+    (λ u. ltb-false _ _ u))

@@ -6,8 +6,7 @@ use native.Mathlib.Omega.{arith}
 use lib.ListN.{length, length-append}
 use lib.Seq.{set-get_or, get_or-set_same}
 use Rattle.rules.specs.State.{Consumer, State, StoredMessage, ledger_of, topic_of, with_consumers}
-use Rattle.groups.specs.Walk.{Stands, group_at, groups_from, end_at}
-use Rattle.groups.proofs.Walks.{Turn, stands_end}
+use Rattle.rules.specs.Groups.{Group}
 use Rattle.redeliver.proofs.Finds.{found_first, found_first_count}
 use Rattle.operation_laws.proofs.Frame.{decode_after, consumer_twice, consumer_still_in}
 use Rattle.layout.proofs.Placed.{shaped_set_consumer, shaped_reading}
@@ -26,28 +25,27 @@ joined_nothing {e} {ws} i h =
     rw (append-nil (consumer_nth (decode ws) i).nacked, set-get_or (decode ws).consumers i zero_consumer) (sym (put_decode h.canon))
 
 -- the words us are ws with other nacked positions of consumer i, and those with what is ahead are the whole
-pub record Joining (ws us : List ℕ) (i topic : ℕ) (list : List ℕ) (at : ℕ) : Type 0 where
-  pub stands : Stands list at
+pub record Joining (ws us : List ℕ) (i topic : ℕ) (all ahead : List Group) : Type 0 where
   pub written : us ≡ put ws (set_consumer (decode ws) i (with_reading (consumer_nth (decode ws) i) (consumer_nth (decode ws) i).cursor (consumer_nth (decode us) i).nacked))
-  pub whole : (consumer_nth (decode us) i).nacked ++ found_positions (ledger_of (decode ws) topic) (groups_from list at)
-      ≡ (consumer_nth (decode ws) i).nacked ++ found_positions (ledger_of (decode ws) topic) (groups_from list 0)
+  pub whole : (consumer_nth (decode us) i).nacked ++ found_positions (ledger_of (decode ws) topic) ahead
+      ≡ (consumer_nth (decode ws) i).nacked ++ found_positions (ledger_of (decode ws) topic) all
 
 -- at the start
-pub joining_start : {e : ℕ} {ws : List ℕ} (i topic : ℕ) (list : List ℕ) → ConsumerIn e ws i → Stands list 0 → Joining ws ws i topic list 0
+pub joining_start : {e : ℕ} {ws : List ℕ} (i topic : ℕ) (all : List Group) → ConsumerIn e ws i → Joining ws ws i topic all all
 unfolding with_reading set_consumer with_consumers
-joining_start {e} {ws} i topic list h s =
-    record { stands = s; written = rw (set-get_or (decode ws).consumers i zero_consumer) (sym (put_decode h.canon)); whole = refl }
+joining_start {e} {ws} i topic all h =
+    record { written = rw (set-get_or (decode ws).consumers i zero_consumer) (sym (put_decode h.canon)); whole = refl }
 
 -- E as the state has it
 entries_here : {e : ℕ} {ws : List ℕ} → CanonStore e ws → (decode ws).entries ≡ e
 unfolding decode entries_in
 entries_here h = h.E_in
 
-module _ {e : ℕ} {ws us : List ℕ} (i topic : ℕ) (list : List ℕ) (at : ℕ) (h : ConsumerIn e ws i) (j : Joining ws us i topic list at)
-    (b : length ((consumer_nth (decode ws) i).nacked ++ found_positions (ledger_of (decode ws) topic) (groups_from list 0)) ≤ 64) where
+module _ {e : ℕ} {ws us : List ℕ} (i topic : ℕ) (all gs : List Group) (h : ConsumerIn e ws i) (j : Joining ws us i topic all gs)
+    (b : length ((consumer_nth (decode ws) i).nacked ++ found_positions (ledger_of (decode ws) topic) all) ≤ 64) where
   -- the positions so far fit
-  fit : length (consumer_nth (decode us) i).nacked + length (found_positions (ledger_of (decode ws) topic) (groups_from list at)) ≤ 64
-  fit = let e = ap (λ (l : List ℕ). length l) j.whole in let f = length-append (consumer_nth (decode us) i).nacked (found_positions (ledger_of (decode ws) topic) (groups_from list at)) in omega arith
+  fit : length (consumer_nth (decode us) i).nacked + length (found_positions (ledger_of (decode ws) topic) gs) ≤ 64
+  fit = let e = ap (λ (l : List ℕ). length l) j.whole in let f = length-append (consumer_nth (decode us) i).nacked (found_positions (ledger_of (decode ws) topic) gs) in omega arith
 
   -- the state now
   state_now : decode us ≡ set_consumer (decode ws) i (with_reading (consumer_nth (decode ws) i) (consumer_nth (decode ws) i).cursor (consumer_nth (decode us) i).nacked)
@@ -63,36 +61,36 @@ module _ {e : ℕ} {ws us : List ℕ} (i topic : ℕ) (list : List ℕ) (at : �
   joining_in = let q = entries_here h.canon in consumer_still_in ws (decode ws) i _ h.canon.shaped q (shaped_reading (consumer_nth (decode ws) i) (consumer_nth (decode ws) i).cursor (consumer_nth (decode us) i).nacked (omega (arith, fit))) j.written h.there
 
   -- at the end
-  pub joining_end : length list ≤ at → us ≡ put ws (set_consumer (decode ws) i (with_reading (consumer_nth (decode ws) i) (consumer_nth (decode ws) i).cursor ((consumer_nth (decode ws) i).nacked ++ found_positions (ledger_of (decode ws) topic) (groups_from list 0))))
+  pub joining_end : gs ≡ [] → us ≡ put ws (set_consumer (decode ws) i (with_reading (consumer_nth (decode ws) i) (consumer_nth (decode ws) i).cursor ((consumer_nth (decode ws) i).nacked ++ found_positions (ledger_of (decode ws) topic) all)))
   unfolding found_positions
   joining_end l =
-      let n : found_positions (ledger_of (decode ws) topic) (groups_from list at) ≡ [] = rw (stands_end list at l) in
-      let w : (consumer_nth (decode us) i).nacked ≡ (consumer_nth (decode ws) i).nacked ++ found_positions (ledger_of (decode ws) topic) (groups_from list 0) = sym (append-nil (consumer_nth (decode us) i).nacked) ∙ ap (λ (m : List ℕ). (consumer_nth (decode us) i).nacked ++ m) (sym n) ∙ j.whole in
+      let n : found_positions (ledger_of (decode ws) topic) gs ≡ [] = rw l in
+      let w : (consumer_nth (decode us) i).nacked ≡ (consumer_nth (decode ws) i).nacked ++ found_positions (ledger_of (decode ws) topic) all = sym (append-nil (consumer_nth (decode us) i).nacked) ∙ ap (λ (m : List ℕ). (consumer_nth (decode us) i).nacked ++ m) (sym n) ∙ j.whole in
       j.written ∙ ap (λ (m : List ℕ). put ws (set_consumer (decode ws) i (with_reading (consumer_nth (decode ws) i) (consumer_nth (decode ws) i).cursor m))) w
 
   -- there is room for what this group finds
-  pub joining_room : Turn list at → length (consumer_nth (decode us) i).nacked + length (found_positions (ledger_of (decode us) topic) (group_at list at ∷ [])) ≤ 64
-  joining_room k =
-      let f : length (found_positions (ledger_of (decode ws) topic) (groups_from list at)) ≡ length (found_positions (ledger_of (decode ws) topic) (group_at list at ∷ [])) + length (found_positions (ledger_of (decode ws) topic) (groups_from list (end_at list at))) =
-      rw k.here (found_first_count (ledger_of (decode ws) topic) (group_at list at) (groups_from list (end_at list at))) in
-      let l = ap (λ (m : List StoredMessage). length (found_positions m (group_at list at ∷ []))) same_ledger in
+  pub joining_room : (g : Group) (rest : List Group) → gs ≡ g ∷ rest → length (consumer_nth (decode us) i).nacked + length (found_positions (ledger_of (decode us) topic) (g ∷ [])) ≤ 64
+  joining_room g rest k =
+      let f : length (found_positions (ledger_of (decode ws) topic) gs) ≡ length (found_positions (ledger_of (decode ws) topic) (g ∷ [])) + length (found_positions (ledger_of (decode ws) topic) rest) =
+      rw k (found_first_count (ledger_of (decode ws) topic) g rest) in
+      let l = ap (λ (m : List StoredMessage). length (found_positions m (g ∷ []))) same_ledger in
       let m = fit in omega arith
 
   -- a turn
-  pub joining_turn : {vs : List ℕ} → Turn list at
-      → vs ≡ put us (set_consumer (decode us) i (with_reading (consumer_nth (decode us) i) (consumer_nth (decode us) i).cursor ((consumer_nth (decode us) i).nacked ++ found_positions (ledger_of (decode us) topic) (group_at list at ∷ []))))
-      → Joining ws vs i topic list (end_at list at)
+  pub joining_turn : {vs : List ℕ} (p : Group) (rest : List Group) → gs ≡ p ∷ rest
+      → vs ≡ put us (set_consumer (decode us) i (with_reading (consumer_nth (decode us) i) (consumer_nth (decode us) i).cursor ((consumer_nth (decode us) i).nacked ++ found_positions (ledger_of (decode us) topic) (p ∷ []))))
+      → Joining ws vs i topic all rest
   unfolding with_reading set_consumer with_consumers
-  joining_turn {vs} k f =
+  joining_turn {vs} p rest k f =
       let x : List ℕ = (consumer_nth (decode us) i).nacked in
       let c : Consumer = consumer_nth (decode ws) i in
       let l : List StoredMessage = ledger_of (decode ws) topic in
-      let g : List ℕ = found_positions l (group_at list at ∷ []) in
-      let room = joining_room k in
-      let sl = ap (λ (m : List StoredMessage). length (found_positions m (group_at list at ∷ []))) same_ledger in
+      let g : List ℕ = found_positions l (p ∷ []) in
+      let room = joining_room p rest k in
+      let sl = ap (λ (m : List StoredMessage). length (found_positions m (p ∷ []))) same_ledger in
       let long = length-append x g in
       let f' : vs ≡ put us (set_consumer (decode us) i (with_reading (consumer_nth (decode us) i) (consumer_nth (decode us) i).cursor ((consumer_nth (decode us) i).nacked ++ g))) =
-      f ∙ ap (λ (m : List StoredMessage). put us (set_consumer (decode us) i (with_reading (consumer_nth (decode us) i) (consumer_nth (decode us) i).cursor ((consumer_nth (decode us) i).nacked ++ found_positions m (group_at list at ∷ []))))) same_ledger in
+      f ∙ ap (λ (m : List StoredMessage). put us (set_consumer (decode us) i (with_reading (consumer_nth (decode us) i) (consumer_nth (decode us) i).cursor ((consumer_nth (decode us) i).nacked ++ found_positions m (p ∷ []))))) same_ledger in
       let w : vs ≡ put ws (set_consumer (decode ws) i (with_reading c c.cursor (x ++ g))) =
       consumer_twice ws (decode ws) i (with_reading c c.cursor x) (λ (y : Consumer). with_reading y y.cursor (y.nacked ++ g)) h.canon.shaped
       (shaped_reading c c.cursor x (omega (arith, fit))) h.there j.written f' in
@@ -100,10 +98,9 @@ module _ {e : ℕ} {ws us : List ℕ} (i topic : ℕ) (list : List ℕ) (at : �
       ap (λ (t : State). (consumer_nth t i).nacked) (decode_after ws _ (shaped_set_consumer (decode ws) h.canon.shaped i _ (shaped_reading c c.cursor (x ++ g) (omega arith))) w)
       ∙ ap (λ (y : Consumer). y.nacked) (get_or-set_same (decode ws).consumers i (with_reading c c.cursor (x ++ g)) zero_consumer h.there) in
       record {
-        stands = k.next;
         written = w ∙ ap (λ (m : List ℕ). put ws (set_consumer (decode ws) i (with_reading c c.cursor m))) (sym n);
-        whole = ap (λ (m : List ℕ). m ++ found_positions l (groups_from list (end_at list at))) n
-            ∙ append_assoc x g (found_positions l (groups_from list (end_at list at)))
-            ∙ ap (λ (m : List ℕ). x ++ m) (sym (found_first l (group_at list at) (groups_from list (end_at list at))) ∙ ap (found_positions l) (sym k.here))
+        whole = ap (λ (m : List ℕ). m ++ found_positions l rest) n
+            ∙ append_assoc x g (found_positions l rest)
+            ∙ ap (λ (m : List ℕ). x ++ m) (sym (found_first l p rest) ∙ ap (found_positions l) (sym k))
             ∙ j.whole;
       }

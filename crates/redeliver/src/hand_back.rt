@@ -7,14 +7,15 @@ ghost use Rattle.rules.specs.Valid.{ValidDispatcher};
 ghost use Rattle.layout.specs.Layout.{decode};
 ghost use Rattle.layout.specs.Fields.{dispatcher_now, dispatcher_changed};
 ghost use Rattle.layout.specs.Placed.{DispatcherIn};
-ghost use Rattle.groups.specs.Walk.{Fits, Stands, group_at, groups_from};
+ghost use Rattle.groups.specs.Lent.{group_of, groups_in};
 ghost use Rattle.redeliver.specs.Back.{handed};
 
 use dispatcher::flight::{find_hold, flight_count, remove_flight};
 use dispatcher::marks::raise_count;
 use dispatcher::queue::append_queue;
-use groups::walk::group_end;
-use topic::position::position_here;
+use groups::group::Group;
+use groups::list::Groups;
+use topic::position::position_in;
 
 // Entry `j` in flight of dispatcher `d`, which is on position `k`, is handed back.
 fn hand_back_held(store: &mut [u64], e: usize, d: usize, j: usize, k: usize)
@@ -27,35 +28,37 @@ fn hand_back_held(store: &mut [u64], e: usize, d: usize, j: usize, k: usize)
     raise_count(store, e, d, k);
 }
 
-// The id of the group at `at` is handed back if `id` holds it.
-fn hand_back(store: &mut [u64], e: usize, d: usize, topic: u64, id: u64, list: &[u64], at: usize)
-    requires { DispatcherIn e store.old d × Fits list.now at × ValidDispatcher (decode store.old) (dispatcher_now store.old d) }
+// The id of a group is handed back if `id` holds it.
+fn hand_back(store: &mut [u64], e: usize, d: usize, topic: u64, id: u64, group: Group)
+    requires { DispatcherIn e store.old d × ValidDispatcher (decode store.old) (dispatcher_now store.old d)
+        × ((dispatcher_now store.old d).pair.topic ≡ topic) }
     ensures { store.new ≡ dispatcher_changed store.old d
-        (λ x. redeliver_id (ledger_of (decode store.old) topic) id x (group_at list.now at).id) }
+        (λ x. redeliver_id (ledger_of (decode store.old) topic) id x (group_of group.entry).id) }
 {
-    let k = position_here(store, e, topic, list, at);
+    let Some(k) = position_in(store, e, topic, group) else {
+        return;
+    };
     let j = find_hold(store, e, d, id, k);
     if j < flight_count(store, e, d) {
         hand_back_held(store, e, d, j, k);
     }
 }
 
-// Each id of a list is handed back, in order, if `id` holds it.
+// Each id of some groups is handed back, in order, if `id` holds it.
 pub(crate) fn hand_back_all(
     store: &mut [u64],
     e: usize,
     d: usize,
     topic: u64,
     id: u64,
-    list: &[u64],
+    groups: Groups,
 )
-    requires { DispatcherIn e store.old d × Stands list.now 0 × ValidDispatcher (decode store.old) (dispatcher_now store.old d) }
+    requires { DispatcherIn e store.old d × ValidDispatcher (decode store.old) (dispatcher_now store.old d)
+        × ((dispatcher_now store.old d).pair.topic ≡ topic) }
     ensures { store.new ≡ dispatcher_changed store.old d
-        (λ x. redeliver_groups (ledger_of (decode store.old) topic) id x (groups_from list.now 0)) }
+        (λ x. redeliver_groups (ledger_of (decode store.old) topic) id x (groups_in groups.entry)) }
 {
-    let mut at = 0;
-    while at < list.len() {
-        hand_back(store, e, d, topic, id, list, at);
-        at = group_end(list, at);
+    for group in groups {
+        hand_back(store, e, d, topic, id, group);
     }
 }

@@ -12,14 +12,13 @@ ghost use Rattle.layout.specs.Layout.{spells};
 ghost use Rattle.layout.specs.Calls.{answer, after};
 ghost use Rattle.layout.specs.Fields.{consumer_now};
 ghost use Rattle.refusal.specs.Words.{word_of};
-ghost use Rattle.groups.specs.Walk.{Stands};
 ghost use Rattle.consumer.specs.Live.{Live};
 
 use consumer::fields::{dispatcher_of, is_shared, topic};
 use consumer::lookup::{Lookup, find_consumer};
 use consumer::nacked::nacked_count;
 use found::{found_count, join_found};
-use groups::form::list_right;
+use groups::list::Groups;
 use hand_back::hand_back_all;
 use refusal::{Answer, Refusal};
 use store::answers::entries;
@@ -35,49 +34,47 @@ pub fn redeliver(store: &mut [u64], consumer: u64, list: &[u64]) -> Answer
     let Lookup::Live(i) = find_consumer(store, e, consumer) else {
         return Err(Refusal::NotLive);
     };
-    if !list_right(list) {
+    let Some(groups) = Groups::of(list) else {
         return Err(Refusal::BadList);
-    }
-    redeliver_live(store, e, i, consumer, list)
+    };
+    redeliver_live(store, e, i, consumer, groups)
 }
 
-// A redeliver of the live consumer `i`, of a list of the form.
-fn redeliver_live(store: &mut [u64], e: usize, i: usize, consumer: u64, list: &[u64]) -> Answer
-    requires { Live e store.old i × ((consumer_now store.old i).id ≡ consumer) × Stands list.now 0 }
-    ensures answer { word_of result ≡ answer store.old (Redeliver consumer list.now) }
-    ensures words { store.new ≡ after store.old (Redeliver consumer list.now) }
+// A redeliver of the live consumer `i`.
+fn redeliver_live(store: &mut [u64], e: usize, i: usize, consumer: u64, groups: Groups) -> Answer
+    requires { Live e store.old i × ((consumer_now store.old i).id ≡ consumer) }
+    ensures answer { word_of result ≡ answer store.old (Redeliver consumer groups.entry.list.now) }
+    ensures words { store.new ≡ after store.old (Redeliver consumer groups.entry.list.now) }
 {
     if is_shared(store, e, i) {
-        return redeliver_shared(store, e, i, consumer, list);
+        return redeliver_shared(store, e, i, consumer, groups);
     }
-    redeliver_plain(store, e, i, consumer, list)
+    redeliver_plain(store, e, i, consumer, groups)
 }
 
 // A redeliver of the live plain consumer `i`.
-fn redeliver_plain(store: &mut [u64], e: usize, i: usize, consumer: u64, list: &[u64]) -> Answer
-    requires { Live e store.old i × ((consumer_now store.old i).id ≡ consumer) × Stands list.now 0
-        × ((consumer_now store.old i).kind ≡ plain) }
-    ensures answer { word_of result ≡ answer store.old (Redeliver consumer list.now) }
-    ensures words { store.new ≡ after store.old (Redeliver consumer list.now) }
+fn redeliver_plain(store: &mut [u64], e: usize, i: usize, consumer: u64, groups: Groups) -> Answer
+    requires { Live e store.old i × ((consumer_now store.old i).id ≡ consumer) × ((consumer_now store.old i).kind ≡ plain) }
+    ensures answer { word_of result ≡ answer store.old (Redeliver consumer groups.entry.list.now) }
+    ensures words { store.new ≡ after store.old (Redeliver consumer groups.entry.list.now) }
 {
     let number = topic(store, e, i);
-    let n = nacked_count(store, e, i) + found_count(store, e, number, list);
+    let n = nacked_count(store, e, i) + found_count(store, e, number, groups);
     if MOST_NACKED < n {
         return Err(Refusal::IdsFull);
     }
-    join_found(store, e, i, number, list);
+    join_found(store, e, i, number, groups);
     Ok(0)
 }
 
 // A redeliver of the live shared consumer `i`.
-fn redeliver_shared(store: &mut [u64], e: usize, i: usize, consumer: u64, list: &[u64]) -> Answer
-    requires { Live e store.old i × ((consumer_now store.old i).id ≡ consumer) × Stands list.now 0
-        × ((consumer_now store.old i).kind ≡ shared) }
-    ensures answer { word_of result ≡ answer store.old (Redeliver consumer list.now) }
-    ensures words { store.new ≡ after store.old (Redeliver consumer list.now) }
+fn redeliver_shared(store: &mut [u64], e: usize, i: usize, consumer: u64, groups: Groups) -> Answer
+    requires { Live e store.old i × ((consumer_now store.old i).id ≡ consumer) × ((consumer_now store.old i).kind ≡ shared) }
+    ensures answer { word_of result ≡ answer store.old (Redeliver consumer groups.entry.list.now) }
+    ensures words { store.new ≡ after store.old (Redeliver consumer groups.entry.list.now) }
 {
     let number = topic(store, e, i);
     let d = dispatcher_of(store, e, i);
-    hand_back_all(store, e, d, number, consumer, list);
+    hand_back_all(store, e, d, number, consumer, groups);
     Ok(0)
 }

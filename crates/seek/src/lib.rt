@@ -24,7 +24,7 @@ use consumer::nacked::clear_nacked;
 use refusal::{Answer, Refusal};
 use store::answers::entries;
 use topic::find::first_at_or_after;
-use topic::table::{find_topic, topic_count};
+use topic::table::existing_topic;
 
 // 4 if not live. The value is the cursor.
 pub fn seek(store: &mut [u64], command: Seek) -> Answer
@@ -69,10 +69,8 @@ fn seek_position(store: &[u64], e: usize, topic: u64, ledger: u64, entry: u64) -
     requires { CanonStore e store.now }
     ensures { result ≡ seek_position (id_of ledger entry) (ledger_of (decode store.now) topic) }
 {
-    let t = find_topic(store, e, topic);
-    if t < topic_count(store, e) {
-        first_at_or_after(store, e, t, ledger, entry)
-    } else {
-        0
-    }
+    let Some(t) = existing_topic(store, e, topic) else {
+        return 0;
+    };
+    first_at_or_after(store, e, t, ledger, entry)
 }

@@ -1,2 +1,3 @@
 pub mod Find
+pub mod Found
 pub mod Open

@@ -19,3 +19,7 @@ ledger_at s topic h = rw (slot_found by_number topic s.topics zero_topic h)
 pub ledger_none : (s : State) (topic : ℕ) → length s.topics ≤ slot by_number topic s.topics → ledger_of s topic ≡ []
 unfolding ledger_of topic_of or_else
 ledger_none s topic h = rw (slot_none by_number topic s.topics h)
+
+-- the same, by its slot as it was found
+pub ledger_here : (s : State) (topic t : ℕ) → t ≡ slot by_number topic s.topics → t < length s.topics → ledger_of s topic ≡ (topic_nth s t).messages
+ledger_here s topic t e h = rw e (ledger_at s topic (rw e at h))

@@ -1,16 +1,14 @@
 // The table of topics: their number, the slot of a topic by its number, the length of its ledger, and a topic made.
-// A slot equal to their number means that there is none.
 ghost use Rattle.std.specs.Prelude.{◌≡◌, ◌++◌, ◌∷◌, [], ◌<◌, length};
 ghost use Rattle.rules.specs.State.{by_number, ledger_of, with_topics};
 ghost use Rattle.layout.specs.Layout.{decode};
 ghost use Rattle.layout.specs.Canon.{CanonStore};
 ghost use Rattle.layout.specs.Fields.{zero_topic, topic_now, state_changed, topic_changed, with_number};
 ghost use Rattle.layout.specs.Placed.{TopicIn};
-ghost use Rattle.store.specs.Find.{slot};
+ghost use Rattle.store.specs.Find.{slot, FoundAt};
 
-use store::offsets::{
-    MESSAGES_IN, TOPIC_COUNT_AT, TOPIC_WORDS, TOPIC_WORDS_E, TOPICS_AT, topic_at,
-};
+use search::first_row;
+use store::offsets::{MESSAGES_IN, TOPIC_COUNT_AT, topic_at};
 use store::stretch::word;
 
 // The number of topics.
@@ -21,21 +19,34 @@ pub fn topic_count(store: &[u64], e: usize) -> usize
     word(store, TOPIC_COUNT_AT)
 }
 
-// The slot of a topic.
+// The number of topic `t`.
+fn topic_number(store: &[u64], e: usize, t: usize) -> u64
+    requires { CanonStore e store.now × (t < length (decode store.now).topics) }
+    ensures { result ≡ (topic_now store.now t).number }
+{
+    store[topic_at(e, t)]
+}
+
+// The slot of a topic: where it stands, or where it is made if it does not exist.
 pub fn find_topic(store: &[u64], e: usize, topic: u64) -> usize
     requires { CanonStore e store.now }
     ensures { result ≡ slot by_number topic (decode store.now).topics }
 {
     let n = topic_count(store, e);
-    let width = TOPIC_WORDS + TOPIC_WORDS_E * e;
-    let mut i = 0;
-    while i < n {
-        if store[TOPICS_AT + i * width] == topic {
-            return i;
-        }
-        i += 1;
+    first_row(n, |t| topic == topic_number(store, e, t)).unwrap_or(n)
+}
+
+// The slot of a topic that exists.
+pub fn existing_topic(store: &[u64], e: usize, topic: u64) -> Option<usize>
+    requires { CanonStore e store.now }
+    ensures { FoundAt result (slot by_number topic (decode store.now).topics) (length (decode store.now).topics) }
+{
+    let t = find_topic(store, e, topic);
+    if t < topic_count(store, e) {
+        Some(t)
+    } else {
+        None
     }
-    i
 }
 
 // The number of entries of a topic; none where the topic does not exist.
@@ -43,12 +54,10 @@ pub fn ledger_length(store: &[u64], e: usize, topic: u64) -> usize
     requires { CanonStore e store.now }
     ensures { result ≡ length (ledger_of (decode store.now) topic) }
 {
-    let t = find_topic(store, e, topic);
-    if t < topic_count(store, e) {
-        message_count(store, e, t)
-    } else {
-        0
-    }
+    let Some(t) = existing_topic(store, e, topic) else {
+        return 0;
+    };
+    message_count(store, e, t)
 }
 
 // The number of messages of topic `t`.

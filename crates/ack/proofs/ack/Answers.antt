@@ -1,7 +1,6 @@
 -- `ack::ack` meets its contract: the id is not live, the list is not of the form, or the ack of the consumer at its slot.
 use mathlib.Core.Path.{sym, ◌∙◌}
 use Rattle.layout.specs.Layout.{decode}
-use Rattle.groups.proofs.Walks.{stands_right}
 use Rattle.operation_laws.proofs.Frame.{canon_of, refused_with, consumer_found_id}
 use Rattle.consumer.proofs.Looked.{found_live, found_missing}
 use Rattle.ack.proofs.Outcomes.{ack_dead, ack_formless}
@@ -17,21 +16,17 @@ returns-in_default c =
     refused_with a.store.now _ c.requires
     (ack_dead s a.consumer a.list.now (found_missing a.consumer s.consumers (sym c.in_default.is ∙ c.find_consumer.ensures.slot)))
 
-pub returns-then-not-list_right : goal.returns-then-not-list_right
-returns-then-not-list_right c =
+pub returns-in_default-of : goal.returns-in_default-of
+returns-in_default-of c =
     let a = c.args in
     let s = decode a.store.now in
     let f = found_live a.consumer s.consumers c.in-Live.i (sym c.in-Live.is ∙ c.find_consumer.ensures.slot) in
-    refused_with a.store.now _ c.requires
-    (ack_formless s c.in-Live.i a.consumer a.list.now f.0 f.1 (sym c.list_right.ensures ∙ c.if-not-list_right.true))
+    refused_with a.store.now _ c.requires (ack_formless s c.in-Live.i a.consumer a.list.now f.0 f.1 c.in_default-of.ensures)
 
 pub ack_live-requires : goal.ack_live-requires
 ack_live-requires c =
     let a = c.args in
     let s = decode a.store.now in
     let i = c.in-Live.i in
-    let f = found_live a.consumer s.consumers i (sym c.in-Live.is ∙ c.find_consumer.ensures.slot) in (
-      record { spelt = c.requires; E = c.entries-e.ensures; there = f.1 },
-      consumer_found_id s i a.consumer f.0 f.1,
-      (stands_right a.list.now (sym (c.if-not-list_right.false) ∙ c.list_right.ensures)).0,
-    )
+    let f = found_live a.consumer s.consumers i (sym c.in-Live.is ∙ c.find_consumer.ensures.slot) in
+    (record { spelt = c.requires; E = c.entries-e.ensures; there = f.1 }, consumer_found_id s i a.consumer f.0 f.1)

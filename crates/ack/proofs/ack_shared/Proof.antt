@@ -12,7 +12,8 @@ use Rattle.rules.specs.Commands.{ack_groups}
 use Rattle.rules.specs.Valid.{ValidDispatcher}
 use Rattle.layout.specs.Whole.{ShapedDispatcher}
 use Rattle.store.specs.Find.{slot}
-use Rattle.groups.specs.Walk.{groups_from}
+use Rattle.groups.specs.Lent.{groups_in}
+use Rattle.groups.proofs.Lists.{groups_read}
 use Rattle.operation_laws.proofs.Frame.{both, refused_with, done_with, shared_found, dispatcher_found_valid, dispatcher_found_pair}
 use Rattle.consumer.proofs.Found.{live_canon, live_in, live_valid, live_slot, live_consumer}
 use Rattle.ack.specs.Ackable.{Ackable}
@@ -27,7 +28,7 @@ use Rattle.ack.proofs.ack_shared.Tie as tie
 there : (c : tie.After-dispatcher_of-d) → c.dispatcher_of-d.result < length (decode c.args.store.now).dispatchers
 there c =
     let h = c.requires.0 in
-    shared_found (decode c.args.store.now) c.dispatcher_of-d.result _ c.dispatcher_of-d.ensures (consumer_nth (decode c.args.store.now) c.args.i) (live_consumer h) c.requires.3 refl
+    shared_found (decode c.args.store.now) c.dispatcher_of-d.result _ c.dispatcher_of-d.ensures (consumer_nth (decode c.args.store.now) c.args.i) (live_consumer h) c.requires.2 refl
 
 -- the slot is that of the id
 own_slot : (c : tie.After-topic-number) → c.args.i ≡ slot by_id c.args.consumer (decode c.args.store.now).consumers
@@ -44,23 +45,23 @@ ackable c =
     (ap (λ (q : Pair). q.topic) (dispatcher_found_pair (decode c.args.store.now) c.dispatcher_of-d.result _ c.dispatcher_of-d.ensures (there c.before)) ∙ sym c.topic-number.ensures)
 
 -- 64 are not passed
-few : (c : tie.Else-passes_64) → length (ack_groups (ledger_of (decode c.args.store.now) c.topic-number.result) (dispatcher_nth (decode c.args.store.now) c.dispatcher_of-d.result) (groups_from c.args.list.now 0)).outside ≤ 64
+few : (c : tie.Else-passes_64) → length (ack_groups (ledger_of (decode c.args.store.now) c.topic-number.result) (dispatcher_nth (decode c.args.store.now) c.dispatcher_of-d.result) (groups_in c.args.groups)).outside ≤ 64
 few c = ltb-false 64 _ (sym c.passes_64.ensures ∙ c.if-passes_64.false)
 
 -- the dispatcher after the ack
 abbrev acked : (c : tie.Else-passes_64) → Dispatcher
-acked c = ack_groups (ledger_of (decode c.args.store.now) c.topic-number.result) (dispatcher_nth (decode c.args.store.now) c.dispatcher_of-d.result) (groups_from c.args.list.now 0)
+acked c = ack_groups (ledger_of (decode c.args.store.now) c.topic-number.result) (dispatcher_nth (decode c.args.store.now) c.dispatcher_of-d.result) (groups_in c.args.groups)
 
 -- fits its slots
 fits : (c : tie.Else-passes_64) → ShapedDispatcher c.args.e (advance_mark_delete (drop_complete c.args.consumer (acked c)))
 fits c =
     advance_fits c.args.consumer (acked c)
-    (kept_fits (kept_groups (ledger_of (decode c.args.store.now) c.topic-number.result) (dispatcher_nth (decode c.args.store.now) c.dispatcher_of-d.result) (groups_from c.args.list.now 0)) (ackable c.before.before).within.lists_fit (few c))
+    (kept_fits (kept_groups (ledger_of (decode c.args.store.now) c.topic-number.result) (dispatcher_nth (decode c.args.store.now) c.dispatcher_of-d.result) (groups_in c.args.groups)) (ackable c.before.before).within.lists_fit (few c))
 
 -- its mark-delete is small
 within : (c : tie.Else-passes_64) → (advance_mark_delete (drop_complete c.args.consumer (acked c))).mark_delete ≤ 4096
 within c =
-    let k = kept_groups (ledger_of (decode c.args.store.now) c.topic-number.result) (dispatcher_nth (decode c.args.store.now) c.dispatcher_of-d.result) (groups_from c.args.list.now 0) in
+    let k = kept_groups (ledger_of (decode c.args.store.now) c.topic-number.result) (dispatcher_nth (decode c.args.store.now) c.dispatcher_of-d.result) (groups_in c.args.groups) in
     let f = (ackable c.before.before).within.lists_fit.marks_fit in
     let e = (live_canon c.requires.0).E_to in
     let m = valid_delete _ _ (valid_one c.before.before) in
@@ -81,7 +82,7 @@ topic_requires : tie.Need-topic-number-requires
 topic_requires c κs = live_in c.requires.0
 
 passes_64_requires : tie.Need-passes_64-requires
-passes_64_requires c κs = ((ackable c).within, c.requires.2)
+passes_64_requires c κs = (ackable c).within
 
 same_length : tie.Need-shape_of-store-then-passes_64
 same_length c = search rules
@@ -93,19 +94,19 @@ returns c =
     let h = p.0 in
     let s = decode a.store.now in
     both (refused_with a.store.now _ h.spelt
-    (ack_over s a.i a.consumer a.list.now (own_slot c.before.before) h.there (groups_from a.list.now 0) p.2.reads p.3
+    (ack_over s a.i a.consumer a.groups.list.now (own_slot c.before.before) h.there (groups_in a.groups) (groups_read a.groups) p.2
     c.dispatcher_of-d.result c.topic-number.result c.dispatcher_of-d.ensures (there c.before.before.before) c.topic-number.ensures (sym c.passes_64.ensures ∙ c.if-passes_64.true)))
 
 mark_delete_requires : tie.Need-mark_delete-from-requires
 mark_delete_requires c κs = (ackable c.before.before).within
 
 complete_requires : tie.Need-complete-requires
-complete_requires c κs = (ackable c.before.before.before.before, c.requires.2, few c.before.before, valid_marked _ _ (valid_one c.before.before.before.before))
+complete_requires c κs = (ackable c.before.before.before.before, few c.before.before, valid_marked _ _ (valid_one c.before.before.before.before))
 
 mark_delete_requires_2 : tie.Need-mark_delete-requires
 mark_delete_requires_2 c κs =
     let a = c.args in
-    written_in c.dispatcher_of-d.result a.consumer (advance_mark_delete (drop_complete a.consumer (ack_groups (ledger_of (decode a.store.now) c.topic-number.result) (dispatcher_nth (decode a.store.now) c.dispatcher_of-d.result) (groups_from a.list.now 0)))) (ackable c.before.before.before.before.before.before.before).within (fits c.before.before.before.before.before) c.complete.ensures
+    written_in c.dispatcher_of-d.result a.consumer (advance_mark_delete (drop_complete a.consumer (ack_groups (ledger_of (decode a.store.now) c.topic-number.result) (dispatcher_nth (decode a.store.now) c.dispatcher_of-d.result) (groups_in a.groups)))) (ackable c.before.before.before.before.before.before.before).within (fits c.before.before.before.before.before) c.complete.ensures
 
 moved_requires : tie.Need-moved-requires
 moved_requires c κs =
@@ -125,7 +126,7 @@ returns_2 c =
     let from = c.mark_delete-from.ensures in
     let to = c.mark_delete.ensures ∙ after_is c.before.before.before.before in
     both (done_with a.store.now _ h.spelt _ _
-    (ack_done s a.i a.consumer a.list.now (own_slot c.before.before.before.before.before.before.before.before.before) h.there (groups_from a.list.now 0) p.2.reads p.3
+    (ack_done s a.i a.consumer a.groups.list.now (own_slot c.before.before.before.before.before.before.before.before.before) h.there (groups_in a.groups) (groups_read a.groups) p.2
     c.dispatcher_of-d.result c.topic-number.result c.dispatcher_of-d.ensures (there c.before.before.before.before.before.before.before.before.before.before) c.topic-number.ensures (sym c.passes_64.ensures ∙ c.if-passes_64.false))
     (value_moved _ _) (ap (λ (n : ℕ). n % 2 ^ 56 * 256) (c.moved.ensures ∙ rw (from, to))) c.complete.ensures)
 

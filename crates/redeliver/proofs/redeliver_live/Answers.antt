@@ -10,9 +10,9 @@ is_shared-requires c = live_in c.requires.0
 pub redeliver_shared-requires : goal.redeliver_shared-requires
 redeliver_shared-requires c =
     let p = c.requires in
-    (p.0, p.1, p.2, flag_shared _ (sym c.is_shared.ensures ∙ c.if-is_shared.true))
+    (p.0, p.1, flag_shared _ (sym c.is_shared.ensures ∙ c.if-is_shared.true))
 
 pub redeliver_plain-requires : goal.redeliver_plain-requires
 redeliver_plain-requires c =
     let p = c.requires in
-    (p.0, p.1, p.2, flag_plain _ (sym c.is_shared.ensures ∙ c.if-is_shared.false))
+    (p.0, p.1, flag_plain _ (sym c.is_shared.ensures ∙ c.if-is_shared.false))

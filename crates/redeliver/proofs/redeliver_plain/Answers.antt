@@ -8,8 +8,8 @@ use Rattle.rules.specs.State.{ledger_of}
 use Rattle.rules.specs.Commands.{found_positions, with_reading}
 use Rattle.layout.specs.Layout.{decode, put}
 use Rattle.layout.specs.Fields.{consumer_nth, set_consumer}
-use Rattle.groups.specs.Walk.{groups_from}
-use Rattle.groups.proofs.Walks.{stands_few}
+use Rattle.groups.specs.Lent.{groups_in}
+use Rattle.groups.proofs.Lists.{groups_read, groups_few}
 use Rattle.operation_laws.proofs.Frame.{refused_with, done_with_nothing}
 use Rattle.consumer.proofs.Found.{live_canon, live_in, live_valid, live_slot}
 use Rattle.redeliver.proofs.Finds.{found_few}
@@ -23,7 +23,7 @@ pub nacked_count-requires : goal.nacked_count-requires
 nacked_count-requires c = live_in c.requires.0
 
 pub found_count-requires : goal.found_count-requires
-found_count-requires c = (live_canon c.requires.0, c.requires.2)
+found_count-requires c = live_canon c.requires.0
 
 pub overflow_add-n : goal.overflow_add-n
 overflow_add-n c =
@@ -33,13 +33,13 @@ overflow_add-n c =
     let s = decode a.store.now in
     let tp = c.topic-number.ensures in
     let nk = (consumer_nth s a.i).nacked in
-    let fp = found_positions (ledger_of s (consumer_nth s a.i).pair.topic) (groups_from a.list.now 0) in
+    let fp = found_positions (ledger_of s (consumer_nth s a.i).pair.topic) (groups_in a.groups) in
     let n1 = c.nacked_count.ensures in
-    let n2 : c.found_count.result ≡ length fp = c.found_count.ensures ∙ ap (λ (n : ℕ). length (found_positions (ledger_of s n) (groups_from a.list.now 0))) tp in
+    let n2 : c.found_count.result ≡ length fp = c.found_count.ensures ∙ ap (λ (n : ℕ). length (found_positions (ledger_of s n) (groups_in a.groups))) tp in
     let n3 = length-append nk fp in
     let f = (live_in h).nacked_fit in
-    let g = found_few (ledger_of s (consumer_nth s a.i).pair.topic) (groups_from a.list.now 0) in
-    let m = stands_few a.list.now 0 p.2 in
+    let g = found_few (ledger_of s (consumer_nth s a.i).pair.topic) (groups_in a.groups) in
+    let m = groups_few a.groups in
     omega arith
 
 pub returns-then-n-gt-MOST_NACKED : goal.returns-then-n-gt-MOST_NACKED
@@ -50,11 +50,11 @@ returns-then-n-gt-MOST_NACKED c =
     let s = decode a.store.now in
     let tp = c.topic-number.ensures in
     let nk = (consumer_nth s a.i).nacked in
-    let fp = found_positions (ledger_of s (consumer_nth s a.i).pair.topic) (groups_from a.list.now 0) in
+    let fp = found_positions (ledger_of s (consumer_nth s a.i).pair.topic) (groups_in a.groups) in
     let n1 = c.nacked_count.ensures in
-    let n2 : c.found_count.result ≡ length fp = c.found_count.ensures ∙ ap (λ (n : ℕ). length (found_positions (ledger_of s n) (groups_from a.list.now 0))) tp in
+    let n2 : c.found_count.result ≡ length fp = c.found_count.ensures ∙ ap (λ (n : ℕ). length (found_positions (ledger_of s n) (groups_in a.groups))) tp in
     let n3 = length-append nk fp in
-    refused_with a.store.now _ h.spelt (plain_over s a.i a.consumer a.list.now (live_slot h ∙ rw p.1) p.1 (live_valid h) h.there p.2 p.3 (let t = c.if-n-gt-MOST_NACKED.true in omega arith))
+    refused_with a.store.now _ h.spelt (plain_over s a.i a.consumer a.groups.list.now (live_slot h ∙ rw p.1) p.1 (live_valid h) h.there (groups_in a.groups) (groups_read a.groups) p.2 (let t = c.if-n-gt-MOST_NACKED.true in omega arith))
 
 pub join_found-requires : goal.join_found-requires
 join_found-requires c =
@@ -64,11 +64,11 @@ join_found-requires c =
     let s = decode a.store.now in
     let tp = c.topic-number.ensures in
     let nk = (consumer_nth s a.i).nacked in
-    let fp = found_positions (ledger_of s (consumer_nth s a.i).pair.topic) (groups_from a.list.now 0) in
+    let fp = found_positions (ledger_of s (consumer_nth s a.i).pair.topic) (groups_in a.groups) in
     let n1 = c.nacked_count.ensures in
-    let n2 : c.found_count.result ≡ length fp = c.found_count.ensures ∙ ap (λ (n : ℕ). length (found_positions (ledger_of s n) (groups_from a.list.now 0))) tp in
+    let n2 : c.found_count.result ≡ length fp = c.found_count.ensures ∙ ap (λ (n : ℕ). length (found_positions (ledger_of s n) (groups_in a.groups))) tp in
     let n3 = length-append nk fp in
-    (live_in h, p.2, rw tp (let t = c.if-n-gt-MOST_NACKED.false in omega arith))
+    (live_in h, rw tp (let t = c.if-n-gt-MOST_NACKED.false in omega arith))
 
 pub returns : goal.returns
 returns c =
@@ -78,9 +78,9 @@ returns c =
     let s = decode a.store.now in
     let tp = c.topic-number.ensures in
     let nk = (consumer_nth s a.i).nacked in
-    let fp = found_positions (ledger_of s (consumer_nth s a.i).pair.topic) (groups_from a.list.now 0) in
+    let fp = found_positions (ledger_of s (consumer_nth s a.i).pair.topic) (groups_in a.groups) in
     let n1 = c.nacked_count.ensures in
-    let n2 : c.found_count.result ≡ length fp = c.found_count.ensures ∙ ap (λ (n : ℕ). length (found_positions (ledger_of s n) (groups_from a.list.now 0))) tp in
+    let n2 : c.found_count.result ≡ length fp = c.found_count.ensures ∙ ap (λ (n : ℕ). length (found_positions (ledger_of s n) (groups_in a.groups))) tp in
     let n3 = length-append nk fp in
-    done_with_nothing a.store.now _ h.spelt (plain_joins s a.i a.consumer a.list.now (live_slot h ∙ rw p.1) p.1 (live_valid h) h.there p.2 p.3 (let t = c.if-n-gt-MOST_NACKED.false in omega arith))
-    (c.join_found.ensures ∙ ap (λ (n : ℕ). put a.store.now (set_consumer s a.i (with_reading (consumer_nth s a.i) (consumer_nth s a.i).cursor (nk ++ found_positions (ledger_of s n) (groups_from a.list.now 0))))) tp)
+    done_with_nothing a.store.now _ h.spelt (plain_joins s a.i a.consumer a.groups.list.now (live_slot h ∙ rw p.1) p.1 (live_valid h) h.there (groups_in a.groups) (groups_read a.groups) p.2 (let t = c.if-n-gt-MOST_NACKED.false in omega arith))
+    (c.join_found.ensures ∙ ap (λ (n : ℕ). put a.store.now (set_consumer s a.i (with_reading (consumer_nth s a.i) (consumer_nth s a.i).cursor (nk ++ found_positions (ledger_of s n) (groups_in a.groups))))) tp)

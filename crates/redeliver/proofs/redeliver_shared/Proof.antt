@@ -1,14 +1,15 @@
 -- `redeliver::redeliver_shared` meets its contract: what it holds of the list is handed back.
-use mathlib.Core.Path.{refl, ap, ◌∙◌}
+use mathlib.Core.Path.{refl, sym, ap, ◌∙◌}
 use Prim.Native.Nat.{ℕ, ◌<◌}
 use lib.ListN.{length}
-use Rattle.rules.specs.State.{ledger_of}
+use Rattle.rules.specs.State.{Pair, ledger_of}
 use Rattle.rules.specs.Commands.{redeliver_groups}
 use Rattle.layout.specs.Layout.{decode, put}
 use Rattle.layout.specs.Fields.{consumer_nth, dispatcher_nth, set_dispatcher}
 use Rattle.layout.proofs.Placed.{dispatcher_in}
-use Rattle.groups.specs.Walk.{groups_from}
-use Rattle.operation_laws.proofs.Frame.{both, done_with_nothing, shared_found, dispatcher_found_valid}
+use Rattle.groups.specs.Lent.{groups_in}
+use Rattle.groups.proofs.Lists.{groups_read}
+use Rattle.operation_laws.proofs.Frame.{both, done_with_nothing, shared_found, dispatcher_found_valid, dispatcher_found_pair}
 use Rattle.consumer.proofs.Found.{live_canon, live_in, live_valid, live_slot, live_consumer}
 use Rattle.redeliver.proofs.Shared.{shared_hands}
 use borrow.Author.Rules.{rules}
@@ -20,7 +21,7 @@ there : (c : tie.After-dispatcher_of-d) → c.dispatcher_of-d.result < length (d
 there c =
     let a = c.args in
     let p = c.requires in
-    shared_found (decode a.store.now) c.dispatcher_of-d.result _ c.dispatcher_of-d.ensures (consumer_nth (decode a.store.now) a.i) (live_consumer p.0) p.3 refl
+    shared_found (decode a.store.now) c.dispatcher_of-d.result _ c.dispatcher_of-d.ensures (consumer_nth (decode a.store.now) a.i) (live_consumer p.0) p.2 refl
 
 topic_requires : tie.Need-topic-number-requires
 topic_requires c κs = live_in c.requires.0
@@ -33,8 +34,11 @@ hand_back_all_requires c κs =
     let a = c.args in
     let p = c.requires in
     let d = c.dispatcher_of-d in
-    let g = there c.before in
-    (dispatcher_in (live_canon p.0) d.result g, p.2, dispatcher_found_valid (decode a.store.now) d.result _ d.ensures (live_valid p.0) g)
+    let g = there c.before in (
+      dispatcher_in (live_canon p.0) d.result g,
+      dispatcher_found_valid (decode a.store.now) d.result _ d.ensures (live_valid p.0) g,
+      ap (λ (q : Pair). q.topic) (dispatcher_found_pair (decode a.store.now) d.result _ d.ensures g) ∙ sym c.topic-number.ensures,
+    )
 
 same_length : tie.Need-shape_of-store
 same_length c = search rules
@@ -47,9 +51,9 @@ returns c =
     let s = decode a.store.now in
     let d = c.dispatcher_of-d in
     both (done_with_nothing a.store.now _ h.spelt
-    (shared_hands s a.i a.consumer a.list.now (live_slot h ∙ rw p.1) (live_valid h) h.there p.2 p.3 d.result d.ensures (there c.before.before.before.before))
+    (shared_hands s a.i a.consumer a.groups.list.now (live_slot h ∙ rw p.1) (live_valid h) h.there (groups_in a.groups) (groups_read a.groups) p.2 d.result d.ensures (there c.before.before.before.before))
     (c.hand_back_all.ensures
-    ∙ ap (λ (n : ℕ). put a.store.now (set_dispatcher s d.result (redeliver_groups (ledger_of s n) a.consumer (dispatcher_nth s d.result) (groups_from a.list.now 0)))) c.topic-number.ensures))
+    ∙ ap (λ (n : ℕ). put a.store.now (set_dispatcher s d.result (redeliver_groups (ledger_of s n) a.consumer (dispatcher_nth s d.result) (groups_in a.groups)))) c.topic-number.ensures))
 
 pub redeliver_shared_spec : {M : Type 1} → statement M
 redeliver_shared_spec = tie.close (tie.spec topic_requires dispatcher_of_requires hand_back_all_requires same_length returns)

@@ -8,7 +8,7 @@ use Rattle.rules.specs.Ledger.{message_at}
 use Rattle.rules.specs.Dispatcher.{with_marks, mark_at, ack_mark}
 use Rattle.layout.specs.Layout.{decode, put}
 use Rattle.layout.specs.Fields.{dispatcher_nth, set_dispatcher}
-use Rattle.groups.specs.Walk.{group_at}
+use Rattle.groups.specs.Lent.{group_of}
 use Rattle.dispatcher.specs.Values.{mark_of}
 use Rattle.ack.proofs.ack_id.ack_entry.Goals as goal
 
@@ -18,9 +18,6 @@ load_mark-mark-requires c =
     let o = p.0.one_each in
     let k = p.1 in
     (p.0.within, omega arith)
-
-pub acked_mark-acked-requires : goal.acked_mark-acked-requires
-acked_mark-acked-requires c = c.requires.2
 
 pub save_mark-requires : goal.save_mark-requires
 save_mark-requires c =
@@ -34,8 +31,8 @@ returns c =
     let a = c.args in
     let s = decode a.store.now in
     let x = dispatcher_nth s a.d in
-    let m : mark_of c.acked_mark-acked.result ≡ ack_mark (message_at (ledger_of s a.topic) a.k).batch_size (group_at a.list.now a.at).words (mark_at x a.k) =
+    let m : mark_of c.acked_mark-acked.result ≡ ack_mark (message_at (ledger_of s a.topic) a.k).batch_size (group_of a.group).words (mark_at x a.k) =
     c.acked_mark-acked.ensures
-    ∙ ap (λ (n : ℕ). ack_mark n (group_at a.list.now a.at).words (mark_of c.load_mark-mark.result)) c.batch_size_of-batch.ensures
-    ∙ ap (λ (y : Mark). ack_mark (message_at (ledger_of s a.topic) a.k).batch_size (group_at a.list.now a.at).words y) c.load_mark-mark.ensures in
+    ∙ ap (λ (n : ℕ). ack_mark n (group_of a.group).words (mark_of c.load_mark-mark.result)) c.batch_size_of-batch.ensures
+    ∙ ap (λ (y : Mark). ack_mark (message_at (ledger_of s a.topic) a.k).batch_size (group_of a.group).words y) c.load_mark-mark.ensures in
     c.save_mark.ensures ∙ ap (λ (y : Mark). put a.store.now (set_dispatcher s a.d (with_marks x (set x.marks a.k y) x.outside))) m

@@ -1,42 +1,33 @@
 -- `ack::ack_id::ack_here` meets its contract: the id is in the ledger, or not.
-use mathlib.Core.Path.{ap, ◌∙◌}
+use mathlib.Core.Path.{ap, refl, ◌∙◌}
 use native.Mathlib.Omega.{arith}
 use Rattle.rules.specs.State.{Dispatcher, ledger_of}
 use Rattle.layout.specs.Layout.{decode, put}
 use Rattle.layout.specs.Fields.{dispatcher_nth, set_dispatcher}
-use Rattle.groups.specs.Walk.{group_at}
+use Rattle.groups.specs.Lent.{group_of}
 use Rattle.ack.proofs.Marking.{ack_there, ack_missing, ack_room}
 use Rattle.ack.proofs.ack_id.ack_here.Goals as goal
 
 pub ack_entry-requires : goal.ack_entry-requires
-ack_entry-requires c =
-    let p = c.requires in
-    let t = c.if-k-ledger_length.true in
-    let n = c.ledger_length.ensures in
-    (p.0, omega arith, p.1)
+ack_entry-requires c = let n = c.in-Some.ensures in (c.requires.0, omega arith)
 
 pub ack_outside-requires : goal.ack_outside-requires
 ack_outside-requires c =
     let a = c.args in
     let p = c.requires in
-    let t = c.if-k-ledger_length.false in
-    let n = c.ledger_length.ensures in
-    (p.0.within, ack_room (ledger_of (decode a.store.now) a.topic) (dispatcher_nth (decode a.store.now) a.d) (group_at a.list.now a.at).id (group_at a.list.now a.at).words c.position_here-k.result c.position_here-k.ensures (omega arith) p.2)
+    (p.0.within, ack_room (ledger_of (decode a.store.now) a.topic) (dispatcher_nth (decode a.store.now) a.d) (group_of a.group).id (group_of a.group).words _ refl c.in_default.ensures p.1)
 
-pub returns-then-k-ledger_length : goal.returns-then-k-ledger_length
-returns-then-k-ledger_length c =
+pub returns-in-Some : goal.returns-in-Some
+returns-in-Some c =
     let a = c.args in
     let s = decode a.store.now in
-    let t = c.if-k-ledger_length.true in
-    let n = c.ledger_length.ensures in
-    let m = ack_there (ledger_of s a.topic) (dispatcher_nth s a.d) (group_at a.list.now a.at).id (group_at a.list.now a.at).words c.position_here-k.result c.position_here-k.ensures (omega arith) in
+    let f = c.in-Some.ensures in
+    let m = ack_there (ledger_of s a.topic) (dispatcher_nth s a.d) (group_of a.group).id (group_of a.group).words c.in-Some.k f.0 f.1 in
     c.ack_entry.ensures ∙ ap (λ (x : Dispatcher). put a.store.now (set_dispatcher s a.d x)) m
 
-pub returns-else-k-ledger_length : goal.returns-else-k-ledger_length
-returns-else-k-ledger_length c =
+pub returns-in_default : goal.returns-in_default
+returns-in_default c =
     let a = c.args in
     let s = decode a.store.now in
-    let t = c.if-k-ledger_length.false in
-    let n = c.ledger_length.ensures in
-    let m = ack_missing (ledger_of s a.topic) (dispatcher_nth s a.d) (group_at a.list.now a.at).id (group_at a.list.now a.at).words c.position_here-k.result c.position_here-k.ensures (omega arith) in
+    let m = ack_missing (ledger_of s a.topic) (dispatcher_nth s a.d) (group_of a.group).id (group_of a.group).words _ refl c.in_default.ensures in
     c.ack_outside.ensures ∙ ap (λ (x : Dispatcher). put a.store.now (set_dispatcher s a.d x)) m

@@ -1,0 +1,14 @@
+-- `topic::find::has_id_from` meets its contract: the id stands at its offset.
+use Rattle.std.proofs.Common.{ap, ◌∙◌}
+use Rattle.rules.specs.State.{Id}
+use Rattle.rules.specs.Ledger.{at_or_after, message_at}
+use Rattle.topic.specs.Ids.{id_of}
+use Rattle.topic.proofs.Positions.{id_here}
+use Rattle.topic.proofs.find.has_id_from.Goals as goal
+
+pub returns : goal.returns
+unfolding message_at
+returns c =
+    c.at_or_after.ensures
+    ∙ ap (λ (i : Id). at_or_after i (id_of c.args.ledger c.args.entry))
+    (id_here c.args.t c.topic_at-at.result c.args.k c.requires.0 c.topic_at-at.ensures c.requires.1)
