@@ -13,7 +13,6 @@ use dispatcher::numbers::{load_head, topic};
 use dispatcher::queue::queue_count;
 use dispatcher::table::dispatcher_count;
 use push_plain::due::waiting;
-use push_plain::reader::smaller;
 use topic::table::ledger_length;
 
 // How many entries wait for dispatcher `d`.
@@ -23,8 +22,7 @@ fn waiting_at(store: &[u64], e: usize, d: usize) -> usize
 {
     let n = ledger_length(store, e, topic(store, e, d));
     let head = load_head(store, e, d);
-    let from = smaller(head.cursor, n);
-    queue_count(store, e, d) + (n - from)
+    queue_count(store, e, d) + n.saturating_sub(head.cursor)
 }
 
 // How many entries wait for consumer `i`, if it is a plain one.
@@ -33,9 +31,10 @@ fn waiting_for(store: &[u64], e: usize, i: usize) -> usize
     ensures { result ≡ waiting_for (decode store.now) (consumer_now store.now i) }
 {
     if is_shared(store, e, i) {
-        return 0;
+        0
+    } else {
+        waiting(store, e, i)
     }
-    waiting(store, e, i)
 }
 
 // How many entries wait for the dispatchers.
