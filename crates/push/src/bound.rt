@@ -1,11 +1,11 @@
 // How many entries wait, whatever the permits: a push dispatches no more of them. No turn is made to
 // know it, and of a ledger only its length is read.
-ghost use Rattle.std.specs.Prelude.{◌≡◌};
+ghost use Rattle.std.specs.Prelude.{◌≡◌, ℕ, ◌<◌, ◌≤◌};
 ghost use Rattle.layout.specs.Layout.{decode};
 ghost use Rattle.layout.specs.Canon.{CanonStore};
 ghost use Rattle.layout.specs.Fields.{consumer_now, dispatcher_now};
 ghost use Rattle.layout.specs.Placed.{ConsumerIn, DispatcherIn};
-ghost use Rattle.push.specs.Bound.{waiting_at, waiting_for, waiting_shared, waiting_plain, most_due};
+ghost use Rattle.push.specs.Bound.{waiting_at, waiting_for, waiting_shared, waiting_plain, most_due, AddedUp};
 
 use consumer::fields::is_shared;
 use consumer::table::consumer_count;
@@ -37,17 +37,26 @@ fn waiting_for(store: &[u64], e: usize, i: usize) -> usize
     }
 }
 
+// The numbers of `n` rows of a table, added up: at most 32 rows, and at most 8,192 for each.
+fn added_up<F: Fn(usize) -> usize>(n: usize, number: F) -> usize
+    requires callable { (i : ℕ) → i < n → F.pre number i }
+    requires small { (i r : ℕ) → i < n → F.post number i r → r ≤ 8192 }
+    requires few { n ≤ 32 }
+    ensures { AddedUp (F.post number) n result }
+{
+    let mut sum = 0;
+    for i in 0..n {
+        sum += number(i);
+    }
+    sum
+}
+
 // How many entries wait for the dispatchers.
 fn waiting_shared(store: &[u64], e: usize) -> usize
     requires { CanonStore e store.now }
     ensures { result ≡ waiting_shared (decode store.now) }
 {
-    let n = dispatcher_count(store, e);
-    let mut sum = 0;
-    for d in 0..n {
-        sum += waiting_at(store, e, d);
-    }
-    sum
+    added_up(dispatcher_count(store, e), |d| waiting_at(store, e, d))
 }
 
 // How many entries wait for the plain consumers.
@@ -55,12 +64,7 @@ fn waiting_plain(store: &[u64], e: usize) -> usize
     requires { CanonStore e store.now }
     ensures { result ≡ waiting_plain (decode store.now) }
 {
-    let n = consumer_count(store, e);
-    let mut sum = 0;
-    for i in 0..n {
-        sum += waiting_for(store, e, i);
-    }
-    sum
+    added_up(consumer_count(store, e), |i| waiting_for(store, e, i))
 }
 
 // How many entries wait: a list with room for as many records has room for all that a push dispatches.
