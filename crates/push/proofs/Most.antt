@@ -1,9 +1,8 @@
--- What waits is small, a loop over a table adds it up, and no push dispatches more.
+-- What waits is small, the numbers of a table add up to it, and no push dispatches more.
 use mathlib.Core.Path.{◌≡◌, refl, ap, ◌∙◌}
 use mathlib.Core.List.{List, [], ◌∷◌, ◌++◌, map}
 use Prim.Native.Nat.{ℕ, zero, suc, ◌+◌, ◌-◌, ◌*◌, ◌≤◌, ◌<◌, min, zero-le}
 use native.Mathlib.Nat.{min-le_right}
-use native.Mathlib.Numerals.{add-one}
 use native.Mathlib.Omega.{arith}
 use lib.ListN.{length, get_or, take, drop, length-append, length-map}
 use lib.Seq.{take-suc, take_all}
@@ -20,21 +19,12 @@ use Rattle.push_laws.specs.Local.LocalTurn.{stop, move}
 use Rattle.push_laws.specs.Applied.{with_each, record_of}
 use Rattle.push_laws.specs.Shared.{services, service_records, all_service_records}
 use Rattle.push_laws.specs.Plain.{plain_due, plain_records, ledger_for, all_plain_records}
+use Rattle.push_plain.specs.Sum.{AddedUp}
 use Rattle.push_plain.proofs.Entries.{length_records}
 use Rattle.push_turn.proofs.Left.{left, turn_lowers}
-use Rattle.push.specs.Bound.{total, waiting_at, waiting_for, waiting_shared, waiting_plain, most_due, AddedUp}
+use Rattle.push.specs.Bound.{total, waiting_at, waiting_for, waiting_shared, waiting_plain, most_due}
 
--- ---- a loop that adds up
-
--- nothing was added yet
-pub added_first : (P : ℕ → ℕ → Type 0) → AddedUp P 0 0
-unfolding AddedUp
-added_first P = refl
-
--- one number more
-pub added_on : (P : ℕ → ℕ → Type 0) (n t r : ℕ) → AddedUp P n t → P n r → AddedUp P (n + 1) (t + r)
-unfolding AddedUp
-added_on P n t r a p = rw (add-one n) (t, r, a, p, refl)
+-- ---- numbers added up
 
 module _ {A : Type 0} (f : A → ℕ) where
   -- an element more at the end

@@ -1,5 +1,5 @@
 -- The entries that wait, whatever the permits: a push dispatches no more of them.
-use Rattle.std.specs.Prelude.{◌≡◌, ℕ, zero, suc, ◌+◌, ◌-◌, List, [], ◌∷◌, length}
+use Rattle.std.specs.Prelude.{ℕ, ◌+◌, ◌-◌, List, [], ◌∷◌, length}
 use Rattle.rules.specs.State.{by_kind, Consumer, Dispatcher, State, ledger_of}
 use Rattle.push_laws.specs.Plain.{ledger_for}
 
@@ -27,8 +27,3 @@ waiting_plain s = total (waiting_for s) s.consumers
 -- all that waits
 abbrev pub most_due : State → ℕ
 most_due s = waiting_shared s + waiting_plain s
-
--- a sum of n numbers, each of which P tells by its place
-unfoldable pub AddedUp : (ℕ → ℕ → Type 0) → ℕ → ℕ → Type 0
-AddedUp P zero s = s ≡ 0
-AddedUp P (suc n) s = (t : ℕ) × (r : ℕ) × AddedUp P n t × P n r × (s ≡ t + r)

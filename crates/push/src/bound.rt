@@ -1,11 +1,11 @@
 // How many entries wait, whatever the permits: a push dispatches no more of them. No turn is made to
 // know it, and of a ledger only its length is read.
-ghost use Rattle.std.specs.Prelude.{◌≡◌, ℕ, ◌<◌, ◌≤◌};
+ghost use Rattle.std.specs.Prelude.{◌≡◌};
 ghost use Rattle.layout.specs.Layout.{decode};
 ghost use Rattle.layout.specs.Canon.{CanonStore};
 ghost use Rattle.layout.specs.Fields.{consumer_now, dispatcher_now};
 ghost use Rattle.layout.specs.Placed.{ConsumerIn, DispatcherIn};
-ghost use Rattle.push.specs.Bound.{waiting_at, waiting_for, waiting_shared, waiting_plain, most_due, AddedUp};
+ghost use Rattle.push.specs.Bound.{waiting_at, waiting_for, waiting_shared, waiting_plain, most_due};
 
 use consumer::fields::is_shared;
 use consumer::table::consumer_count;
@@ -13,6 +13,7 @@ use dispatcher::numbers::{load_head, topic};
 use dispatcher::queue::queue_count;
 use dispatcher::table::dispatcher_count;
 use push_plain::due::waiting;
+use push_plain::sum::added_up;
 use topic::table::ledger_length;
 
 // How many entries wait for dispatcher `d`.
@@ -35,20 +36,6 @@ fn waiting_for(store: &[u64], e: usize, i: usize) -> usize
     } else {
         waiting(store, e, i)
     }
-}
-
-// The numbers of `n` rows of a table, added up: at most 32 rows, and at most 8,192 for each.
-fn added_up<F: Fn(usize) -> usize>(n: usize, number: F) -> usize
-    requires callable { (i : ℕ) → i < n → F.pre number i }
-    requires small { (i r : ℕ) → i < n → F.post number i r → r ≤ 8192 }
-    requires few { n ≤ 32 }
-    ensures { AddedUp (F.post number) n result }
-{
-    let mut sum = 0;
-    for i in 0..n {
-        sum += number(i);
-    }
-    sum
 }
 
 // How many entries wait for the dispatchers.

@@ -6,6 +6,7 @@ ghost use Rattle.layout.specs.Fields.{consumer_now};
 ghost use Rattle.layout.specs.Placed.{ConsumerIn};
 ghost use Rattle.push_plain.specs.Reading.{ledger_now, due_now, plain_records_now};
 
+use super::sum::added_up;
 use consumer::fields::{cursor, is_shared, topic};
 use consumer::nacked::nacked_count;
 use store::permits::ZERO_PERMITS;
@@ -46,9 +47,5 @@ pub fn due_plain(store: &[u64], e: usize, permits: &[u64]) -> usize
         × (length permits.now ≡ length (decode store.now).consumers) }
     ensures { result ≡ length (plain_records_now store.now permits.now) }
 {
-    let mut due = 0;
-    for (i, held) in permits.iter().enumerate() {
-        due += plain_due(store, e, i, *held);
-    }
-    due
+    added_up(permits.len(), |i| plain_due(store, e, i, permits[i]))
 }

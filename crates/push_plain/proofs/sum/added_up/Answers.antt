@@ -1,7 +1,7 @@
--- `push::bound::added_up` meets its contract: each number joins the sum of those before it.
+-- `push_plain::sum::added_up` meets its contract: each number joins the sum of those before it.
 use Rattle.std.proofs.Common.{arith}
-use Rattle.push.proofs.Most.{added_first, added_on}
-use Rattle.push.proofs.bound.added_up.Goals as goal
+use Rattle.push_plain.proofs.Adding.{added_first, added_on}
+use Rattle.push_plain.proofs.sum.added_up.Goals as goal
 
 pub loop-i-init : goal.loop-i-init
 loop-i-init g c = record { added = added_first _; small = omega arith }
