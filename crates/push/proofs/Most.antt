@@ -1,60 +1,60 @@
--- What waits is small, a loop over a table adds it up, and no push dispatches more.
-use mathlib.Core.Path.{◌≡◌, refl, ap}
-use mathlib.Core.List.{List, [], ◌∷◌, map}
+-- What waits is small, the numbers of a table add up to it, and no push dispatches more.
+use mathlib.Core.Path.{◌≡◌, refl, ap, ◌∙◌}
+use mathlib.Core.List.{List, [], ◌∷◌, ◌++◌, map}
 use Prim.Native.Nat.{ℕ, zero, suc, ◌+◌, ◌-◌, ◌*◌, ◌≤◌, ◌<◌, min, zero-le}
 use native.Mathlib.Nat.{min-le_right}
 use native.Mathlib.Omega.{arith}
-use lib.ListN.{length, get_or, drop, length-append, length-map, drop_of_length-le}
-use lib.Seq.{drop-cons}
+use lib.ListN.{length, get_or, take, drop, length-append, length-map}
+use lib.Seq.{take-suc, take_all}
 use Rattle.words.specs.Codec.{All}
 use Rattle.rules.specs.Permits.{zero_permits}
 use Rattle.rules.specs.State.{Kind, by_kind, Consumer, Dispatcher, State, ledger_of}
 use Rattle.rules.specs.State.Kind.{plain, shared}
 use Rattle.rules.specs.Commands.{with_permits}
 use Rattle.layout.specs.Whole.{Shaped}
+use Rattle.layout.specs.Fields.{zero_consumer, zero_dispatcher, consumer_nth, dispatcher_nth}
 use Rattle.layout.proofs.Valid.{ledger_fits}
 use Rattle.push_laws.specs.Local.{Fixed, Local, Step, LocalTurn, local_turn, then_turns, local_turns, fixed_of, local_of, turns_of, served}
 use Rattle.push_laws.specs.Local.LocalTurn.{stop, move}
 use Rattle.push_laws.specs.Applied.{with_each, record_of}
 use Rattle.push_laws.specs.Shared.{services, service_records, all_service_records}
 use Rattle.push_laws.specs.Plain.{plain_due, plain_records, ledger_for, all_plain_records}
+use Rattle.push_plain.specs.Sum.{AddedUp}
 use Rattle.push_plain.proofs.Entries.{length_records}
 use Rattle.push_turn.proofs.Left.{left, turn_lowers}
 use Rattle.push.specs.Bound.{total, waiting_at, waiting_for, waiting_shared, waiting_plain, most_due}
 
--- ---- a loop that adds up
+-- ---- numbers added up
 
-module _ {A : Type 0} (f : A → ℕ) (l : List A) where
-  -- one element more
-  total_turn : (i : ℕ) (z : A) → i < length l → total f (drop i l) ≡ f (get_or l i z) + total f (drop (i + 1) l)
+module _ {A : Type 0} (f : A → ℕ) where
+  -- an element more at the end
+  total_snoc : (l : List A) (a : A) → total f (l ++ a ∷ []) ≡ total f l + f a
   unfolding total
-  total_turn i z h = let on : i + 1 ≡ suc i = omega arith in rw (on, drop-cons l i z h)
+  total_snoc [] a = omega arith
+  total_snoc (b ∷ l) a = let h = total_snoc l a in omega arith
 
-  -- what was added up and what is left are all
-  pub record Adding (sum i : ℕ) : Type 0 where
-    pub all : sum + total f (drop i l) ≡ total f l
+  -- the numbers of the first elements of a list
+  added_part : (l : List A) (z : A) {P : ℕ → ℕ → Type 0} → ((i r : ℕ) → i < length l → P i r → r ≡ f (get_or l i z)) → (n s : ℕ) → n ≤ length l
+      → AddedUp P n s → s ≡ total f (take n l)
+  unfolding AddedUp total
+  added_part l z told zero s h e = e
+  added_part l z told (suc n) s h a =
+      let more = added_part l z told n a.0 (omega arith) a.2 in
+      let one = told n a.1 h a.3 in
+      let all = total_snoc (take n l) (get_or l n z) in
+      let sum = a.4 in
+      rw (take-suc l n z h) (omega (arith, more, one, all, sum))
 
-  -- nothing was added yet
-  pub adding_first : Adding 0 0
-  adding_first = record { all = omega arith }
+  -- those of a whole list
+  pub added_all : (l : List A) (z : A) {P : ℕ → ℕ → Type 0} → ((i r : ℕ) → i < length l → P i r → r ≡ f (get_or l i z)) → (n s : ℕ) → n ≡ length l
+      → AddedUp P n s → s ≡ total f l
+  added_all l z told n s e a = added_part l z told n s (omega arith) a ∙ ap (λ (k : List A). total f k) (take_all n l (omega arith))
 
-  module _ {sum i : ℕ} (g : Adding sum i) where
-    module _ (z : A) {r : ℕ} (h : i < length l) (e : r ≡ f (get_or l i z)) where
-      -- one element more
-      pub adding_on : Adding (sum + r) (i + 1)
-      adding_on = let t = total_turn i z h in let a = g.all in record { all = omega arith }
-
-      -- the sum stays below the whole
-      pub adding_below : sum + r ≤ total f l
-      adding_below = let t = total_turn i z h in let a = g.all in omega arith
-
-    -- nothing is left
-    pub adding_last : length l ≤ i → sum ≡ total f l
-    unfolding total
-    adding_last h =
-        let none : total f (drop i l) ≡ 0 = rw (drop_of_length-le l {i = i} h) in
-        let a = g.all in
-        omega arith
+-- a fact of each is one of each place
+each_at : {A : Type 0} (P : A → Type 0) (l : List A) (z : A) → All P l → (i : ℕ) → i < length l → P (get_or l i z)
+each_at P [] z h i k = absurd (omega arith)
+each_at P (a ∷ l) z h zero k = h.0
+each_at P (a ∷ l) z h (suc i) k = each_at P l z h.1 i (omega arith)
 
 -- a bound for each gives one for all
 total_few : {A : Type 0} (f : A → ℕ) (k : ℕ) (l : List A) → All (λ (a : A). f a ≤ k) l → total f l ≤ length l * k
@@ -90,27 +90,37 @@ module _ (s : State) (h : Shaped s) where
   ledgers_small : (topic : ℕ) → length (ledger_of s topic) ≤ 4096
   ledgers_small n = let f = ledger_fits s n h.each_topic in let e = h.E_most in omega arith
 
-  -- at most 8,192 for each of 8 dispatchers
-  pub shared_small : waiting_shared s ≤ 65536
+  -- at most 8,192 for a dispatcher
+  each_dispatcher_small : All (λ (d : Dispatcher). waiting_at s d ≤ 8192) s.dispatchers
   unfolding waiting_at
-  shared_small =
+  each_dispatcher_small =
       let e = h.E_most in
-      let n = h.dispatchers_fit in
-      let t = total_few (waiting_at s) 8192 s.dispatchers
-      (all_by s.dispatchers (λ d k. let q = k.queue_fits in let g = ledgers_small d.pair.topic in omega (arith, q, g, e)) h.each_dispatcher) in
-      omega (arith, n, t)
+      all_by s.dispatchers (λ d k. let q = k.queue_fits in let g = ledgers_small d.pair.topic in omega (arith, q, g, e)) h.each_dispatcher
 
-  -- at most 4,160 for each of 32 consumers
-  pub plain_small : waiting_plain s ≤ 133120
+  pub dispatcher_small : (i : ℕ) → i < length s.dispatchers → waiting_at s (dispatcher_nth s i) ≤ 8192
+  dispatcher_small i k = each_at _ s.dispatchers zero_dispatcher each_dispatcher_small i k
+
+  -- there are 8
+  shared_small : waiting_shared s ≤ 65536
+  shared_small =
+      let n = h.dispatchers_fit in let t = total_few (waiting_at s) 8192 s.dispatchers each_dispatcher_small in omega (arith, n, t)
+
+  -- at most 4,160 for a consumer
+  each_consumer_small : All (λ (c : Consumer). waiting_for s c ≤ 4160) s.consumers
   unfolding waiting_for
-  plain_small =
-      let n = h.consumers_fit in
-      let t = total_few (waiting_for s) 4160 s.consumers
-      (all_by s.consumers (λ c k.
+  each_consumer_small =
+      all_by s.consumers (λ c k.
       let b = kind_below c.kind (length c.nacked + (length (ledger_for s c) - c.cursor)) in
       let g = ledgers_small c.pair.topic in
-      omega (arith, b, g, k)) h.each_consumer) in
-      omega (arith, n, t)
+      omega (arith, b, g, k)) h.each_consumer
+
+  pub consumer_small : (i : ℕ) → i < length s.consumers → waiting_for s (consumer_nth s i) ≤ 4160
+  consumer_small i k = each_at _ s.consumers zero_consumer each_consumer_small i k
+
+  -- there are 32
+  plain_small : waiting_plain s ≤ 133120
+  plain_small =
+      let n = h.consumers_fit in let t = total_few (waiting_for s) 4160 s.consumers each_consumer_small in omega (arith, n, t)
 
   -- all of it
   pub most_small : most_due s ≤ 198656

@@ -178,3 +178,13 @@ module _ {e : ℕ} (ws : List ℕ) (spelt : spells ws ≡ true) (E : e ≡ (deco
           ∙ ap (λ (j : ℕ). filled (filled ls 0 (shared_records s)) j (plain_records s)) (sym zero_first)
           ∙ sym (filled_append ls 0 (shared_records s) (plain_records s))
           ∙ ap (λ (x : List Dispatch). filled ls 0 x) (all_records s)
+
+-- what is counted, shared part and plain part by the permits that the shared part leaves, is the number due
+pub due_sum : (s : State) {q l : List ℕ} {a b : ℕ} → q ≡ permits_now s → a ≡ length (all_service_records s (services s s.dispatchers q))
+    → l ≡ permits_left q (services s s.dispatchers q) → b ≡ length (all_plain_records s (with_each s.consumers l))
+    → a + b ≡ length (local_push s).dispatched
+due_sum s p f g h =
+    let a = f ∙ ap (λ (q : List ℕ). length (all_service_records s (services s s.dispatchers q))) p in
+    let l = g ∙ ap (λ (q : List ℕ). permits_left q (services s s.dispatchers q)) p in
+    let b = h ∙ ap (λ (q : List ℕ). length (all_plain_records s (with_each s.consumers q))) l in
+    ap₂ {A = ℕ} {B = ℕ} {C = ℕ} ◌+◌ a b ∙ all_counted s

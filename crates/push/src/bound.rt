@@ -13,7 +13,7 @@ use dispatcher::numbers::{load_head, topic};
 use dispatcher::queue::queue_count;
 use dispatcher::table::dispatcher_count;
 use push_plain::due::waiting;
-use push_plain::reader::smaller;
+use push_plain::sum::added_up;
 use topic::table::ledger_length;
 
 // How many entries wait for dispatcher `d`.
@@ -23,8 +23,7 @@ fn waiting_at(store: &[u64], e: usize, d: usize) -> usize
 {
     let n = ledger_length(store, e, topic(store, e, d));
     let head = load_head(store, e, d);
-    let from = smaller(head.cursor, n);
-    queue_count(store, e, d) + (n - from)
+    queue_count(store, e, d) + n.saturating_sub(head.cursor)
 }
 
 // How many entries wait for consumer `i`, if it is a plain one.
@@ -33,9 +32,10 @@ fn waiting_for(store: &[u64], e: usize, i: usize) -> usize
     ensures { result ≡ waiting_for (decode store.now) (consumer_now store.now i) }
 {
     if is_shared(store, e, i) {
-        return 0;
+        0
+    } else {
+        waiting(store, e, i)
     }
-    waiting(store, e, i)
 }
 
 // How many entries wait for the dispatchers.
@@ -43,12 +43,7 @@ fn waiting_shared(store: &[u64], e: usize) -> usize
     requires { CanonStore e store.now }
     ensures { result ≡ waiting_shared (decode store.now) }
 {
-    let n = dispatcher_count(store, e);
-    let mut sum = 0;
-    for d in 0..n {
-        sum += waiting_at(store, e, d);
-    }
-    sum
+    added_up(dispatcher_count(store, e), |d| waiting_at(store, e, d))
 }
 
 // How many entries wait for the plain consumers.
@@ -56,12 +51,7 @@ fn waiting_plain(store: &[u64], e: usize) -> usize
     requires { CanonStore e store.now }
     ensures { result ≡ waiting_plain (decode store.now) }
 {
-    let n = consumer_count(store, e);
-    let mut sum = 0;
-    for i in 0..n {
-        sum += waiting_for(store, e, i);
-    }
-    sum
+    added_up(consumer_count(store, e), |i| waiting_for(store, e, i))
 }
 
 // How many entries wait: a list with room for as many records has room for all that a push dispatches.

@@ -31,8 +31,8 @@ fn load_permits(store: &[u64], e: usize, list: &mut [u64])
     requires { CanonStore e store.now × (length list.old ≡ length (decode store.now).consumers) }
     ensures { list.new ≡ permits_now (decode store.now) }
 {
-    for i in 0..list.len() {
-        list[i] = permits(store, e, i);
+    for (i, held) in list.iter_mut().enumerate() {
+        *held = permits(store, e, i);
     }
 }
 

@@ -144,10 +144,6 @@ length_records g c (suc n) = ap suc (length_records g (after_one c) n)
 
 -- ---- how many are due
 
--- l handed back, and those of g entries from k on, where code looks no further than the end
-pub wait : (l g k : ℕ) {l' g' k' s : ℕ} → l' ≡ l → g' ≡ g → k' ≡ k → s ≡ min k' g' → l' + (g' - s) ≡ l + (g - k)
-wait l g k {l'} {g'} {k'} {s} a b c d = let e : g' - s ≡ g - k = omega arith in omega arith
-
 -- one of the two, by the kind
 module _ (g : List StoredMessage) (c : Consumer) where
   pub due_shared : c.kind ≡ shared → plain_due g c ≡ 0

@@ -1,7 +1,7 @@
 -- All consumers' parts, one after the other, by the permits given: how many entries, which records, which words.
 use mathlib.Core.Path.{◌≡◌, refl, ap, ◌∙◌}
 use mathlib.Core.List.{List, ◌++◌}
-use Prim.Native.Nat.{ℕ, ◌+◌, ◌≤◌, ◌<◌}
+use Prim.Native.Nat.{ℕ, zero, suc, ◌+◌, ◌≤◌, ◌<◌}
 use native.Mathlib.Omega.{arith}
 use lib.ListN.{length, get_or, drop, drop_of_length-le}
 use Rattle.rules.specs.State.{StoredMessage, Consumer, State}
@@ -14,6 +14,7 @@ use Rattle.topic.proofs.LedgerWords.{ledger_fits}
 use Rattle.push_laws.specs.Applied.{with_each}
 use Rattle.push_laws.specs.Plain.{plain_due, plain_records, ledger_for, all_plain_records}
 use Rattle.push_laws.proofs.Each.{length_each, nth_each}
+use Rattle.push_plain.specs.Sum.{AddedUp}
 use Rattle.push_plain.proofs.Entries.{all_turn, all_turn_length, charged_waiting}
 
 -- the ledger does not change with the permits
@@ -57,14 +58,29 @@ module _ (s : State) (ps : List ℕ) where
         ∙ ap (λ (g : List StoredMessage). plain_records g (with_permits (consumer_nth s i) (get_or ps i 0)) (plain_due g (with_permits (consumer_nth s i) (get_or ps i 0))) ++ all_plain_records s (drop (i + 1) full))
         (same_ledger s (consumer_nth s i) (get_or ps i 0))
 
-  -- none was counted
-  pub due_first : 0 + length (all_plain_records s (drop 0 full)) ≡ length (all_plain_records s full)
-  due_first = omega arith
-
   -- none is left
-  pub due_rest : (i : ℕ) → length s.consumers ≤ i → length (all_plain_records s (drop i full)) ≡ 0
+  due_rest : (i : ℕ) → length s.consumers ≤ i → length (all_plain_records s (drop i full)) ≡ 0
   unfolding all_plain_records
   due_rest i h = rw (drop_of_length-le full {i = i} (rw (length_each s.consumers ps) h))
+
+  -- the numbers due, added up for the first n consumers, and what is left after these
+  added_due : {P : ℕ → ℕ → Type 0} → ((i r : ℕ) → i < length s.consumers → P i r → r ≡ due_of i) → (n t : ℕ) → n ≤ length s.consumers → AddedUp P n t
+      → t + length (all_plain_records s (drop n full)) ≡ length (all_plain_records s full)
+  unfolding AddedUp
+  added_due told zero t h e = omega arith
+  added_due told (suc n) t h a =
+      let more = added_due told n a.0 (omega arith) a.2 in
+      let one = told n a.1 h a.3 in
+      let turn = due_turn n h in
+      let on : suc n ≡ n + 1 = omega arith in
+      let sum = a.4 in
+      rw on (omega arith)
+
+  -- those of all consumers
+  pub added_all_due : {P : ℕ → ℕ → Type 0} → ((i r : ℕ) → i < length s.consumers → P i r → r ≡ due_of i) → (n t : ℕ) → n ≡ length s.consumers
+      → AddedUp P n t → t ≡ length (all_plain_records s full)
+  added_all_due told n t e a =
+      let f = added_due told n t (omega arith) a in let none = due_rest n (omega arith) in omega arith
 
 -- a consumer is due at most 64 and E entries
 pub due_few : {e : ℕ} {ws : List ℕ} (h : CanonStore e ws) (i p : ℕ) → i < length (decode ws).consumers

@@ -10,6 +10,7 @@ use Rattle.layout.specs.Layout.{decode}
 use Rattle.layout.specs.Fields.{consumer_nth, topic_nth, consumer_now}
 use Rattle.layout.specs.Placed.{ConsumerIn, TopicIn}
 use Rattle.push_laws.specs.Applied.{with_each}
+use Rattle.push_plain.specs.declared.serve.Reader as readers
 use Rattle.push_laws.specs.Plain.{plain_due, plain_records, ledger_for, plain_served, all_plain_records}
 
 -- the position of entry j of those that wait: the nacked ones first, then from the cursor on
@@ -81,6 +82,10 @@ pub record Sendable (e : ℕ) (ws : List ℕ) (i t permits n : ℕ) : Type 0 whe
   pub permitted : n ≤ permits
   pub low : (consumer_nth (decode ws) i).cursor ≤ 4096
   pub few : n ≤ 4160
+
+-- the same of a consumer that code has by value
+abbrev pub SendableTo : readers.Reader → List ℕ → ℕ → Type 0
+SendableTo r ws n = Sendable r.e ws r.i r.t r.permits n
 
 -- the consumers after their parts, by the permits given
 unfoldable pub all_served : State → List ℕ → List Consumer

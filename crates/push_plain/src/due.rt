@@ -6,7 +6,7 @@ ghost use Rattle.layout.specs.Fields.{consumer_now};
 ghost use Rattle.layout.specs.Placed.{ConsumerIn};
 ghost use Rattle.push_plain.specs.Reading.{ledger_now, due_now, plain_records_now};
 
-use super::reader::smaller;
+use super::sum::added_up;
 use consumer::fields::{cursor, is_shared, topic};
 use consumer::nacked::nacked_count;
 use store::permits::ZERO_PERMITS;
@@ -16,10 +16,7 @@ use topic::table::ledger_length;
 fn permitted(permits: u64, n: usize) -> usize
     ensures { result ≡ min (permits - zero_permits) n }
 {
-    if permits < ZERO_PERMITS {
-        return 0;
-    }
-    smaller((permits - ZERO_PERMITS) as usize, n)
+    (permits.saturating_sub(ZERO_PERMITS) as usize).min(n)
 }
 
 // How many entries wait for consumer `i`.
@@ -29,8 +26,7 @@ pub fn waiting(store: &[u64], e: usize, i: usize) -> usize
         + (length (ledger_now store.now i) - (consumer_now store.now i).cursor) }
 {
     let n = ledger_length(store, e, topic(store, e, i));
-    let from = smaller(cursor(store, e, i), n);
-    nacked_count(store, e, i) + (n - from)
+    nacked_count(store, e, i) + n.saturating_sub(cursor(store, e, i))
 }
 
 // How many entries consumer `i` is due with other permits.
@@ -39,9 +35,10 @@ pub(crate) fn plain_due(store: &[u64], e: usize, i: usize, permits: u64) -> usiz
     ensures { result ≡ due_now store.now i permits }
 {
     if is_shared(store, e, i) {
-        return 0;
+        0
+    } else {
+        permitted(permits, waiting(store, e, i))
     }
-    permitted(permits, waiting(store, e, i))
 }
 
 // How many entries all consumers are due, each with its permits of `permits`.
@@ -50,10 +47,5 @@ pub fn due_plain(store: &[u64], e: usize, permits: &[u64]) -> usize
         × (length permits.now ≡ length (decode store.now).consumers) }
     ensures { result ≡ length (plain_records_now store.now permits.now) }
 {
-    let n = permits.len();
-    let mut due = 0;
-    for i in 0..n {
-        due += plain_due(store, e, i, permits[i]);
-    }
-    due
+    added_up(permits.len(), |i| plain_due(store, e, i, permits[i]))
 }

@@ -5,3 +5,4 @@
 pub mod due;
 pub mod reader;
 pub mod serve;
+pub mod sum;

@@ -1,5 +1,5 @@
 // What a plain consumer is to read: its nacked entries, then its ledger from the cursor on.
-ghost use Rattle.std.specs.Prelude.{◌≡◌, ◌+◌, ◌-◌, ◌≤◌, min, length, drop};
+ghost use Rattle.std.specs.Prelude.{◌≡◌, ◌+◌, ◌-◌, ◌≤◌, length, drop};
 ghost use Rattle.rules.specs.Commands.{with_reading};
 ghost use Rattle.layout.specs.Fields.{consumer_now, consumer_changed};
 ghost use Rattle.layout.specs.Placed.{ConsumerIn};
@@ -15,16 +15,10 @@ pub(crate) fn position(store: &[u64], e: usize, i: usize, j: usize) -> usize
 {
     let n = nacked_count(store, e, i);
     if j < n {
-        return nacked(store, e, i, j);
+        nacked(store, e, i, j)
+    } else {
+        cursor(store, e, i) + (j - n)
     }
-    cursor(store, e, i) + (j - n)
-}
-
-// The smaller of two numbers.
-pub fn smaller(a: usize, b: usize) -> usize
-    ensures { result ≡ min a b }
-{
-    if a < b { a } else { b }
 }
 
 // Consumer `i` reads `n` entries: nacked ones are taken out, and the cursor moves on by the others.
@@ -33,7 +27,7 @@ pub(crate) fn read_on(store: &mut [u64], e: usize, i: usize, n: usize)
     ensures { store.new ≡ consumer_changed store.old i
         (λ x. with_reading x (x.cursor + (n - length x.nacked)) (drop n x.nacked)) }
 {
-    let taken = smaller(n, nacked_count(store, e, i));
+    let taken = n.min(nacked_count(store, e, i));
     let from = cursor(store, e, i);
     set_cursor(store, e, i, from + (n - taken));
     drop_nacked(store, e, i, taken);

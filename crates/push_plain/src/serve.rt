@@ -12,7 +12,7 @@ ghost use Rattle.record.specs.Flat.{filled, record_words};
 ghost use Rattle.push_laws.specs.Applied.{with_each};
 ghost use Rattle.push_laws.specs.Plain.{plain_served};
 ghost use Rattle.push_plain.specs.Reading.{record_to, entry_record, entries_taken, ledger_now, due_now, records_now, plain_records_now};
-ghost use Rattle.push_plain.specs.Reading.{ReadableConsumer, Readable, Sendable};
+ghost use Rattle.push_plain.specs.Reading.{ReadableConsumer, Readable, SendableTo};
 
 use super::due::plain_due;
 use super::reader::{position, read_on};
@@ -21,6 +21,15 @@ use consumer::fields::{consumer_id, set_permits, topic};
 use record::{Dispatch, signed, write_record};
 use topic::message::load_message;
 use topic::table::find_topic;
+
+// A plain consumer that is due entries: E, its slot, the slot of its topic, and the permits that it gets.
+#[derive(Clone, Copy)]
+struct Reader {
+    e: usize,
+    i: usize,
+    t: usize,
+    permits: u64,
+}
 
 // The record of message `k` of topic `t`, to the consumer with an id, with its permits after it.
 fn plain_record(store: &[u64], e: usize, t: usize, k: usize, id: u64, permits: u64) -> Dispatch
@@ -48,43 +57,26 @@ fn plain_record(store: &[u64], e: usize, t: usize, k: usize, id: u64, permits: u
     }
 }
 
-// Entry `j` of those that wait for consumer `i` becomes record `m` of a list.
-fn send_entry(
-    store: &[u64],
-    e: usize,
-    i: usize,
-    t: usize,
-    permits: u64,
-    j: usize,
-    list: &mut [u64],
-    m: usize,
-)
-    requires { Sendable e store.now i t permits (j + 1) × (m * 13 + 13 ≤ length list.old) }
-    ensures { list.new ≡ (lay (flat (entry_record (ledger_now store.now i)
-        (with_permits (consumer_now store.now i) permits) j))).run (m * 13) list.old }
+// Entry `j` of those that wait for a reader becomes record `m` of a list.
+fn send_entry(store: &[u64], reader: Reader, j: usize, list: &mut [u64], m: usize)
+    requires { SendableTo reader store.now (j + 1) × (m * 13 + 13 ≤ length list.old) }
+    ensures { list.new ≡ (lay (flat (entry_record (ledger_now store.now reader.i)
+        (with_permits (consumer_now store.now reader.i) reader.permits) j))).run (m * 13) list.old }
 {
-    let k = position(store, e, i, j);
-    let id = consumer_id(store, e, i);
-    let x = plain_record(store, e, t, k, id, permits - (j as u64) - 1);
+    let k = position(store, reader.e, reader.i, j);
+    let id = consumer_id(store, reader.e, reader.i);
+    let left = reader.permits - (j as u64) - 1;
+    let x = plain_record(store, reader.e, reader.t, k, id, left);
     write_record(list, m, x);
 }
 
-// The next `n` entries of consumer `i`, whose topic is in slot `t`, become records of a list.
-fn serve_records(
-    store: &[u64],
-    e: usize,
-    i: usize,
-    t: usize,
-    permits: u64,
-    n: usize,
-    list: &mut [u64],
-    m: usize,
-)
-    requires { Sendable e store.now i t permits n × ((m + n) * 13 ≤ length list.old) }
-    ensures { list.new ≡ filled list.old m (records_now store.now i permits n) }
+// The next `n` entries of a reader become records of a list.
+fn serve_records(store: &[u64], reader: Reader, n: usize, list: &mut [u64], m: usize)
+    requires { SendableTo reader store.now n × ((m + n) * 13 ≤ length list.old) }
+    ensures { list.new ≡ filled list.old m (records_now store.now reader.i reader.permits n) }
 {
     for j in 0..n {
-        send_entry(store, e, i, t, permits, j, list, m + j);
+        send_entry(store, reader, j, list, m + j);
     }
 }
 
@@ -99,7 +91,8 @@ fn serve_due(store: &[u64], e: usize, i: usize, permits: u64, n: usize, list: &m
         return;
     }
     let t = find_topic(store, e, topic(store, e, i));
-    serve_records(store, e, i, t, permits, n, list, m);
+    let reader = Reader { e, i, t, permits };
+    serve_records(store, reader, n, list, m);
 }
 
 // Consumer `i` gets other permits and has `n` entries taken.
@@ -150,10 +143,9 @@ pub fn serve_plain(
         (λ s. with_consumers s (map (plain_served s) (with_each s.consumers permits.now))) }
     ensures records { list.new ≡ filled list.old m (plain_records_now store.old permits.now) }
 {
-    let n = permits.len();
     let mut at = m;
-    for i in 0..n {
-        at = serve_consumer(store, e, i, permits[i], list, at);
+    for (i, held) in permits.iter().enumerate() {
+        at = serve_consumer(store, e, i, *held, list, at);
     }
     at
 }

@@ -36,9 +36,7 @@ pub(crate) fn fill(list: &mut [Dispatch], flat: &[u64], n: usize)
     requires { (n ≤ length list.old) × (n * 13 ≤ length flat.now) }
     ensures { list.new ≡ records_in flat.now n ++ drop n list.old }
 {
-    let mut i = 0;
-    while i < n {
+    for i in 0..n {
         list[i] = read_record(flat, i);
-        i += 1;
     }
 }

@@ -15,10 +15,7 @@ use refusal::NUMBERS;
 fn room(words: usize, records: usize) -> usize
     ensures { result ≡ room words records }
 {
-    if words / RECORD_WORDS < records {
-        return words / RECORD_WORDS;
-    }
-    records
+    (words / RECORD_WORDS).min(records)
 }
 
 // The flat push into as much of a flat list as a list of so many records can take.
@@ -32,14 +29,16 @@ fn push_flat(store: &mut [u64], flat: &mut [u64], records: usize) -> u64
     broker_push(store, &mut flat[..end])
 }
 
-// How many dispatches an answer of push says were made: none with a refusal.
+// How many dispatches an answer of push says were made: none with a refusal. The push that is called here is the one
+// for C, and its answer is one word.
 fn made(answer: u64) -> usize
     ensures { result ≡ cond (eqb (answer % 256) 0) (answer / 256) 0 }
 {
     if answer % NUMBERS == 0 {
-        return (answer / NUMBERS) as usize;
+        (answer / NUMBERS) as usize
+    } else {
+        0
     }
-    0
 }
 
 // Push into a list of dispatches, over a flat list for its words. The answer and the store are those of the

@@ -1,13 +1,16 @@
 -- The service of a dispatcher of a state, named by its place.
-use Rattle.std.specs.Prelude.{ℕ, List}
+use Rattle.std.specs.Prelude.{◌≡◌, ℕ, ◌+◌, List, length}
 use Rattle.rules.specs.Table.{Every}
 use Rattle.rules.specs.State.{Dispatcher, State}
 use Rattle.rules.specs.Outcome.{Dispatch}
 use Rattle.rules.specs.Valid.{ValidTopic, ValidDispatcher}
 use Rattle.layout.specs.Layout.{decode}
 use Rattle.layout.specs.Placed.{DispatcherIn}
-use Rattle.layout.specs.Fields.{dispatcher_nth}
+use Rattle.layout.specs.Whole.{ShapedDispatcher}
+use Rattle.layout.specs.Fields.{dispatcher_nth, put_dispatcher_at}
+use Rattle.record.specs.Flat.{filled}
 use Rattle.push_laws.specs.Local.{served}
+use Rattle.push_turn.specs.Turns.{served_now}
 use Rattle.push_laws.specs.Shared.{Service, service_records, served_dispatcher}
 
 -- dispatcher d and the steps of its service, from some permits
@@ -27,3 +30,12 @@ pub record Ready (e : ℕ) (ws : List ℕ) (d : ℕ) : Type 0 where
   pub here : DispatcherIn e ws d
   pub dispatcher_valid : ValidDispatcher (decode ws) (dispatcher_nth (decode ws) d)
   pub topics_valid : Every (ValidTopic (decode ws).entries) (decode ws).topics
+
+-- a service of dispatcher d is written, from some words, permits and list: the words, permits and list after it, and the
+-- number of the record after its last
+pub record Written (e : ℕ) (ws : List ℕ) (d : ℕ) (ps ls : List ℕ) (from : ℕ) (us qs ks : List ℕ) (m : ℕ) : Type 0 where
+  pub value : m ≡ from + length (served_now ws d ps).made
+  pub words : us ≡ put_dispatcher_at ws d (dispatcher_served ws d ps)
+  pub permits : qs ≡ (served_now ws d ps).after.permits
+  pub records : ks ≡ filled ls from (records_served ws d ps)
+  pub fits : ShapedDispatcher e (dispatcher_served ws d ps)

@@ -8,12 +8,13 @@ ghost use Rattle.layout.specs.Layout.{decode};
 ghost use Rattle.layout.specs.Fields.{dispatcher_now, dispatcher_changed};
 ghost use Rattle.record.specs.Flat.{filled, record_words};
 ghost use Rattle.push_laws.specs.Applied.{record_to, record_of, held_of};
-ghost use Rattle.push_turn.specs.Turns.{step_of, fixed_now, Serving};
+ghost use Rattle.push_turn.specs.Turns.{step_of, fixed_now, ServedHere};
 
 use bits::UnackedBits;
 use consumer::fields::consumer_id;
 use dispatcher::flight::append_flight;
 use dispatcher::marks::load_mark;
+use push_turn::service::Served;
 use push_turn::turn::Step;
 use record::{Dispatch, signed, write_record};
 use topic::message::load_message;
@@ -24,18 +25,19 @@ fn ack_set_words(bits: UnackedBits, batch: u64) -> u64
     ensures { result ≡ cond (bits_empty (words bits)) 0 (word_count batch) }
 {
     if bits.bits_empty() {
-        return 0;
+        0
+    } else {
+        (batch + 63) / 64
     }
-    (batch + 63) / 64
 }
 
-// The record of a step of dispatcher `d`, to the consumer `id`.
-fn record_to(store: &[u64], e: usize, d: usize, t: usize, n: usize, id: u64, step: Step) -> Dispatch
-    requires { Serving e store.now d t n × (step.position < n) }
-    ensures { record_words result ≡ flat (record_to id (fixed_now store.now d) (step_of step)) }
+// The record of a step of a dispatcher, to the consumer `id`.
+fn record_to(store: &[u64], served: Served, id: u64, step: Step) -> Dispatch
+    requires { ServedHere served store.now × (step.position < served.n) }
+    ensures { record_words result ≡ flat (record_to id (fixed_now store.now served.d) (step_of step)) }
 {
-    let message = load_message(store, e, t, step.position);
-    let mark = load_mark(store, e, d, step.position);
+    let message = load_message(store, served.e, served.t, step.position);
+    let mark = load_mark(store, served.e, served.d, step.position);
     let bits = mark.unacked;
     let words = ack_set_words(bits, message.batch_size);
     Dispatch {
@@ -52,27 +54,18 @@ fn record_to(store: &[u64], e: usize, d: usize, t: usize, n: usize, id: u64, ste
     }
 }
 
-// Record `m` of the list is that of a step of dispatcher `d`, and its entry is in flight.
-pub(crate) fn deliver(
-    store: &mut [u64],
-    e: usize,
-    d: usize,
-    t: usize,
-    n: usize,
-    list: &mut [u64],
-    m: usize,
-    step: Step,
-)
-    requires { Serving e store.old d t n × (step.position < n) × (step.consumer < length (decode store.old).consumers)
-        × (length (dispatcher_now store.old d).in_flight < e) × (m * 13 + 13 ≤ length list.old) }
-    ensures words { store.new ≡ dispatcher_changed store.old d
+// Record `m` of the list is that of a step of a dispatcher, and its entry is in flight.
+pub(crate) fn deliver(store: &mut [u64], served: Served, list: &mut [u64], m: usize, step: Step)
+    requires { ServedHere served store.old × (step.position < served.n) × (step.consumer < length (decode store.old).consumers)
+        × (length (dispatcher_now store.old served.d).in_flight < served.e) × (m * 13 + 13 ≤ length list.old) }
+    ensures words { store.new ≡ dispatcher_changed store.old served.d
         (λ x. with_places x x.redelivery (x.in_flight ++ held_of (decode store.old) (step_of step) ∷ [])) }
     ensures records { list.new ≡ filled list.old m
-        (record_of (decode store.old) (fixed_now store.old d) (step_of step) ∷ []) }
+        (record_of (decode store.old) (fixed_now store.old served.d) (step_of step) ∷ []) }
 {
-    let id = consumer_id(store, e, step.consumer);
+    let id = consumer_id(store, served.e, step.consumer);
     let k = step.position;
-    let record = record_to(store, e, d, t, n, id, step);
+    let record = record_to(store, served, id, step);
     write_record(list, m, record);
-    append_flight(store, e, d, id, k);
+    append_flight(store, served.e, served.d, id, k);
 }

@@ -1,15 +1,20 @@
--- The choice of a place: what is ahead of a loop over part of a ring is the whole, and the two parts of a ring make up the
--- choice that goes round.
+-- The choice of a place: what the search of a part of a ring finds is the part's first place, and the two parts of a ring
+-- make up the choice that goes round.
 use mathlib.Core.Path.{◌≡◌, refl, sym, ap, ◌∙◌}
-use mathlib.Core.Bool.{true, false, true≢false}
+use mathlib.Core.Bool.{Bool, false, true≢false}
 use mathlib.Core.List.{List, [], ◌∷◌}
 use mathlib.Core.Option.{Option, none, some}
 use Prim.Native.Nat.{ℕ, zero, suc, ◌+◌, ◌-◌, ◌≤◌, ◌<◌}
 use native.Mathlib.Omega.{arith}
 use lib.Dec.{ltb}
-use lib.ListN.{length, get_or, take, drop, length-drop}
-use lib.Seq.{drop-cons, take_all}
-use borrow.Author.Tests.{ltb-true, lt-ltb, le-ltb}
+use lib.ListN.{length, get_or, take, drop, length-drop, length-take}
+use lib.Seq.{take_all}
+use borrow.Author.Tests.{ltb-true, ltb-false, le-ltb}
+use Rattle.std.specs.Prelude as prelude
+use Rattle.std.specs.Prelude.{Some, None}
+use Rattle.std.specs.List.{position, position_or_len}
+use Rattle.std.proofs.lemmas.List.{get_or-drop, get_or-take}
+use Rattle.std.proofs.lemmas.Option.{cond_some, none-some}
 use Rattle.rules.specs.Permits.{zero_permits, above_zero}
 use Rattle.rules.specs.Table.{is_some, or_else}
 use Rattle.rules.proofs.Table.{by_test}
@@ -23,116 +28,90 @@ none_past [] c h = sym (le-ltb zero_permits 0 (omega arith))
 none_past (p ∷ permits) zero h = absurd (omega arith)
 none_past (p ∷ permits) (suc c) h = none_past permits c (omega arith)
 
-module _ (ring permits : List ℕ) (from to : ℕ) where
-  -- what is ready from j on is what is ready of the whole
-  abbrev pub Ahead : ℕ → Type 0
-  Ahead j =
-      first_with_permits permits j (take (to - j) (drop j ring)) none
-      ≡ first_with_permits permits from (take (to - from) (drop from ring)) none
-
-  module _ (within : to ≤ length ring) where
-    -- the part from j on starts with the place at j
-    part_cons : (j : ℕ) → j < to → take (to - j) (drop j ring) ≡ get_or ring j 0 ∷ take (to - (j + 1)) (drop (j + 1) ring)
-    part_cons j h =
-        let n : to - j ≡ suc (to - (j + 1)) = omega arith in
-        let m : suc j ≡ j + 1 = omega arith in
-        rw (drop-cons ring j 0 (omega arith), n, m)
-
-    -- the place at j is ready
-    pub ahead_here : (j : ℕ) → j < to → Ahead j → above_zero (get_or permits (get_or ring j 0) 0) ≡ true
-        → place_named ring to j ≡ first_with_permits permits from (take (to - from) (drop from ring)) none
-    unfolding place_named first_with_permits
-    ahead_here j h a t =
-        let e : first_with_permits permits j (take (to - j) (drop j ring)) none ≡ some (record { place = j; consumer = get_or ring j 0 }) =
-        rw (part_cons j h, t) in
-        rw (lt-ltb j to h) (sym e ∙ a)
-
-    -- it is not
-    pub ahead_on : (j : ℕ) → j < to → Ahead j → above_zero (get_or permits (get_or ring j 0) 0) ≡ false → Ahead (j + 1)
-    unfolding first_with_permits
-    ahead_on j h a t =
-        let m : suc j ≡ j + 1 = omega arith in
-        let e : first_with_permits permits j (take (to - j) (drop j ring)) none ≡ first_with_permits permits (j + 1) (take (to - (j + 1)) (drop (j + 1) ring)) none =
-        rw (part_cons j h, t, m) in
-        sym e ∙ a
-
-    -- no place is left
-    pub ahead_end : (j : ℕ) → to ≤ j → Ahead j
-        → place_named ring to to ≡ first_with_permits permits from (take (to - from) (drop from ring)) none
-    unfolding place_named first_with_permits
-    ahead_end j h a =
-        let n : to - j ≡ 0 = omega arith in
-        let e : first_with_permits permits j (take (to - j) (drop j ring)) none ≡ none = rw n in
-        rw (le-ltb to to (omega arith)) (sym e ∙ a)
-
--- ---- the two parts
-
 -- a place is not none
 pub some_not_none : {p : Place} → some p ≡ none → ⊥
 unfolding is_some
 some_not_none e = true≢false (ap (λ (o : Option Place). is_some o) e)
 
+-- ---- a part of a ring
+
 module _ (permits : List ℕ) where
-  -- a place that is ready is chosen, whatever follows
-  first_some : (k : ℕ) (ring : List ℕ) (more : Option Place) (p : Place) → first_with_permits permits k ring none ≡ some p
-      → first_with_permits permits k ring more ≡ some p
+  -- whether the consumer in a slot has permits
+  abbrev pub has : ℕ → Bool
+  has c = above_zero (get_or permits c 0)
+
+  -- the first place of a part whose consumer has, or the part's length
+  abbrev first : List ℕ → ℕ
+  first part = position_or_len has part
+
+  -- where there is one, it is the first from k on, whatever follows
+  first_found : (k : ℕ) (part : List ℕ) (more : Option Place) → first part < length part
+      → first_with_permits permits k part more ≡ some (record { place = k + first part; consumer = get_or part (first part) 0 })
   unfolding first_with_permits
-  first_some k [] more p e = absurd (some_not_none (sym e))
-  first_some k (c ∷ ring) more p e =
-      by_test (above_zero (get_or permits c 0)) (λ t. rw t (rw t at e)) (λ t. rw t (first_some (suc k) ring more p (rw t at e)))
+  first_found k [] more h = absurd (omega arith)
+  first_found k (c ∷ part) more h =
+      by_test (has c) (λ t. let z : k + 0 ≡ k = omega arith in rw (t, z))
+      (λ t. let a : 1 + first part ≡ suc (first part) = omega arith in
+      let b : k + suc (first part) ≡ suc k + first part = omega arith in
+      let i : 1 + first part < suc (length part) = rw t at h in
+      rw (t, a, b) (first_found (suc k) part more (omega arith)))
 
-  -- where none is, what follows counts
-  first_none : (k : ℕ) (ring : List ℕ) (more : Option Place) → first_with_permits permits k ring none ≡ none
-      → first_with_permits permits k ring more ≡ more
+  -- where there is none, what follows counts
+  first_missing : (k : ℕ) (part : List ℕ) (more : Option Place) → length part ≤ first part → first_with_permits permits k part more ≡ more
   unfolding first_with_permits
-  first_none k [] more e = refl
-  first_none k (c ∷ ring) more e =
-      by_test (above_zero (get_or permits c 0)) (λ t. absurd (some_not_none (rw t at e)))
-      (λ t. rw t (first_none (suc k) ring more (rw t at e)))
+  first_missing k [] more h = refl
+  first_missing k (c ∷ part) more h =
+      by_test (has c) (λ t. let i : suc (length part) ≤ 0 = rw t at h in absurd (omega arith))
+      (λ t. let i : suc (length part) ≤ 1 + first part = rw t at h in rw t (first_missing (suc k) part more (omega arith)))
 
-module _ (ring : List ℕ) where
-  -- a place that is named below the end
-  pub named : (end r : ℕ) → r < end → place_named ring end r ≡ some (record { place = r; consumer = get_or ring r 0 })
-  unfolding place_named
-  named end r h = rw (lt-ltb r end h)
+  -- what a search says that finds a place
+  searched : (part : List ℕ) (r : ℕ) → Some r ≡ position has part → (first part < length part) × (first part ≡ r)
+  searched part r e = let q = cond_some (ltb (first part) (length part)) (first part) r (sym e) in (ltb-true _ _ q.0, q.1)
 
-  -- none is, at the end
-  pub not_named : (end r : ℕ) → end ≤ r → place_named ring end r ≡ none
-  unfolding place_named
-  not_named end r h = rw (le-ltb r end h)
+  -- and one that finds none
+  searched_not : (part : List ℕ) → None ≡ position has part → length part ≤ first part
+  searched_not part e =
+      by_test (ltb (first part) (length part)) (λ t. absurd (none-some _ (rw t at e))) (λ t. ltb-false (first part) (length part) t)
 
-module _ (ring permits : List ℕ) (next : ℕ) (within : next ≤ length ring) where
-  module _ (r : ℕ) (e : place_named ring (length ring) r ≡ first_with_permits permits next (take (length ring - next) (drop next ring)) none) where
-    -- the part from next on is all of the rest
-    rest : place_named ring (length ring) r ≡ first_with_permits permits next (drop next ring) none
-    rest =
-        let l = length-drop next ring in
-        e ∙ ap (λ (m : List ℕ). first_with_permits permits next m none) (take_all (length ring - next) (drop next ring) (omega arith))
+  -- ---- the two parts
+
+  module _ (ring : List ℕ) (next : ℕ) (within : next ≤ length ring) where
+    -- the first part as code lends it
+    rest : take (length ring - next) (drop next ring) ≡ drop next ring
+    rest = let l = length-drop next ring in take_all (length ring - next) (drop next ring) (omega arith)
 
     -- a place from next on
-    pub chosen_first : r < length ring → place_named ring (length ring) r ≡ first_place ring permits next
-    unfolding first_place
-    chosen_first h =
-        let n = named ring (length ring) r h in
-        n ∙ sym (first_some permits next (drop next ring) (first_with_permits permits 0 (take next ring) none) _ (sym rest ∙ n))
+    pub chosen_first : (r : ℕ) → Some r ≡ position has (take (length ring - next) (drop next ring))
+        → place_named ring (Some (next + r)) ≡ first_place ring permits next
+    unfolding place_named first_place
+    chosen_first r e =
+        let q = searched (drop next ring) r (rw rest at e) in
+        let f = first_found next (drop next ring) (first_with_permits permits 0 (take next ring) none) q.0 in
+        let g : first_with_permits permits next (drop next ring) (first_with_permits permits 0 (take next ring) none)
+        ≡ some (record { place = next + r; consumer = get_or ring (next + r) 0 }) =
+        f ∙ rw (q.1, get_or-drop next ring r 0) in
+        sym g
 
-    module _ (past : length ring ≤ r) (k : ℕ)
-        (f : place_named ring next k ≡ first_with_permits permits 0 (take (next - 0) (drop 0 ring)) none) where
-      -- the choice is made before next
-      around : first_place ring permits next ≡ place_named ring next k
-      unfolding first_place
-      around =
-          let z : next - 0 ≡ next = omega arith in
-          first_none permits next (drop next ring) (first_with_permits permits 0 (take next ring) none) (sym rest ∙ not_named ring (length ring) r past)
-          ∙ sym (f ∙ ap (λ (m : ℕ). first_with_permits permits 0 (take m ring) none) z)
+    -- a place before next, or none
+    around : None ≡ position has (drop next ring) → (o : prelude.Option ℕ) → o ≡ position has (take next ring)
+        → place_named ring o ≡ first_place ring permits next
+    unfolding place_named first_place
+    around e None f =
+        sym (first_missing next (drop next ring) _ (searched_not (drop next ring) e) ∙ first_missing 0 (take next ring) none (searched_not (take next ring) f))
+    around e (Some r) f =
+        let q = searched (take next ring) r f in
+        let l = length-take next ring in
+        let h = q.0 in
+        let i = q.1 in
+        let z : 0 + r ≡ r = omega arith in
+        let below : r < next = omega arith in
+        let g : first_with_permits permits 0 (take next ring) none ≡ some (record { place = r; consumer = get_or ring r 0 }) =
+        first_found 0 (take next ring) none q.0 ∙ rw (q.1, z, get_or-take next ring r 0 below) in
+        sym (first_missing next (drop next ring) _ (searched_not (drop next ring) e) ∙ g)
 
-      -- a place before next
-      pub chosen_again : k < next → place_named ring (length ring) k ≡ first_place ring permits next
-      chosen_again h = named ring (length ring) k (omega arith) ∙ sym (named ring next k h) ∙ sym around
-
-      -- no place
-      pub chosen_none : next ≤ k → place_named ring (length ring) (length ring) ≡ first_place ring permits next
-      chosen_none h = not_named ring (length ring) (length ring) (omega arith) ∙ sym (not_named ring next k h) ∙ sym around
+    pub chosen_again : None ≡ position has (take (length ring - next) (drop next ring)) → (o : prelude.Option ℕ) → o ≡ position has (take next ring)
+        → place_named ring o ≡ first_place ring permits next
+    chosen_again e o f = around (rw rest at e) o f
 
 -- ---- whose place was chosen has permits
 

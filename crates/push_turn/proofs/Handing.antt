@@ -1,19 +1,21 @@
 -- A turn by its cases: which place is chosen, whether an entry is queued or waits in the ledger, and what its hand-over is.
-use mathlib.Core.Path.{◌≡◌, refl, sym, ap, ◌∙◌}
-use mathlib.Core.Bool.{true, false}
+use mathlib.Core.Path.{◌≡◌, refl, sym, ap}
+use mathlib.Core.Bool.{false}
 use mathlib.Core.List.{List, [], ◌∷◌}
 use mathlib.Core.Option.{none, some}
 use Prim.Native.Nat.{ℕ, zero, suc, ◌-◌, ◌≤◌, ◌<◌}
 use native.Mathlib.Omega.{arith}
 use lib.ListN.{length, get_or, set}
 use borrow.Author.Tests.{lt-ltb, le-ltb}
+use Rattle.std.specs.Prelude.{Some, None}
 use Rattle.rules.specs.Permits.{zero_permits, above_zero}
 use Rattle.rules.specs.Table.{is_empty}
 use Rattle.rules.specs.Push.{slot_after}
+use Rattle.rules.proofs.Table.{by_test}
 use Rattle.push_laws.specs.Local.{Fixed, Local, Place, price_of, hand_over, take_entry, serve_place, choose_place, local_turn}
 use Rattle.push_laws.specs.Local.LocalTurn.{stop, move}
 use Rattle.push_turn.specs.Turns.{place_named, first_place}
-use Rattle.push_turn.proofs.Choosing.{named, not_named, chosen_ready}
+use Rattle.push_turn.proofs.Choosing.{chosen_ready}
 
 -- permits above none are those of a slot
 pub above_in : (permits : List ℕ) (c : ℕ) → zero_permits < get_or permits c 0 → c < length permits
@@ -57,57 +59,41 @@ unfolding is_empty
 not_empty [] h = absurd (omega arith)
 not_empty (a ∷ l) h = refl
 
--- one without is
-no_elements : (l : List ℕ) → length l ≡ 0 → is_empty l ≡ true
-unfolding is_empty
-no_elements [] h = refl
-no_elements (a ∷ l) h = absurd (omega arith)
-
 module _ (f : Fixed) (l : Local) where
-  -- no consumer is attached
-  pub turn_empty : length f.ring ≡ 0 → stop l ≡ local_turn f l
-  unfolding local_turn
-  turn_empty h = rw (no_elements f.ring h)
+  -- the total allows none
+  pub turn_spent : l.total ≤ zero_permits → stop l ≡ local_turn f l
+  unfolding local_turn above_zero
+  turn_spent h = by_test (is_empty f.ring) (λ t. rw t) (λ t. rw (t, le-ltb zero_permits l.total h))
 
-  module _ (some_ring : 0 < length f.ring) where
-    -- the total allows none
-    pub turn_spent : l.total ≤ zero_permits → stop l ≡ local_turn f l
-    unfolding local_turn above_zero
-    turn_spent h = rw (not_empty f.ring some_ring, le-ltb zero_permits l.total h)
+  module _ (allowed : zero_permits < l.total) where
+    -- no place is ready
+    turn_idle : first_place f.ring l.permits l.next ≡ none → stop l ≡ local_turn f l
+    unfolding local_turn above_zero choose_place serve_place first_place
+    turn_idle e =
+        by_test (is_empty f.ring) (λ t. rw t) (λ t. rw (t, lt-ltb zero_permits l.total allowed, e))
 
-    module _ (allowed : zero_permits < l.total) where
-      -- no place is ready
-      pub turn_idle : first_place f.ring l.permits l.next ≡ none → stop l ≡ local_turn f l
-      unfolding local_turn above_zero choose_place serve_place first_place
-      turn_idle e = rw (not_empty f.ring some_ring, lt-ltb zero_permits l.total allowed, e)
-
-      -- a place is
-      pub turn_served : (p : Place) → first_place f.ring l.permits l.next ≡ some p
-          → take_entry f l (slot_after p.place f.ring) p.consumer ≡ local_turn f l
-      unfolding local_turn above_zero choose_place serve_place first_place
-      turn_served p e = rw (not_empty f.ring some_ring, lt-ltb zero_permits l.total allowed, e)
+    -- a place is
+    turn_served : 0 < length f.ring → (p : Place) → first_place f.ring l.permits l.next ≡ some p
+        → take_entry f l (slot_after p.place f.ring) p.consumer ≡ local_turn f l
+    unfolding local_turn above_zero choose_place serve_place first_place
+    turn_served some_ring p e = rw (not_empty f.ring some_ring, lt-ltb zero_permits l.total allowed, e)
 
 -- the same by the ring that code has, and the place that it chose
-module _ (f : Fixed) (l : Local) (ring : List ℕ) (same : ring ≡ f.ring) (r : ℕ)
-    (chosen : place_named ring (length ring) r ≡ first_place ring l.permits l.next) where
-  chosen_here : place_named f.ring (length f.ring) r ≡ first_place f.ring l.permits l.next
-  chosen_here = rw same at chosen
-
+module _ (f : Fixed) (l : Local) (ring : List ℕ) (same : ring ≡ f.ring) where
   -- no place was
-  pub no_place : 0 < length ring → zero_permits < l.total → length ring ≤ r → stop l ≡ local_turn f l
-  no_place some_ring allowed h =
-      let n = ap (λ (m : List ℕ). length m) same in
-      turn_idle f l (omega arith) allowed (sym chosen_here ∙ not_named f.ring (length f.ring) r (omega arith))
+  pub no_place : place_named ring None ≡ first_place ring l.permits l.next → zero_permits < l.total → stop l ≡ local_turn f l
+  unfolding place_named
+  no_place e allowed = turn_idle f l allowed (sym (rw same at e))
 
-  -- one was
-  pub at_place : zero_permits < l.total → r < length ring → take_entry f l (slot_after r ring) (get_or ring r 0) ≡ local_turn f l
-  at_place allowed h =
-      let n = ap (λ (m : List ℕ). length m) same in
-      rw same
-      (turn_served f l (omega arith) allowed (record { place = r; consumer = get_or f.ring r 0 })
-      (sym chosen_here ∙ named f.ring (length f.ring) r (omega arith)))
+  module _ (r : ℕ) (chosen : place_named ring (Some r) ≡ first_place ring l.permits l.next) where
+    -- one was
+    pub at_place : zero_permits < l.total → r < length ring → take_entry f l (slot_after r ring) (get_or ring r 0) ≡ local_turn f l
+    unfolding place_named
+    at_place allowed h =
+        let n = ap (λ (m : List ℕ). length m) same in
+        rw same (turn_served f l allowed (omega arith) (record { place = r; consumer = get_or f.ring r 0 }) (sym (rw same at chosen)))
 
-  -- its consumer has permits
-  pub place_ready : r < length ring → zero_permits < get_or l.permits (get_or ring r 0) 0
-  place_ready h =
-      chosen_ready l.permits (record { place = r; consumer = get_or ring r 0 }) ring l.next (sym chosen ∙ named ring (length ring) r h)
+    -- its consumer has permits
+    pub place_ready : zero_permits < get_or l.permits (get_or ring r 0) 0
+    unfolding place_named
+    place_ready = chosen_ready l.permits (record { place = r; consumer = get_or ring r 0 }) ring l.next (sym chosen)

@@ -5,4 +5,5 @@ pub mod Prices
 pub mod Served
 pub mod Slots
 pub mod Totals
+pub mod Turned
 pub mod Zeros

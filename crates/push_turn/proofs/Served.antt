@@ -22,7 +22,8 @@ use Rattle.topic.proofs.Ledgers.{ledger_at, ledger_none}
 use Rattle.operation_laws.proofs.Frame.{every_nth, valid_now, canon_of}
 use Rattle.dispatcher.specs.Values.{head_of}
 use Rattle.push_laws.specs.Local.{fixed_of, local_of, turns_of, local_turns, served}
-use Rattle.push_turn.specs.Turns.{Serving, ledger_under, local_from}
+use Rattle.push_turn.specs.declared.service.Served as places
+use Rattle.push_turn.specs.Turns.{Serving, ServedHere, served_in, ledger_under, local_from}
 use Rattle.push_turn.proofs.Left.{all_turns, made_few}
 
 module _ (s : State) (topic : ℕ) where
@@ -77,9 +78,19 @@ module _ (ws : List ℕ) (d : ℕ) (spelt : spells ws ≡ true) (there : d < len
       → Serving e ws d t n
   serving_now e t n E q m = serving_valid (dispatcher_in (canon_of e ws spelt E) d there) served_valid (valid_now ws spelt).tables.each_topic t n q m
 
+  -- what is looked up is it
+  pub serving_found : (e : ℕ) → e ≡ (decode ws).entries → (x : places.Served) → x ≡ served_in (decode ws) e d → ServedHere x ws
+  unfolding served_in
+  serving_found e E x q = rw q (serving_now e _ _ E refl refl)
+
   -- next lies in the ring
   pub next_in_ring : (e : ℕ) → e ≡ (decode ws).entries → (dispatcher_nth (decode ws) d).next ≤ length (dispatcher_nth (decode ws) d).attached
   next_in_ring e E = next_valid (dispatcher_in (canon_of e ws spelt E) d there) served_valid
+
+-- a dispatcher that is looked up lies where it was looked for
+pub found_at : (s : State) (e d : ℕ) {x : places.Served} → x ≡ served_in s e d → x.d ≡ d
+unfolding served_in
+found_at s e d q = ap (λ (y : places.Served). y.d) q
 
 -- a service has at most a step for each entry of the queue and the ledger, and one more turn
 pub served_few : (e : ℕ) (ws : List ℕ) (d t n : ℕ) (permits : List ℕ) → Serving e ws d t n

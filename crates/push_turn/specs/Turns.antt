@@ -1,8 +1,10 @@
 -- A turn as code has it, and what code that serves a dispatcher may take for granted.
-use Rattle.std.specs.Prelude.{ℕ, ◌≤◌, ◌<◌, ◌≡◌, cond, List, ltb, length, get_or, take, drop}
+use Rattle.std.specs.Prelude.{ℕ, ◌≤◌, ◌<◌, ◌≡◌, List, length, get_or, take, drop, Some, None}
+use Rattle.std.specs.Prelude as prelude
 use Rattle.std.proofs.Math.Option.{Option, none, some}
+use Rattle.store.specs.Find.{slot}
 use Rattle.rules.specs.Table.{Every}
-use Rattle.rules.specs.State.{StoredMessage, State, ledger_of}
+use Rattle.rules.specs.State.{StoredMessage, State, by_number, ledger_of}
 use Rattle.rules.specs.Outcome.{Dispatch}
 use Rattle.layout.specs.Layout.{decode}
 use Rattle.layout.specs.Fields.{topic_nth, dispatcher_nth, dispatcher_now}
@@ -12,12 +14,13 @@ use Rattle.push_laws.specs.Local.LocalTurn.{stop, move}
 use Rattle.push_laws.specs.Shared.{Service, services, all_service_records}
 use Rattle.head.specs.declared.Head as numbers
 use Rattle.push_turn.specs.declared.turn.Step as steps
-use Rattle.push_turn.specs.declared.turn.Turn as turns
-use Rattle.push_turn.specs.declared.turn.Turn.TheVariants as variants
+use Rattle.push_turn.specs.declared.service.Served as places
+use Rattle.push_turn.specs.declared.service.Numbers as moved
 
--- the place of a ring that code names by its number: none past the end
-unfoldable pub place_named : List ℕ → ℕ → ℕ → Option Place
-place_named ring end r = cond (ltb r end) (some (record { place = r; consumer = get_or ring r 0 })) none
+-- the place of a ring that code names by its number, if it names one
+unfoldable pub place_named : List ℕ → prelude.Option ℕ → Option Place
+place_named ring None = none
+place_named ring (Some r) = some (record { place = r; consumer = get_or ring r 0 })
 
 -- the first place from next on, going round, whose consumer has permits above 0
 unfoldable pub first_place : List ℕ → List ℕ → ℕ → Option Place
@@ -33,15 +36,10 @@ local_from permits h taken =
 unfoldable pub step_of : steps.Step → Step
 step_of x = record { consumer = x.consumer; position = x.position; price = x.price; permits = x.permits }
 
--- the turn that the code's enum stands for, with the permits that it leaves
-unfoldable pub turn_of : List ℕ → turns.Turn → LocalTurn
-turn_of permits (variants.Stop h taken) = stop (local_from permits h taken)
-turn_of permits (variants.Move x h taken) = move (step_of x) (local_from permits h taken)
-
--- the dispatcher's four numbers after a turn; mark-delete is one of them, and no turn moves it
-unfoldable pub numbers_of : turns.Turn → numbers.Head
-numbers_of (variants.Stop h taken) = h
-numbers_of (variants.Move x h taken) = h
+-- the turn that left permits and numbers, and made a step or none
+unfoldable pub turn_of : List ℕ → moved.Numbers → prelude.Option steps.Step → LocalTurn
+turn_of permits m None = stop (local_from permits m.head m.taken)
+turn_of permits m (Some x) = move (step_of x) (local_from permits m.head m.taken)
 
 -- what a push only reads of dispatcher d of the state that words decode to
 abbrev pub fixed_now : List ℕ → ℕ → Fixed
@@ -74,3 +72,17 @@ pub record Serving (e : ℕ) (ws : List ℕ) (d t n : ℕ) : Type 0 where
   pub batches : Every (λ (m : StoredMessage). m.batch_size ≤ 256) (ledger_under (decode ws) d)
   pub queue_in_ledger : Every (λ (k : ℕ). k < n) (dispatcher_nth (decode ws) d).redelivery
   pub cursor_in_ledger : (dispatcher_nth (decode ws) d).cursor ≤ n
+
+-- the same of a dispatcher that code has by value
+abbrev pub ServedHere : places.Served → List ℕ → Type 0
+ServedHere x ws = Serving x.e ws x.d x.t x.n
+
+-- dispatcher d of a state with E entries, to be served
+unfoldable pub served_in : State → ℕ → ℕ → places.Served
+served_in s e d =
+    record {
+      e = e;
+      d = d;
+      t = slot by_number (dispatcher_nth s d).pair.topic s.topics;
+      n = length (ledger_under s d);
+    }

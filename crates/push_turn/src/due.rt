@@ -4,42 +4,31 @@ ghost use Rattle.std.specs.Prelude.{◌≡◌, true, ◌≤◌, ◌<◌, length}
 ghost use Rattle.layout.specs.Layout.{decode, spells};
 ghost use Rattle.layout.specs.Fields.{dispatcher_now};
 ghost use Rattle.push_laws.specs.Shared.{permits_left};
-ghost use Rattle.push_turn.specs.Turns.{fixed_now, served_now, services_now, shared_records_now, Serving};
+ghost use Rattle.push_turn.specs.Turns.{fixed_now, served_now, services_now, shared_records_now, ServedHere};
 
 use super::ring::ring_slots;
-use super::turn::{Turn, take_turn};
-use dispatcher::numbers::{load_head, topic};
+use super::service::{Numbers, Served, find_served};
+use super::turn::take_turn;
+use dispatcher::numbers::load_head;
 use dispatcher::ring::ring_count;
 use dispatcher::table::dispatcher_count;
-use topic::table::{find_topic, ledger_length};
 
-// How many dispatches dispatcher `d` is due, by turns; the permits are left as its service leaves them.
-fn due_turns(
-    store: &[u64],
-    e: usize,
-    d: usize,
-    t: usize,
-    n: usize,
-    ring: &[usize],
-    permits: &mut [u64],
-) -> usize
-    requires { Serving e store.now d t n × (ring.now ≡ (fixed_now store.now d).ring)
-        × ((dispatcher_now store.now d).next ≤ length ring.now) }
-    ensures count { result ≡ length (served_now store.now d permits.old).made }
-    ensures permits { permits.new ≡ (served_now store.now d permits.old).after.permits }
+// How many dispatches a dispatcher is due, by turns; the permits are left as its service leaves them.
+fn due_turns(store: &[u64], served: Served, ring: &[usize], permits: &mut [u64]) -> usize
+    requires { ServedHere served store.now × (ring.now ≡ (fixed_now store.now served.d).ring)
+        × ((dispatcher_now store.now served.d).next ≤ length ring.now) }
+    ensures count { result ≡ length (served_now store.now served.d permits.old).made }
+    ensures permits { permits.new ≡ (served_now store.now served.d permits.old).after.permits }
 {
-    let mut head = load_head(store, e, d);
-    let mut taken = 0;
+    let mut numbers = Numbers {
+        head: load_head(store, served.e, served.d),
+        taken: 0,
+    };
     let mut count = 0;
-    loop {
-        let turn = take_turn(store, e, d, t, n, ring, permits, head, taken);
-        let Turn::Move(_, h, k) = turn else {
-            return count;
-        };
-        head = h;
-        taken = k;
+    while take_turn(store, served, ring, permits, &mut numbers).is_some() {
         count += 1;
     }
+    count
 }
 
 // The same, of a dispatcher whose ring is to be written to `ring`, a list of its length.
@@ -49,11 +38,9 @@ fn due_with(store: &[u64], e: usize, d: usize, ring: &mut [usize], permits: &mut
     ensures count { result ≡ length (served_now store.now d permits.old).made }
     ensures permits { permits.new ≡ (served_now store.now d permits.old).after.permits }
 {
-    let number = topic(store, e, d);
-    let t = find_topic(store, e, number);
-    let n = ledger_length(store, e, number);
+    let served = find_served(store, e, d);
     ring_slots(store, e, d, ring);
-    due_turns(store, e, d, t, n, ring, permits)
+    due_turns(store, served, ring, permits)
 }
 
 // How many dispatches dispatcher `d` is due; the permits are left as its service leaves them.

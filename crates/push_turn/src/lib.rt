@@ -7,4 +7,5 @@ mod choice;
 pub mod due;
 mod price;
 pub mod ring;
+pub mod service;
 pub mod turn;

@@ -28,7 +28,7 @@ pub fn ring_slots(store: &[u64], e: usize, d: usize, ring: &mut [usize])
     requires { DispatcherIn e store.now d × (length ring.old ≡ length (dispatcher_now store.now d).attached) }
     ensures { ring.new ≡ (fixed_now store.now d).ring }
 {
-    for j in 0..ring.len() {
-        ring[j] = slot_of(store, e, ring_id(store, e, d, j));
+    for (j, place) in ring.iter_mut().enumerate() {
+        *place = slot_of(store, e, ring_id(store, e, d, j));
     }
 }

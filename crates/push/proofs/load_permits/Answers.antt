@@ -4,7 +4,7 @@ use mathlib.Core.List.{List, ◌++◌}
 use Prim.Native.Nat.{ℕ, ◌<◌}
 use native.Mathlib.Numerals.{add-one}
 use native.Mathlib.Omega.{arith}
-use lib.ListN.{length, set, take, drop, length-set}
+use lib.ListN.{length, set, take, drop}
 use Rattle.layout.specs.Layout.{decode}
 use Rattle.layout.proofs.Placed.{consumer_in}
 use Rattle.push_laws.specs.Whole.{permits_now}
@@ -13,34 +13,29 @@ use Rattle.push.proofs.Pushing.{length_permits, permits_nth}
 use Rattle.push.proofs.load_permits.Goals as goal
 
 pub loop-i-init : goal.loop-i-init
-loop-i-init c = (refl, refl)
+loop-i-init c = refl
 
 pub permits-requires : goal.permits-requires
 permits-requires c =
-    let here : c.loop-i.i < length (decode c.args.store.now).consumers = let a = c.loop-i-test.true in let b = c.loop-i.invariant.0 in let p = c.requires.1 in omega (arith, a, b, p) in
+    let here : c.loop-i.i < length (decode c.args.store.now).consumers = let a = c.loop-i-test.true in let b = c.loop-i.auto.list in let p = c.requires.1 in omega (arith, a, b, p) in
     consumer_in c.requires.0 c.loop-i.i here
 
 pub offset_bounds-list-i : goal.offset_bounds-list-i
 offset_bounds-list-i c =
-    let here : c.loop-i.i < length (decode c.args.store.now).consumers = let a = c.loop-i-test.true in let b = c.loop-i.invariant.0 in let p = c.requires.1 in omega (arith, a, b, p) in
+    let here : c.loop-i.i < length (decode c.args.store.now).consumers = let a = c.loop-i-test.true in let b = c.loop-i.auto.list in let p = c.requires.1 in omega (arith, a, b, p) in
     let l = here in let f = c.requires.0.shaped.consumers_fit in omega (arith, l, f)
 
 pub loop-i-preserved : goal.loop-i-preserved
 loop-i-preserved c =
-    let here : c.loop-i.i < length (decode c.args.store.now).consumers = let a = c.loop-i-test.true in let b = c.loop-i.invariant.0 in let p = c.requires.1 in omega (arith, a, b, p) in
+    let here : c.loop-i.i < length (decode c.args.store.now).consumers = let a = c.loop-i-test.true in let b = c.loop-i.auto.list in let p = c.requires.1 in omega (arith, a, b, p) in
     let s = decode c.args.store.now in
     let list = c.args.list.now in
     let i = c.loop-i.i in
     let n : length (permits_now s) ≡ length list = length_permits s ∙ sym c.requires.1 in
-    let l : i < length list = rw c.requires.1 here in (
-      length-set c.loop-i.list i c.permits.result ∙ c.loop-i.invariant.0,
-      ap₂ {A = List ℕ} {B = ℕ} {C = List ℕ} (λ r v. set r i v) c.loop-i.invariant.1 (c.permits.ensures ∙ sym (permits_nth s i here))
-          ∙ over_set (permits_now s) list i 0 n l
-          ∙ ap (λ (k : ℕ). take k (permits_now s) ++ drop k list) (sym (add-one i)),
-    )
-
-pub shape_of-list : goal.shape_of-list
-shape_of-list c = c.loop-i.invariant.0
+    let l : i < length list = rw c.requires.1 here in
+    ap₂ {A = List ℕ} {B = ℕ} {C = List ℕ} (λ r v. set r i v) c.loop-i.invariant (c.permits.ensures ∙ sym (permits_nth s i here))
+    ∙ over_set (permits_now s) list i 0 n l
+    ∙ ap (λ (k : ℕ). take k (permits_now s) ++ drop k list) (sym (add-one i))
 
 pub returns : goal.returns
 returns c =
@@ -48,5 +43,5 @@ returns c =
     let list = c.args.list.now in
     let n : length (permits_now s) ≡ length list = length_permits s ∙ sym c.requires.1 in
     let a = c.loop-i-test.false in
-    let b = c.loop-i.invariant.0 in
-    c.loop-i.invariant.1 ∙ over_all (permits_now s) list c.loop-i.i n (omega (arith, a, b))
+    let b = c.loop-i.auto.list in
+    c.loop-i.invariant ∙ over_all (permits_now s) list c.loop-i.i n (omega (arith, a, b))

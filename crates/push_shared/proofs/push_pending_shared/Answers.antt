@@ -1,6 +1,6 @@
 -- `push_shared::push_pending_shared` meets its contract. The loop's invariant: what is left to serve, with what is written,
 -- is the whole.
-use mathlib.Core.Path.{◌≡◌, refl}
+use mathlib.Core.Path.{◌≡◌}
 use Prim.Native.Nat.{◌≤◌, ◌<◌}
 use native.Mathlib.Omega.{arith}
 use lib.ListN.{length}
@@ -8,7 +8,6 @@ use Rattle.layout.specs.Layout.{decode}
 use Rattle.layout.specs.Canon.{CanonStore}
 use Rattle.operation_laws.proofs.Frame.{canon_of}
 use Rattle.push_shared.proofs.Sharing.{sharing_start, ready_next, permits_now, room_next, sharing_on, words_end, permits_end, records_end, count_end, fits_end}
-use borrow.Author.Rules.{rules}
 use Rattle.push_shared.proofs.push_pending_shared.Goals as goal
 
 pub dispatcher_count-n-requires : goal.dispatcher_count-n-requires
@@ -19,14 +18,14 @@ dispatcher_count-n-requires c =
 pub loop-d-init : goal.loop-d-init
 loop-d-init c =
     let p = c.requires in
-    (refl, refl, refl, sharing_start c.args.store.now p.0 p.1 c.args.permits.now c.args.list.now p.2)
+    sharing_start c.args.store.now p.0 p.1 c.args.permits.now c.args.list.now p.2
 
 pub serve_dispatcher-m-requires : goal.serve_dispatcher-m-requires
 serve_dispatcher-m-requires c =
     let counted : c.dispatcher_count-n.result ≡ length (decode c.args.store.now).dispatchers = c.dispatcher_count-n.ensures in
     let here : c.loop-d.d < length (decode c.args.store.now).dispatchers = let n = counted in let t = c.loop-d-test.true in omega (arith, n, t) in
     let p = c.requires in
-    let w = c.loop-d.invariant.3 in
+    let w = c.loop-d.invariant in
     let ws = c.args.store.now in
     let l = here in
     (ready_next ws p.0 p.1 w l, permits_now ws p.0 p.1 w, room_next ws p.0 p.1 w l p.3)
@@ -36,28 +35,15 @@ loop-d-preserved c =
     let counted : c.dispatcher_count-n.result ≡ length (decode c.args.store.now).dispatchers = c.dispatcher_count-n.ensures in
     let here : c.loop-d.d < length (decode c.args.store.now).dispatchers = let n = counted in let t = c.loop-d-test.true in omega (arith, n, t) in
     let p = c.requires in
-    let w = c.loop-d.invariant.3 in
-    let r = c.serve_dispatcher-m.ensures in (
-      search rules,
-      search rules,
-      search rules,
-      sharing_on c.args.store.now p.0 p.1 w here c.serve_dispatcher-m.result r.words r.permits r.records r.value r.fits,
-    )
-
-pub shape_of-store : goal.shape_of-store
-shape_of-store c = c.loop-d.invariant.0
-
-pub shape_of-permits : goal.shape_of-permits
-shape_of-permits c = c.loop-d.invariant.1
-
-pub shape_of-list : goal.shape_of-list
-shape_of-list c = c.loop-d.invariant.2
+    let w = c.loop-d.invariant in
+    let r = c.serve_dispatcher-m.ensures in
+    sharing_on c.args.store.now p.0 p.1 w here c.serve_dispatcher-m.result r.words r.permits r.records r.value r.fits
 
 pub returns : goal.returns
 returns c =
     let counted : c.dispatcher_count-n.result ≡ length (decode c.args.store.now).dispatchers = c.dispatcher_count-n.ensures in
     let p = c.requires in
-    let w = c.loop-d.invariant.3 in
+    let w = c.loop-d.invariant in
     let ws = c.args.store.now in
     let n = counted in
     let t = c.loop-d-test.false in

@@ -13,8 +13,8 @@ returns-then-is_shared c =
     let x = consumer_nth s a.i in
     waits_not s x (flag_shared x.kind (sym c.is_shared.ensures ∙ c.if-is_shared.true))
 
-pub returns : goal.returns
-returns c =
+pub returns-else-is_shared : goal.returns-else-is_shared
+returns-else-is_shared c =
     let a = c.args in
     let s = decode a.store.now in
     let x = consumer_nth s a.i in

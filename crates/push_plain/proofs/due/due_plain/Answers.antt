@@ -1,66 +1,38 @@
--- `push_plain::due::due_plain` meets its contract. The loop's invariant: what was counted and what is left are all.
-use mathlib.Core.Path.{◌≡◌}
-use Prim.Native.Nat.{ℕ, ◌+◌, ◌*◌, ◌≤◌, ◌<◌}
-use native.Mathlib.Omega.{arith}
-use lib.ListN.{length, get_or, drop}
+-- `push_plain::due::due_plain` meets its contract: the numbers of all consumers are added up.
+use Rattle.std.proofs.Common.{◌≡◌, ◌<◌, length, get_or, arith, rules, of_calls}
 use Rattle.layout.specs.Layout.{decode}
 use Rattle.layout.proofs.Placed.{consumer_in}
 use Rattle.operation_laws.proofs.Frame.{canon_of}
-use Rattle.push_laws.specs.Applied.{with_each}
-use Rattle.push_laws.specs.Plain.{all_plain_records}
-use Rattle.push_plain.proofs.Parts.{due_turn, due_few, due_rest, due_first}
-use borrow.Author.Rules.{rules}
+use Rattle.push_plain.proofs.Parts.{due_of, added_all_due, due_few}
 use Rattle.push_plain.proofs.due.due_plain.Goals as goal
 
--- in numbers
-counted : (d l : ℕ) {n k r x : ℕ} → d + n ≡ x → r ≡ k → n ≡ k + l → d + r + l ≡ x
-counted d l a b c = omega arith
-
-up : (i : ℕ) {d r : ℕ} → d ≤ i * 4160 → r ≤ 4160 → d + r ≤ (i + 1) * 4160
-up i a b = omega arith
-
-done : {d n x : ℕ} → d + n ≡ x → n ≡ 0 → d ≡ x
-done a b = omega arith
-
-pub loop-i-init : goal.loop-i-init
-loop-i-init c = (due_first (decode c.args.store.now) c.args.permits.now, search rules)
-
-pub plain_due-due-requires : goal.plain_due-due-requires
-plain_due-due-requires c =
-    let a = c.args in
+pub added_up-requires-clause-callable : goal.added_up-requires-clause-callable
+added_up-requires-clause-callable c =
+    λ i h.
     let p = c.requires in
-    let h : c.loop-i.i < length (decode a.store.now).consumers = omega (arith, p.2) in
-    consumer_in (canon_of a.e a.store.now p.0 p.1) c.loop-i.i h
+    let n = p.2 in
+    let t : i < length (decode c.args.store.now).consumers = omega (arith, n, h) in
+    let there = consumer_in (canon_of c.args.e c.args.store.now p.0 p.1) i t in
+    search (of_calls, there, h)
 
-pub overflow_add-due : goal.overflow_add-due
-overflow_add-due c =
-    let there : c.loop-i.i < length (decode c.args.store.now).consumers = omega (arith, c.requires.2) in
-    let few : c.plain_due-due.result ≤ 4160 = let a = c.args in
-    rw c.plain_due-due.ensures (due_few (canon_of a.e a.store.now c.requires.0 c.requires.1) c.loop-i.i (get_or a.permits.now c.loop-i.i 0) there) in
-    let a = c.args in
-    let k = canon_of a.e a.store.now c.requires.0 c.requires.1 in
-    let m = k.shaped.consumers_fit in
-    let f = few in
-    let v = c.loop-i.invariant.1 in
-    let h = there in
-    omega arith
+pub added_up-requires-clause-small : goal.added_up-requires-clause-small
+added_up-requires-clause-small c =
+    λ i r h k.
+    let p = c.requires in
+    let s = decode c.args.store.now in
+    let n = p.2 in
+    let t : i < length s.consumers = omega (arith, n, h) in
+    let f = due_few (canon_of c.args.e c.args.store.now p.0 p.1) i (get_or c.args.permits.now i 0) t in
+    let q : r ≡ due_of s c.args.permits.now i = search rules in
+    omega (arith, f, q)
 
-pub loop-i-preserved : goal.loop-i-preserved
-loop-i-preserved c =
-    let there : c.loop-i.i < length (decode c.args.store.now).consumers = omega (arith, c.requires.2) in
-    let few : c.plain_due-due.result ≤ 4160 = let a = c.args in
-    rw c.plain_due-due.ensures (due_few (canon_of a.e a.store.now c.requires.0 c.requires.1) c.loop-i.i (get_or a.permits.now c.loop-i.i 0) there) in
-    let a = c.args in
-    let f = few in
-    let h = there in
-    let v = c.loop-i.invariant in
-    let r = c.plain_due-due.ensures in
-    let t = due_turn (decode a.store.now) a.permits.now c.loop-i.i h in
-    (counted c.loop-i.due (length (all_plain_records (decode a.store.now) (drop (c.loop-i.i + 1) (with_each (decode a.store.now).consumers a.permits.now)))) v.0 r t, up c.loop-i.i v.1 f)
+pub added_up-requires-clause-few : goal.added_up-requires-clause-few
+added_up-requires-clause-few c =
+    let p = c.requires in
+    let n = p.2 in
+    let f = (canon_of c.args.e c.args.store.now p.0 p.1).shaped.consumers_fit in
+    omega (arith, n, f)
 
 pub returns : goal.returns
 returns c =
-    let a = c.args in
-    let p = c.requires in
-    let l : length (decode a.store.now).consumers ≤ c.loop-i.i = omega (arith, p.2) in
-    done c.loop-i.invariant.0 (due_rest (decode a.store.now) a.permits.now c.loop-i.i l)
+    added_all_due (decode c.args.store.now) c.args.permits.now (λ i r h k. search rules) _ c.added_up.result c.requires.2 c.added_up.ensures

@@ -8,7 +8,6 @@ use Rattle.layout.specs.Layout.{decode}
 use Rattle.layout.specs.Fields.{consumer_nth}
 use Rattle.topic.proofs.LedgerWords.{ledger_fits}
 use Rattle.push_laws.specs.Plain.{ledger_for}
-use Rattle.push_plain.proofs.Entries.{wait}
 use Rattle.push_plain.proofs.due.waiting.Goals as goal
 
 pub overflow_add-result : goal.overflow_add-result
@@ -25,6 +24,4 @@ overflow_add-result c =
 pub returns : goal.returns
 returns c =
     let entries_are : c.ledger_length-n.result ≡ length (ledger_for (decode c.args.store.now) (consumer_nth (decode c.args.store.now) c.args.i)) = c.ledger_length-n.ensures ∙ ap (λ (t : ℕ). length (ledger_of (decode c.args.store.now) t)) c.topic.ensures in
-    let a = c.args in
-    let x = consumer_nth (decode a.store.now) a.i in
-    wait (length x.nacked) (length (ledger_for (decode a.store.now) x)) x.cursor c.nacked_count.ensures (entries_are) c.cursor.ensures c.smaller-from.ensures
+    rw (c.nacked_count.ensures, c.saturating_sub.ensures, entries_are, c.cursor.ensures)

@@ -14,8 +14,8 @@ returns-then-j-n c =
     let t : a.j < length x.nacked = rw (← c.nacked_count-n.ensures) c.if-j-n.true in
     c.nacked.ensures ∙ position_nacked x a.j t
 
-pub returns : goal.returns
-returns c =
+pub returns-else-j-n : goal.returns-else-j-n
+returns-else-j-n c =
     let a = c.args in
     let x = consumer_nth (decode a.store.now) a.i in
     let t : length x.nacked ≤ a.j = rw (← c.nacked_count-n.ensures) c.if-j-n.false in

@@ -16,7 +16,7 @@ plain_record-x-requires c =
     let a = c.args in
     let h = c.requires.0 in
     let s = decode a.store.now in
-    let x = consumer_nth s a.i in
+    let x = consumer_nth s a.reader.i in
     (h.topic, rw (c.position-k.ensures, h.ledger) (position_inside (ledger_for s x) x a.j (a.j + 1) h.readable.cursor_in h.readable.nacked_in (search rules) h.waiting))
 
 pub returns : goal.returns
@@ -24,7 +24,7 @@ returns c =
     let a = c.args in
     let h = c.requires.0 in
     let s = decode a.store.now in
-    let x = consumer_nth s a.i in
+    let x = consumer_nth s a.reader.i in
     c.write_record.ensures
     ∙ ap (λ (l : List ℕ). (lay l).run (a.m * 13) a.list.now)
-    (c.plain_record-x.ensures ∙ ap flat (entry_is (ledger_for s x) x a.permits a.j h.ledger c.consumer_id-id.ensures c.position-k.ensures))
+    (c.plain_record-x.ensures ∙ ap flat (entry_is (ledger_for s x) x a.reader.permits a.j h.ledger c.consumer_id-id.ensures c.position-k.ensures))

@@ -1,7 +1,6 @@
 -- `push_plain::serve::serve_records` meets its contract. The loop's invariant: the list with what is left is the list with all.
 use mathlib.Core.Path.{◌≡◌}
 use Prim.Native.Nat.{◌+◌, ◌-◌}
-use lib.ListN.{length}
 use Rattle.rules.specs.Commands.{with_permits}
 use Rattle.layout.specs.Layout.{decode}
 use Rattle.layout.specs.Fields.{consumer_nth}
@@ -10,4 +9,4 @@ use Rattle.record.specs.Flat.{filled}
 use Rattle.push_plain.proofs.serve.serve_records.Given as goal
 
 abbrev pub invariant-loop-j : goal.invariant-loop-j
-invariant-loop-j l = (length l.list ≡ length l.initial.list) × (filled l.list (l.m + l.j) (plain_records (ledger_for (decode l.store) (consumer_nth (decode l.store) l.i)) (after_entries (with_permits (consumer_nth (decode l.store) l.i) l.permits) l.j) (l.n - l.j)) ≡ filled l.initial.list l.m (plain_records (ledger_for (decode l.store) (consumer_nth (decode l.store) l.i)) (with_permits (consumer_nth (decode l.store) l.i) l.permits) l.n))
+invariant-loop-j l = filled l.list (l.m + l.j) (plain_records (ledger_for (decode l.store) (consumer_nth (decode l.store) l.reader.i)) (after_entries (with_permits (consumer_nth (decode l.store) l.reader.i) l.reader.permits) l.j) (l.n - l.j)) ≡ filled l.initial.list l.m (plain_records (ledger_for (decode l.store) (consumer_nth (decode l.store) l.reader.i)) (with_permits (consumer_nth (decode l.store) l.reader.i) l.reader.permits) l.n)

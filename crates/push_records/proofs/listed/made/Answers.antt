@@ -10,7 +10,7 @@ returns-then-answer-eq0 c =
     let a = c.args.answer in
     sym (ap (λ (b : Bool). cond b (a / 256) 0) (eq-eqb (a % 256) 0 c.if-answer-eq0.true))
 
-pub returns : goal.returns
-returns c =
+pub returns-else-answer-eq0 : goal.returns-else-answer-eq0
+returns-else-answer-eq0 c =
     let a = c.args.answer in
     sym (ap (λ (b : Bool). cond b (a / 256) 0) (ne_eqb (a % 256) 0 c.if-answer-eq0.false))

@@ -6,6 +6,6 @@ use Rattle.push_shared.proofs.deliver.ack_set_words.Goals as goal
 pub returns-then-bits_empty : goal.returns-then-bits_empty
 returns-then-bits_empty c = rw (sym c.bits_empty.ensures ∙ c.if-bits_empty.true)
 
-pub returns : goal.returns
+pub returns-else-bits_empty : goal.returns-else-bits_empty
 unfolding word_count
-returns c = rw (sym c.bits_empty.ensures ∙ c.if-bits_empty.false)
+returns-else-bits_empty c = rw (sym c.bits_empty.ensures ∙ c.if-bits_empty.false)

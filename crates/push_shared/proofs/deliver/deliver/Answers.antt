@@ -18,10 +18,10 @@ unfolding step_of
 returns c =
     let ws = c.args.store.now in
     let x = step_of c.args.step in
-    let f = fixed_of (decode ws) (dispatcher_nth (decode ws) c.args.d) in
+    let f = fixed_of (decode ws) (dispatcher_nth (decode ws) c.args.served.d) in
     let id = c.consumer_id-id.result in
     record {
-      words = flight_found ws (decode ws) c.args.d id x c.consumer_id-id.ensures c.append_flight.ensures;
+      words = flight_found ws (decode ws) c.args.served.d id x c.consumer_id-id.ensures c.append_flight.ensures;
       records = one_filled c.args.list.now c.args.m (record_of (decode ws) f x)
           c.write_record.ensures (c.record_to-record.ensures ∙ ap flat (record_found (decode ws) f id x c.consumer_id-id.ensures));
     }

@@ -3,7 +3,7 @@ use Rattle.push_shared.proofs.Writing.{dropped_in, finished}
 use Rattle.push_shared.proofs.serve.finish.Goals as goal
 
 pub save_head-requires : goal.save_head-requires
-save_head-requires c = dropped_in c.args.taken c.requires.0 c.drop_queue.ensures
+save_head-requires c = dropped_in c.args.numbers.taken c.requires.0 c.drop_queue.ensures
 
 pub returns : goal.returns
-returns c = finished c.args.taken c.requires.0 c.drop_queue.ensures c.args.head c.requires.2 c.save_head.ensures
+returns c = finished c.args.numbers.taken c.requires.0 c.drop_queue.ensures c.args.numbers.head c.requires.2 c.save_head.ensures

@@ -1,23 +1,14 @@
 -- `push_turn::choice::choose` meets its contract: a place from next on, or one before it, or none.
-use Rattle.push_turn.proofs.Choosing.{chosen_first, chosen_again, chosen_none}
-use native.Mathlib.Omega.{arith}
-use borrow.Author.Rules.{rules}
+use Rattle.std.proofs.Common.{sym, ◌∙◌}
+use Rattle.push_turn.proofs.Choosing.{chosen_first, chosen_again}
 use Rattle.push_turn.proofs.choice.choose.Goals as goal
 
-pub returns-then-r-n : goal.returns-then-r-n
-returns-then-r-n c =
+pub returns-in-Some-clause-place : goal.returns-in-Some-clause-place
+returns-in-Some-clause-place c =
     let a = c.args in
-    (chosen_first a.ring.now a.permits.now a.next c.requires c.ready-r.result c.ready-r.ensures.0 c.if-r-n.true, search rules)
+    chosen_first a.permits.now a.ring.now a.next c.requires c.in-Some.further (sym c.in-Some.is ∙ c.ready.ensures)
 
-pub returns-then-again-next : goal.returns-then-again-next
-returns-then-again-next c =
+pub returns-clause-place : goal.returns-clause-place
+returns-clause-place c =
     let a = c.args in
-    let t = c.if-r-n.false in
-    (chosen_again a.ring.now a.permits.now a.next c.requires c.ready-r.result c.ready-r.ensures.0 (omega arith) c.ready-again.result c.ready-again.ensures.0 c.if-again-next.true, search rules)
-
-pub returns : goal.returns
-returns c =
-    let a = c.args in
-    let t = c.if-r-n.false in
-    let u = c.if-again-next.false in
-    (chosen_none a.ring.now a.permits.now a.next c.requires c.ready-r.result c.ready-r.ensures.0 (omega arith) c.ready-again.result c.ready-again.ensures.0 (omega arith), search rules)
+    chosen_again a.permits.now a.ring.now a.next c.requires (sym c.in_default.is ∙ c.ready.ensures) c.ready-2.result c.ready-2.ensures

@@ -21,7 +21,7 @@ dispatcher_count-n-requires c =
     canon
 
 pub loop-d-init : goal.loop-d-init
-loop-d-init c = (refl, carried_start (decode c.args.store.now) c.args.permits.now)
+loop-d-init c = carried_start (decode c.args.store.now) c.args.permits.now
 
 pub due_of-count-requires : goal.due_of-count-requires
 due_of-count-requires c =
@@ -41,7 +41,7 @@ overflow_add-count c =
     let f = served_few a.e a.store.now d (slot by_number (dispatcher_nth s d).pair.topic s.topics) (length (ledger_under s d)) c.loop-d.permits v in
     let r = c.due_of-count.ensures.count in
     omega arith in
-    let f = c.loop-d.invariant.1.few in
+    let f = c.loop-d.invariant.few in
     let r = small in
     let h = here in
     let t = canon.shaped.dispatchers_fit in
@@ -58,11 +58,9 @@ loop-d-preserved c =
     let f = served_few a.e a.store.now d (slot by_number (dispatcher_nth s d).pair.topic s.topics) (length (ledger_under s d)) c.loop-d.permits v in
     let r = c.due_of-count.ensures.count in
     omega arith in
-    let a = c.args in (
-      search rules,
-      carried_on (decode a.store.now) a.permits.now c.loop-d.permits c.loop-d.d c.loop-d.count c.loop-d.invariant.1
-          c.due_of-count.new.permits c.due_of-count.result here c.due_of-count.ensures.count c.due_of-count.ensures.permits small,
-    )
+    let a = c.args in
+    carried_on (decode a.store.now) a.permits.now c.loop-d.permits c.loop-d.d c.loop-d.count c.loop-d.invariant
+    c.due_of-count.new.permits c.due_of-count.result here c.due_of-count.ensures.count c.due_of-count.ensures.permits small
 
 pub returns : goal.returns
 returns c =
@@ -70,5 +68,5 @@ returns c =
     let a = c.args in
     let n = counted in
     let t = c.loop-d-test.false in
-    let e = carried_end (decode a.store.now) a.permits.now c.loop-d.permits c.loop-d.d c.loop-d.count c.loop-d.invariant.1 (omega arith) in
+    let e = carried_end (decode a.store.now) a.permits.now c.loop-d.permits c.loop-d.d c.loop-d.count c.loop-d.invariant (omega arith) in
     record { count = e.0; permits = e.1 }

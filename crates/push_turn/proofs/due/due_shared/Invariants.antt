@@ -6,4 +6,4 @@ use Rattle.push_turn.proofs.Totals.{Carried}
 use Rattle.push_turn.proofs.due.due_shared.Given as goal
 
 abbrev pub invariant-loop-d : goal.invariant-loop-d
-invariant-loop-d l = (length l.permits ≡ length l.initial.permits) × Carried (decode l.store) l.initial.permits l.permits l.d l.count
+invariant-loop-d l = Carried (decode l.store) l.initial.permits l.permits l.d l.count

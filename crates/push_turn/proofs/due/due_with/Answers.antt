@@ -1,33 +1,22 @@
 -- `push_turn::due::due_with` meets its contract: the ring is written, and the dispatcher is served by it.
-use mathlib.Core.Path.{ap, ◌∙◌}
+use mathlib.Core.Path.{◌≡◌, sym, ap, ◌∙◌}
 use mathlib.Core.List.{List}
-use Prim.Native.Nat.{ℕ}
+use Prim.Native.Nat.{ℕ, ◌≤◌}
 use native.Mathlib.Omega.{arith}
 use lib.ListN.{length}
-use Rattle.rules.specs.State.{by_number, ledger_of}
 use Rattle.layout.specs.Layout.{decode}
 use Rattle.layout.specs.Fields.{dispatcher_nth}
 use Rattle.layout.specs.Placed.{DispatcherIn}
 use Rattle.layout.proofs.Placed.{dispatcher_in}
-use Rattle.store.specs.Find.{slot}
 use Rattle.operation_laws.proofs.Frame.{canon_of}
-use Rattle.push_turn.proofs.Served.{serving_now, next_in_ring, ring_length}
+use Rattle.push_laws.specs.Local.{fixed_of, served}
+use Rattle.push_turn.proofs.Served.{serving_found, found_at, next_in_ring, ring_length}
 use Rattle.push_turn.proofs.due.due_with.Goals as goal
 
-pub topic-number-requires : goal.topic-number-requires
-topic-number-requires c =
+pub find_served-served-requires : goal.find_served-served-requires
+find_served-served-requires c =
     let there : DispatcherIn c.args.e c.args.store.now c.args.d = dispatcher_in (canon_of c.args.e c.args.store.now c.requires.0 c.requires.1) c.args.d c.requires.2 in
     there
-
-pub find_topic-t-requires : goal.find_topic-t-requires
-find_topic-t-requires c =
-    let there : DispatcherIn c.args.e c.args.store.now c.args.d = dispatcher_in (canon_of c.args.e c.args.store.now c.requires.0 c.requires.1) c.args.d c.requires.2 in
-    there.canon
-
-pub ledger_length-n-requires : goal.ledger_length-n-requires
-ledger_length-n-requires c =
-    let there : DispatcherIn c.args.e c.args.store.now c.args.d = dispatcher_in (canon_of c.args.e c.args.store.now c.requires.0 c.requires.1) c.args.d c.requires.2 in
-    there.canon
 
 pub ring_slots-requires : goal.ring_slots-requires
 ring_slots-requires c =
@@ -40,11 +29,23 @@ due_turns-requires c =
     let p = c.requires in
     let ws = a.store.now in
     let s = decode ws in
-    let w = c.topic-number.ensures in
-    let v = serving_now ws a.d p.0 p.2 a.e c.find_topic-t.result c.ledger_length-n.result p.1
-    (c.find_topic-t.ensures ∙ ap (λ (k : ℕ). slot by_number k s.topics) w) (c.ledger_length-n.ensures ∙ ap (λ (k : ℕ). length (ledger_of s k)) w) in
+    let x = c.find_served-served.result in
+    let g : x.d ≡ a.d = found_at s a.e a.d c.find_served-served.ensures in
     let r = c.ring_slots.ensures in
     let n = ap (λ (l : List ℕ). length l) r in
     let m = ring_length s (dispatcher_nth s a.d) in
-    let x = next_in_ring ws a.d p.0 p.2 a.e p.1 in
-    (v, r, omega arith)
+    let i = next_in_ring ws a.d p.0 p.2 a.e p.1 in
+    let h : (dispatcher_nth s a.d).next ≤ length c.ring_slots.new.ring = omega arith in (
+      serving_found ws a.d p.0 p.2 a.e p.1 x c.find_served-served.ensures,
+      r ∙ ap (λ (k : ℕ). (fixed_of s (dispatcher_nth s k)).ring) (sym g),
+      rw g h,
+    )
+
+pub returns : goal.returns
+returns c =
+    let s = decode c.args.store.now in
+    let g : c.find_served-served.result.d ≡ c.args.d = found_at s c.args.e c.args.d c.find_served-served.ensures in
+    record {
+      count = c.due_turns.ensures.count ∙ ap (λ (k : ℕ). length (served s (dispatcher_nth s k) c.args.permits.now).made) g;
+      permits = c.due_turns.ensures.permits ∙ ap (λ (k : ℕ). (served s (dispatcher_nth s k) c.args.permits.now).after.permits) g;
+    }

@@ -13,7 +13,7 @@ use borrow.Author.Rules.{rules}
 use Rattle.push_turn.proofs.ring.ring_slots.Goals as goal
 
 pub loop-j-init : goal.loop-j-init
-loop-j-init c = (refl, refl)
+loop-j-init c = refl
 
 pub ring_id-requires : goal.ring_id-requires
 ring_id-requires c =
@@ -28,11 +28,9 @@ loop-j-preserved c =
     let here : c.loop-j.j < length (dispatcher_nth (decode c.args.store.now) c.args.d).attached = let p = c.requires.1 in let t = c.loop-j-test.true in omega arith in
     let a = c.args in
     let p = c.requires in
-    let s = decode a.store.now in (
-      search rules,
-      written_on (λ (i : ℕ). slot by_id i s.consumers) (dispatcher_nth s a.d).attached a.ring.now c.loop-j.ring c.loop-j.j c.slot_of.result
-          here p.1 c.loop-j.invariant.1 (c.slot_of.ensures ∙ ap (λ (i : ℕ). slot by_id i s.consumers) c.ring_id.ensures),
-    )
+    let s = decode a.store.now in
+    written_on (λ (i : ℕ). slot by_id i s.consumers) (dispatcher_nth s a.d).attached a.ring.now c.loop-j.ring c.loop-j.j c.slot_of.result
+    here p.1 c.loop-j.invariant (c.slot_of.ensures ∙ ap (λ (i : ℕ). slot by_id i s.consumers) c.ring_id.ensures)
 
 pub returns : goal.returns
 unfolding fixed_of
@@ -41,4 +39,4 @@ returns c =
     let p = c.requires in
     let s = decode a.store.now in
     let t = c.loop-j-test.false in
-    written_all (λ (i : ℕ). slot by_id i s.consumers) (dispatcher_nth s a.d).attached a.ring.now c.loop-j.ring c.loop-j.j (omega arith) p.1 c.loop-j.invariant.1
+    written_all (λ (i : ℕ). slot by_id i s.consumers) (dispatcher_nth s a.d).attached a.ring.now c.loop-j.ring c.loop-j.j (omega arith) p.1 c.loop-j.invariant

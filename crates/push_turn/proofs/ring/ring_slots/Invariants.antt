@@ -11,5 +11,4 @@ use Rattle.push_turn.proofs.ring.ring_slots.Given as goal
 
 abbrev pub invariant-loop-j : goal.invariant-loop-j
 invariant-loop-j l =
-    (length l.ring ≡ length l.initial.ring)
-    × (l.ring ≡ written (λ (i : ℕ). slot by_id i (decode l.store).consumers) (dispatcher_nth (decode l.store) l.d).attached l.initial.ring l.j)
+    l.ring ≡ written (λ (i : ℕ). slot by_id i (decode l.store).consumers) (dispatcher_nth (decode l.store) l.d).attached l.initial.ring l.j

@@ -8,7 +8,7 @@ use Rattle.layout.specs.Layout.{decode}
 use Rattle.layout.specs.Fields.{dispatcher_nth}
 use Rattle.push_laws.specs.Local.{fixed_of}
 use Rattle.push_laws.specs.Local.LocalTurn.{move}
-use Rattle.push_turn.specs.Turns.{turn_of, numbers_of, local_from, step_of}
+use Rattle.push_turn.specs.Turns.{turn_of, local_from, step_of}
 use Rattle.push_turn.proofs.Handing.{above_in, handed}
 use borrow.Author.Rules.{rules}
 use Rattle.push_turn.proofs.turn.hand_over.Goals as goal
@@ -26,12 +26,12 @@ pub bounds-permits-c-2 : goal.bounds-permits-c-2
 bounds-permits-c-2 c = above_in c.args.permits.now c.args.c c.requires.2
 
 pub returns : goal.returns
-unfolding turn_of numbers_of local_from step_of dispatched
+unfolding turn_of local_from step_of dispatched
 returns c =
     let a = c.args in
     let left = get_or a.permits.now a.c 0 - c.price-cost.result in
     record {
-      turn = ap (λ (h : numbers.Head). move (record { consumer = a.c; position = a.k; price = c.price-cost.result; permits = left }) (local_from (set a.permits.now a.c left) h a.taken)) c.dispatch_from.ensures
-          ∙ handed (fixed_of (decode a.store.now) (dispatcher_nth (decode a.store.now) a.d)) a.permits.now a.next a.cursor a.head.total_available_permits a.taken a.c a.k c.price-cost.result c.price-cost.ensures.0;
-      mark_delete = ap (λ (h : numbers.Head). h.mark_delete) c.dispatch_from.ensures;
+      turn = ap (λ (h : numbers.Head). move (record { consumer = a.c; position = a.k; price = c.price-cost.result; permits = left }) (local_from (set a.permits.now a.c left) h a.numbers.now.taken)) c.dispatch_from-numbers.ensures
+          ∙ handed (fixed_of (decode a.store.now) (dispatcher_nth (decode a.store.now) a.served.d)) a.permits.now a.next a.cursor a.numbers.now.head.total_available_permits a.numbers.now.taken a.c a.k c.price-cost.result c.price-cost.ensures.0;
+      mark_delete = ap (λ (h : numbers.Head). h.mark_delete) c.dispatch_from-numbers.ensures;
     }

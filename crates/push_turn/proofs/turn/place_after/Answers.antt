@@ -10,7 +10,7 @@ returns-then-place-n c =
     let t = c.if-place-n.true in
     rw (eq-eqb (suc c.args.place) c.args.n (omega arith))
 
-pub returns : goal.returns
-returns c =
+pub returns-else-place-n : goal.returns-else-place-n
+returns-else-place-n c =
     let n : c.args.place + 1 ≡ suc c.args.place = omega arith in
     rw (ne_eqb (suc c.args.place) c.args.n (λ q. c.if-place-n.false (omega (arith, q)))) n

@@ -1,0 +1,12 @@
+-- The loop of `serve_turns`: what is left, with what is written, is the whole service.
+use Rattle.push_turn.specs.Turns.{local_from}
+use Rattle.push_turn.proofs.Left.{left}
+use Rattle.push_shared.proofs.Writing.{fixed, Writing}
+use Rattle.push_shared.proofs.serve.serve_turns.Given as goal
+
+abbrev pub invariant-loop-step : goal.invariant-loop-step
+invariant-loop-step l =
+    Writing l.served.e l.served.d l.initial.store l.initial.permits l.initial.list l.from l.store l.permits l.list l.numbers.head l.numbers.taken l.m
+
+abbrev pub decreases-loop-step : goal.decreases-loop-step
+decreases-loop-step l = left (fixed l.initial.store l.served.d) (local_from l.permits l.numbers.head l.numbers.taken)

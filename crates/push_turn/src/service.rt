@@ -1,0 +1,39 @@
+// A dispatcher while it is served: what is looked up once, and what its turns move.
+ghost use Rattle.std.specs.Prelude.{◌≡◌};
+ghost use Rattle.layout.specs.Layout.{decode};
+ghost use Rattle.layout.specs.Placed.{DispatcherIn};
+ghost use Rattle.push_turn.specs.Turns.{served_in};
+
+use dispatcher::numbers::topic;
+use head::Head;
+use topic::table::{find_topic, ledger_length};
+
+// Where it is: E, its slot, the slot of its topic, and how many entries its ledger has.
+#[derive(Clone, Copy)]
+pub struct Served {
+    pub e: usize,
+    pub d: usize,
+    pub t: usize,
+    pub n: usize,
+}
+
+// What its turns move beside the consumers' permits: its numbers, and how many were taken off its queue.
+#[derive(Clone, Copy)]
+pub struct Numbers {
+    pub head: Head,
+    pub taken: usize,
+}
+
+// Dispatcher `d`, to be served.
+pub fn find_served(store: &[u64], e: usize, d: usize) -> Served
+    requires { DispatcherIn e store.now d }
+    ensures { result ≡ served_in (decode store.now) e d }
+{
+    let number = topic(store, e, d);
+    Served {
+        e,
+        d,
+        t: find_topic(store, e, number),
+        n: ledger_length(store, e, number),
+    }
+}
