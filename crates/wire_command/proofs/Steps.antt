@@ -1,6 +1,6 @@
--- What a reader knows after each of its steps: that the message was walked, that two numbers are there or not, and where a name lies.
+-- What a reader knows after each of its steps: that two numbers are there or not, and where a name lies.
 use Prim.Native.Nat.{ℕ, ◌≤◌}
-use mathlib.Core.Path.{◌≡◌, refl, sym, ◌∙◌}
+use mathlib.Core.Path.{◌≡◌, refl, ap, ◌∙◌}
 use mathlib.Core.List.{List}
 use mathlib.Core.Option.{Option, none, some, bind}
 use native.Mathlib.Omega.{arith}
@@ -9,18 +9,11 @@ use Rattle.wire.specs.Fields.{Field, fields}
 use Rattle.wire.specs.Select.{numbered, uint64, required}
 use Rattle.wire.specs.Commands.{name}
 use Rattle.wire.proofs.Fields.{part_lies}
-use Rattle.wire_fields.specs.Picked.{Wanted, picked}
-use Rattle.wire_fields.specs.declared.pick.Seen.{Seen}
-use Rattle.wire_fields.specs.declared.pick.Picked.{Picked}
-use Rattle.wire_fields.specs.declared.pick.Picked.TheVariants.{Fields}
-use Rattle.wire_fields.proofs.Selections.{Walked, walked, PartAt}
-use Rattle.wire_command.specs.Found.{two_of, found_two, name_at, as_name}
-use Rattle.wire_command.specs.declared.numbers.Two.{Two}
-use Rattle.wire_command.specs.declared.numbers.Two.TheVariants.{Are, Bad}
-
--- the message was walked
-pub walked_as : {m : List ℕ} {a b c : Wanted} {x y z : Seen} {r : Picked} → r ≡ Fields x y z → r ≡ picked m a b c → Walked m a b c x y z
-walked_as {m = m} {a = a} {b = b} {c = c} {x = x} {y = y} {z = z} e f = walked m a b c x y z (sym e ∙ f)
+use Rattle.std.specs.Prelude.{Some, None}
+use Rattle.wire_fields.specs.Found.{answered, as_is}
+use Rattle.wire_fields.proofs.Answered.{told_is, told_none}
+use Rattle.wire_fields.proofs.Selections.{PartAt}
+use Rattle.wire_command.specs.Found.{two_of, name_at, as_name}
 
 -- ---- two numbers
 
@@ -35,53 +28,54 @@ pub record TwoOf (m : List ℕ) (a b u v : ℕ) : Type 0 where
   pub all_fields : fields m ≡ some fs
   pub numbers : TwoIn fs a b u v
 
-module _ (m : List ℕ) (a b : ℕ) {r : Two} (e : r ≡ found_two (two_of m a b)) where
+module _ (m : List ℕ) (a b : ℕ) where
   -- two numbers were read: they are those of the fields
-  pub two_are : {fs : List Field} {u v : ℕ} → fields m ≡ some fs → r ≡ Are u v → TwoIn fs a b u v
-  unfolding two_of found_two bind
-  two_are {fs = fs} {u = u} {v = v} p q = go (required uint64 (numbered a fs)) refl (required uint64 (numbered b fs)) refl (rw p at (sym q ∙ e))
+  pub two_are : {fs : List Field} {u v : ℕ} → fields m ≡ some fs → Some (u, v) ≡ answered as_is (two_of m a b) → TwoIn fs a b u v
+  unfolding two_of bind
+  two_are {fs = fs} {u = u} {v = v} p e =
+      go (required uint64 (numbered a fs)) refl (required uint64 (numbered b fs)) refl (rw p at (told_is (two_of m a b) e))
     where
       go : (o : Option ℕ) → required uint64 (numbered a fs) ≡ o → (n : Option ℕ) → required uint64 (numbered b fs) ≡ n
-          → Are u v ≡ found_two (bind o (λ (i : ℕ). bind n (λ (j : ℕ). some (i, j)))) → TwoIn fs a b u v
-      go none h n k d = let z : ◌≡◌ {A = ℕ} 0 1 = cc in absurd (omega arith)
-      go (some i) h none k d = let z : ◌≡◌ {A = ℕ} 0 1 = cc in absurd (omega arith)
-      go (some i) h (some j) k d = record { first = cc; second = cc }
+          → bind {B = ℕ × ℕ} o (λ (i : ℕ). bind {B = ℕ × ℕ} n (λ (j : ℕ). some (i, j))) ≡ some (u, v) → TwoIn fs a b u v
+      go none h n k d = absurd (cc)
+      go (some i) h none k d = absurd (cc)
+      go (some i) h (some j) k d =
+          let s : ◌≡◌ {A = ℕ × ℕ} (i, j) (u, v) = cc in
+          record { first = h ∙ ap some (ap (λ (t : ℕ × ℕ). t.0) s); second = k ∙ ap some (ap (λ (t : ℕ × ℕ). t.1) s) }
 
-  -- and the message is well formed
-  pub two_of_message : {u v : ℕ} → r ≡ Are u v → TwoOf m a b u v
-  unfolding two_of found_two bind
-  two_of_message {u = u} {v = v} q = go (fields m) refl
+  -- the message is well formed, and these are its two numbers
+  pub two_of_message : {u v : ℕ} → Some (u, v) ≡ answered as_is (two_of m a b) → TwoOf m a b u v
+  unfolding two_of bind
+  two_of_message {u = u} {v = v} e = go (fields m) refl (told_is (two_of m a b) e)
     where
-      go : (o : Option (List Field)) → fields m ≡ o → TwoOf m a b u v
-      go none p =
-          let d : Are u v ≡ Bad = rw p at (sym q ∙ e) in
-          let z : ◌≡◌ {A = ℕ} 0 1 = cc in
-          absurd (omega arith)
-      go (some fs) p = record { fs = fs; all_fields = p; numbers = two_are p q }
+      go : (o : Option (List Field)) → fields m ≡ o → two_of m a b ≡ some (u, v) → TwoOf m a b u v
+      go none p q = let d : none ≡ some (u, v) = rw p at q in absurd (cc)
+      go (some fs) p q = record { fs = fs; all_fields = p; numbers = two_are p e }
 
   -- one of them is not there
-  pub two_bad : {P : Type 0} {fs : List Field} → fields m ≡ some fs → r ≡ Bad
+  pub two_bad : {P : Type 0} {fs : List Field} → fields m ≡ some fs → None ≡ answered as_is (two_of m a b)
       → (required uint64 (numbered a fs) ≡ none → P)
       → ((u : ℕ) → required uint64 (numbered a fs) ≡ some u → required uint64 (numbered b fs) ≡ none → P) → P
-  unfolding two_of found_two bind
-  two_bad {P = P} {fs = fs} p q f g = go (required uint64 (numbered a fs)) refl (required uint64 (numbered b fs)) refl (rw p at (sym q ∙ e))
+  unfolding two_of bind
+  two_bad {P = P} {fs = fs} p e f g =
+      go (required uint64 (numbered a fs)) refl (required uint64 (numbered b fs)) refl (rw p at (told_none (two_of m a b) e))
     where
       go : (o : Option ℕ) → required uint64 (numbered a fs) ≡ o → (n : Option ℕ) → required uint64 (numbered b fs) ≡ n
-          → Bad ≡ found_two (bind o (λ (i : ℕ). bind n (λ (j : ℕ). some (i, j)))) → P
+          → bind {B = ℕ × ℕ} o (λ (i : ℕ). bind {B = ℕ × ℕ} n (λ (j : ℕ). some (i, j))) ≡ none → P
       go none h n k d = f h
       go (some i) h none k d = g i h k
-      go (some i) h (some j) k d = let z : ◌≡◌ {A = ℕ} 0 1 = cc in absurd (omega arith)
+      go (some i) h (some j) k d = absurd (cc)
 
   -- or the message is not well formed
-  pub two_bad_message : {P : Type 0} → r ≡ Bad → (fields m ≡ none → P)
+  pub two_bad_message : {P : Type 0} → None ≡ answered as_is (two_of m a b) → (fields m ≡ none → P)
       → ((fs : List Field) → fields m ≡ some fs → required uint64 (numbered a fs) ≡ none → P)
       → ((fs : List Field) → fields m ≡ some fs → (u : ℕ) → required uint64 (numbered a fs) ≡ some u → required uint64 (numbered b fs) ≡ none → P)
       → P
-  two_bad_message {P = P} q f g h = go (fields m) refl
+  two_bad_message {P = P} e f g h = go (fields m) refl
     where
       go : (o : Option (List Field)) → fields m ≡ o → P
       go none p = f p
-      go (some fs) p = two_bad p q (g fs p) (h fs p)
+      go (some fs) p = two_bad p e (g fs p) (h fs p)
 
 -- ---- parts
 

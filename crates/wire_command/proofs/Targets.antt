@@ -2,7 +2,7 @@
 use Prim.Native.Nat.{ℕ, ◌-◌}
 use mathlib.Core.Path.{◌≡◌, refl, sym, ◌∙◌}
 use mathlib.Core.List.{List, [], ◌∷◌}
-use mathlib.Core.Option.{Option, none, some, bind}
+use mathlib.Core.Option.{none, some, bind}
 use native.Mathlib.Omega.{arith}
 use lib.ListN.{take, drop}
 use Rattle.rules.specs.Commands as rules
@@ -11,10 +11,11 @@ use Rattle.wire.specs.Select.{numbered, part}
 use Rattle.wire.specs.Commands.{target_of}
 use Rattle.wire_fields.specs.declared.pick.Seen.{Seen}
 use Rattle.wire_fields.proofs.Selections.{Saw, PartAt, count_after, none_counted}
-use Rattle.wire_command.specs.Found.{target_in, target_of_bytes, as_target, found_target}
+use Rattle.std.specs.Prelude.{Some, None}
+use Rattle.wire_fields.specs.Found.{answered}
+use Rattle.wire_fields.proofs.Answered.{from_some, from_none}
+use Rattle.wire_command.specs.Found.{target_in, target_of_bytes, as_target}
 use Rattle.wire_command.specs.declared.command.Target.{Target}
-use Rattle.wire_command.specs.declared.seek.TargetRead.{TargetRead}
-use Rattle.wire_command.specs.declared.seek.TargetRead.TheVariants.{Is, Bad}
 
 -- none was seen: there is none
 pub none_there : {wire : ℕ} {l : List Field} {s : Seen} → Saw wire l s → s.count ≡ 0 → l ≡ []
@@ -39,21 +40,17 @@ pub record TargetAs (m : List ℕ) (fs : List Field) (t : Target) : Type 0 where
   pub is : target_of m (numbered 3 fs) ≡ some target
   pub told : as_target target ≡ t
 
-module _ (m : List ℕ) (fs : List Field) {r : TargetRead} (e : r ≡ found_target (target_of_bytes m)) (p : fields m ≡ some fs) where
+module _ (m : List ℕ) (fs : List Field) (p : fields m ≡ some fs) where
+  target_by : target_of_bytes m ≡ target_of m (numbered 3 fs)
+  unfolding target_of_bytes bind
+  target_by = rw p
+
   -- it was read
-  pub target_is : {t : Target} → r ≡ Is t → TargetAs m fs t
-  unfolding target_of_bytes found_target bind
-  target_is {t = t} q = go (target_of m (numbered 3 fs)) refl (rw p at (sym q ∙ e))
-    where
-      go : (o : Option rules.Target) → target_of m (numbered 3 fs) ≡ o → Is t ≡ found_target o → TargetAs m fs t
-      go none h d = let z : ◌≡◌ {A = ℕ} 0 1 = cc in absurd (omega arith)
-      go (some x) h d = record { target = x; is = h; told = cc }
+  pub target_is : {t : Target} → Some t ≡ answered as_target (target_of_bytes m) → TargetAs m fs t
+  target_is e =
+      let t = from_some as_target (target_of_bytes m) e in
+      record { target = t.x; is = sym target_by ∙ t.is; told = sym t.same }
 
   -- or is not right
-  pub target_bad : r ≡ Bad → target_of m (numbered 3 fs) ≡ none
-  unfolding target_of_bytes found_target bind
-  target_bad q = go (target_of m (numbered 3 fs)) (rw p at (sym q ∙ e))
-    where
-      go : (o : Option rules.Target) → Bad ≡ found_target o → o ≡ none
-      go none d = refl
-      go (some x) d = let z : ◌≡◌ {A = ℕ} 0 1 = cc in absurd (omega arith)
+  pub target_bad : None ≡ answered as_target (target_of_bytes m) → target_of m (numbered 3 fs) ≡ none
+  target_bad e = sym target_by ∙ from_none as_target (target_of_bytes m) e

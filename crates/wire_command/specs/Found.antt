@@ -1,8 +1,10 @@
--- What the code of this crate answers, by the definitions of the wire: `found_command` ties each reader to its message, and
+-- What the code of this crate answers, by the definitions of the wire: `as_command` ties each reader to its message, and
 -- `content_reading` the whole to the reading of a BaseCommand.
-use Rattle.std.specs.Prelude.{ℕ, ◌+◌, ◌-◌, ◌≡◌, cond, List, [], ◌∷◌, eqb, length, replicate}
-use Rattle.std.proofs.Math.Option.{Option, none, some, map, bind}
-use Rattle.rules.specs.Commands as rules
+use Rattle.std.specs.Prelude.{ℕ, ◌+◌, ◌-◌, ◌≡◌, cond, List, [], ◌∷◌, ◌++◌, eqb, length, replicate}
+use Rattle.std.proofs.Math.Option.{Option, some, map, bind}
+use Rattle.rules.specs.State as rules
+use Rattle.rules.specs.State.Kind.{plain, shared}
+use Rattle.rules.specs.Commands as rules_commands
 use Rattle.rules.specs.Commands.Target.{start, to_id}
 use Rattle.wire.specs.Fields.{Field, fields}
 use Rattle.wire.specs.Select.{numbered, uint64, required}
@@ -11,14 +13,11 @@ use Rattle.wire.specs.Commands.{target_of, or_16, ACK, REDELIVER}
 use Rattle.wire.specs.Commands as wire
 use Rattle.wire.specs.Commands.Command.{Subscribe, Flow, Ack, Seek, Redeliver, Close}
 use Rattle.wire.specs.Commands.Reading.{read}
-use Rattle.wire.specs.Answers.{kind_word}
 use Rattle.wire_ids.specs.Groups.{ids_there, Listed}
 use Rattle.wire_command.specs.declared.command.Name.{Name}
+use Rattle.wire_command.specs.declared.command.Kind.{Kind}
 use Rattle.wire_command.specs.declared.command.Target.{Target}
 use Rattle.wire_command.specs.declared.command.Command.{Command}
-use Rattle.wire_command.specs.declared.command.Content.{Content}
-use Rattle.wire_command.specs.declared.numbers.Two.{Two}
-use Rattle.wire_command.specs.declared.seek.TargetRead.{TargetRead}
 
 -- ---- two numbers
 
@@ -30,32 +29,27 @@ two_of m first second =
     bind (required uint64 (numbered second fs)) (λ (v : ℕ).
     some (u, v))))
 
--- two numbers that are there or not, as the code has them
-unfoldable pub found_two : Option (ℕ × ℕ) → Two
-found_two none = Two.Bad
-found_two (some p) = Two.Are p.0 p.1
-
 -- ---- a seek's target
 
 -- the target that an id's bytes say
-unfoldable pub target_in : List ℕ → Option rules.Target
+unfoldable pub target_in : List ℕ → Option rules_commands.Target
 target_in m = bind (fields m) (λ (fs : List Field). map to_id (id_of fs))
 
 -- the target of a seek's bytes
-unfoldable pub target_of_bytes : List ℕ → Option rules.Target
+unfoldable pub target_of_bytes : List ℕ → Option rules_commands.Target
 target_of_bytes m = bind (fields m) (λ (fs : List Field). target_of m (numbered 3 fs))
 
 -- a target as the code has it
-unfoldable pub as_target : rules.Target → Target
-as_target start = record { kind = 0; ledger = 0; entry = 0 }
-as_target (to_id id) = record { kind = 1; ledger = id.ledger; entry = id.entry }
-
--- a target that is there or not
-unfoldable pub found_target : Option rules.Target → TargetRead
-found_target none = TargetRead.Bad
-found_target (some t) = TargetRead.Is (as_target t)
+unfoldable pub as_target : rules_commands.Target → Target
+as_target start = Target.Start
+as_target (to_id id) = Target.Id id.ledger id.entry
 
 -- ---- a command
+
+-- a kind as the code has it
+unfoldable pub as_kind : rules.Kind → Kind
+as_kind plain = Kind.Plain
+as_kind shared = Kind.Shared
 
 -- a name of a message that stands at a place of the input
 abbrev pub name_at : ℕ → ℕ → ℕ → Name
@@ -71,7 +65,7 @@ as_command (Subscribe consumer request kind topic subscription) =
     Command.Subscribe (record {
       consumer = consumer;
       request = request;
-      kind = kind_word kind;
+      kind = as_kind kind;
       topic = as_name topic;
       subscription = as_name subscription;
     })
@@ -82,18 +76,23 @@ as_command (Seek consumer request target) =
 as_command (Redeliver consumer ids) = Command.Redeliver consumer (length (list_words ids))
 as_command (Close consumer request) = Command.Close consumer request
 
--- a command that is there or not
-unfoldable pub found_command : Option wire.Command → Content
-found_command none = Content.Bad
-found_command (some c) = Content.Is (as_command c)
+-- a kind in a word
+abbrev pub word_of_kind : Kind → ℕ
+word_of_kind Kind.Plain = 0
+word_of_kind Kind.Shared = 1
+
+-- a target in three words
+abbrev pub words_of_target : Target → List ℕ
+words_of_target Target.Start = 0 ∷ 0 ∷ 0 ∷ []
+words_of_target (Target.Id ledger entry) = 1 ∷ ledger ∷ entry ∷ []
 
 -- the eight words of a command
 unfoldable pub words_of : Command → List ℕ
 words_of (Command.Subscribe s) =
-    s.consumer ∷ s.request ∷ s.kind ∷ s.topic.start ∷ s.topic.size ∷ s.subscription.start ∷ s.subscription.size ∷ 0 ∷ []
+    s.consumer ∷ s.request ∷ word_of_kind s.kind ∷ s.topic.start ∷ s.topic.size ∷ s.subscription.start ∷ s.subscription.size ∷ 0 ∷ []
 words_of (Command.Flow consumer permits) = consumer ∷ 0 ∷ permits ∷ replicate 5 0
 words_of (Command.Ack consumer size) = consumer ∷ 0 ∷ size ∷ replicate 5 0
-words_of (Command.Seek s) = s.consumer ∷ s.request ∷ s.target.kind ∷ s.target.ledger ∷ s.target.entry ∷ replicate 3 0
+words_of (Command.Seek s) = s.consumer ∷ s.request ∷ words_of_target s.target ++ replicate 3 0
 words_of (Command.Redeliver consumer size) = consumer ∷ 0 ∷ size ∷ replicate 5 0
 words_of (Command.Close consumer request) = consumer ∷ request ∷ replicate 6 0
 

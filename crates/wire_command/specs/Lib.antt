@@ -1,2 +1,3 @@
 -- What the code of this crate means, by the definitions of the wire.
 pub mod Found
+pub mod Types

@@ -7,22 +7,27 @@ pub struct Name {
     pub size: u64,
 }
 
-// Kind is 0 for plain and 1 for shared.
+// The kind of a subscription.
+#[derive(Clone, Copy, Debug, PartialEq, Eq)]
+pub enum Kind {
+    Plain,
+    Shared,
+}
+
 #[derive(Clone, Copy)]
 pub struct Subscribe {
     pub consumer: u64,
     pub request: u64,
-    pub kind: u64,
+    pub kind: Kind,
     pub topic: Name,
     pub subscription: Name,
 }
 
-// Where a seek goes: kind is 0 for the start, and 1 for an id, of this ledger and entry.
-#[derive(Clone, Copy)]
-pub struct Target {
-    pub kind: u64,
-    pub ledger: u64,
-    pub entry: u64,
+// Where a seek goes: the start, or an id by its ledger and entry.
+#[derive(Clone, Copy, Debug, PartialEq, Eq)]
+pub enum Target {
+    Start,
+    Id(u64, u64),
 }
 
 #[derive(Clone, Copy)]
@@ -42,11 +47,4 @@ pub enum Command {
     Seek(Seek),
     Redeliver(u64, u64),
     Close(u64, u64),
-}
-
-// A command; or its message is not right.
-#[derive(Clone, Copy)]
-pub enum Content {
-    Is(Command),
-    Bad,
 }

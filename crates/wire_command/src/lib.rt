@@ -3,6 +3,7 @@
 #![tactic(auto)]
 
 pub mod command;
+pub mod command_type;
 pub mod content;
 pub mod eight_words;
 pub mod ids;

@@ -4,69 +4,81 @@ ghost use Rattle.words.specs.Act.{lay};
 ghost use Rattle.wire.specs.Commands.{command_of};
 ghost use Rattle.wire.specs.Answers.{read_command, command_answer, command_after, ids_after};
 ghost use Rattle.wire_command.specs.Found.{ids_words, IdsReady, content_reading};
+ghost use Rattle.wire_command.specs.Types.{type_number, read_word};
 
-use super::command::Content;
-use super::content::{ACK, REDELIVER, content, takes};
+use super::command_type::CommandType;
+use super::content::content;
 use super::eight_words::write_words;
 use super::ids::{ACK_IDS, REDELIVER_IDS};
-use wire_fields::base::{Base, read_base};
-use wire_fields::select::Place;
+use wire_fields::base::read_base;
+use wire_fields::unread::Unread;
 use wire_ids::lay::lay_ids;
 
 // The words that a lent list has at least.
 const LIST_WORDS: usize = 1216;
 
-// What a call answers: not well formed or out of limits; another type.
-const NOT_READ: u64 = 16;
-
-const OTHER_TYPE: u64 = 17;
-
 // Lays the ids of an Ack or a Redeliver into a list; the other commands have none.
-fn lay_list(m: &[u8], kind: u64, list: &mut [u64])
-    requires { IdsReady kind m.now (length list.old) }
-    ensures { list.new ≡ (lay (ids_words kind m.now)).run 0 list.old }
+#[tactic(auto, unfolding(crate::specs::Found::ids_words, words::specs::Act::lay))]
+fn lay_list(m: &[u8], kind: CommandType, list: &mut [u64])
+    requires { IdsReady (type_number kind) m.now (length list.old) }
+    ensures { list.new ≡ (lay (ids_words (type_number kind) m.now)).run 0 list.old }
 {
-    if kind == ACK {
-        lay_ids(m, ACK_IDS, list);
-        return;
-    }
-    if kind == REDELIVER {
-        lay_ids(m, REDELIVER_IDS, list);
+    match kind {
+        CommandType::Ack => lay_ids(m, ACK_IDS, list),
+        CommandType::Redeliver => lay_ids(m, REDELIVER_IDS, list),
+        CommandType::Subscribe => {}
+        CommandType::Flow => {}
+        CommandType::CloseConsumer => {}
+        CommandType::Seek => {}
     }
 }
 
 // Reads the command of a type from its message, which stands at a place of the input.
-fn read_content(m: &[u8], kind: u64, at: usize, list: &mut [u64], command: &mut [u64; 8]) -> u64
+fn read_content(
+    m: &[u8],
+    kind: CommandType,
+    at: usize,
+    list: &mut [u64],
+    command: &mut [u64; 8],
+) -> Result<CommandType, Unread>
     requires { (at + length m.now < 2 ^ 64) × (1216 ≤ length list.old) }
-    ensures answer { result ≡ command_answer (content_reading (command_of kind at m.now)) }
-    ensures words { command.new ≡ command_after command.old (content_reading (command_of kind at m.now)) }
-    ensures ids { list.new ≡ ids_after list.old (content_reading (command_of kind at m.now)) }
+    ensures answer { read_word result ≡ command_answer (content_reading (command_of (type_number kind) at m.now)) }
+    ensures words { command.new ≡ command_after command.old (content_reading (command_of (type_number kind) at m.now)) }
+    ensures ids { list.new ≡ ids_after list.old (content_reading (command_of (type_number kind) at m.now)) }
 {
-    let Content::Is(c) = content(m, kind, at) else {
-        return NOT_READ;
+    let Some(c) = content(m, kind, at) else {
+        return Err(Unread::Malformed);
     };
     lay_list(m, kind, list);
     write_words(command, c);
-    kind * 256
+    Ok(kind)
 }
 
-// Reads a command and answers its type, times 256; or answers 16 or 17 and changes nothing.
-pub fn read_command(bytes: &[u8], list: &mut [u64], command: &mut [u64; 8]) -> u64
-    ensures answer { result ≡ command_answer (read_command list.old bytes.now) }
+// Reads a command and answers its type; or says why it is not read, and changes nothing.
+pub fn read_command(
+    bytes: &[u8],
+    list: &mut [u64],
+    command: &mut [u64; 8],
+) -> Result<CommandType, Unread>
+    ensures answer { read_word result ≡ command_answer (read_command list.old bytes.now) }
     ensures words { command.new ≡ command_after command.old (read_command list.old bytes.now) }
     ensures ids { list.new ≡ ids_after list.old (read_command list.old bytes.now) }
 {
     if list.len() < LIST_WORDS {
-        return NOT_READ;
+        return Err(Unread::Malformed);
     }
-    let Base::Of(kind, place) = read_base(bytes) else {
-        return NOT_READ;
+    let Some(base) = read_base(bytes) else {
+        return Err(Unread::Malformed);
     };
-    if !takes(kind) {
-        return OTHER_TYPE;
-    }
-    let Place::Is(start, next) = place else {
-        return NOT_READ;
+    let kind = CommandType::try_from(base.kind)?;
+    let Some(place) = base.message else {
+        return Err(Unread::Malformed);
     };
-    read_content(&bytes[start..next], kind, start, list, command)
+    read_content(
+        &bytes[place.start..place.next],
+        kind,
+        place.start,
+        list,
+        command,
+    )
 }

@@ -1,9 +1,11 @@
 -- A BaseCommand: where the message of its type stands, and what a reader of some types answers at each of its ways out.
 use Prim.Native.Nat.{ℕ, ◌-◌, ◌^◌, ◌<◌, ◌≤◌}
-use mathlib.Core.Path.{◌≡◌, refl, ◌∙◌}
+use mathlib.Core.Path.{◌≡◌, ◌∙◌}
 use mathlib.Core.Bool.{Bool, true, false}
 use mathlib.Core.List.{List}
 use mathlib.Core.Option.{Option, none, some, map, bind}
+use Rattle.std.specs.Prelude.{Some, None}
+use Rattle.std.specs.Prelude as code
 use native.Mathlib.Omega.{arith}
 use lib.Dec.{ltb}
 use lib.ListN.{length, take, drop}
@@ -16,10 +18,11 @@ use Rattle.wire.specs.Commands.{type_of, message_of, or_16, base}
 use Rattle.wire.specs.Commands.Reading.{refused, read}
 use Rattle.wire.proofs.Commands.{message_lies}
 use Rattle.wire.proofs.Fields.{In}
-use Rattle.wire_fields.specs.Selected.{number, place, found_place, placed, found_base}
-use Rattle.wire_fields.specs.declared.base.Base.TheVariants as Base
+use Rattle.wire_fields.specs.Found.{answered}
+use Rattle.wire_fields.specs.Selected.{number, place, place_of, placed, base_of}
+use Rattle.wire_fields.specs.declared.base.Base.{Base}
+use Rattle.wire_fields.proofs.Answered.{from_some, from_none}
 use Rattle.wire_fields.specs.declared.pick.Seen.{Seen}
-use Rattle.wire_fields.specs.declared.select.Number.TheVariants as Number
 use Rattle.wire_fields.specs.declared.select.Place.{Place}
 use Rattle.wire_fields.proofs.Selections.{Saw, required_is, required_bad, place_law}
 
@@ -38,19 +41,15 @@ pub record Placed (m : List ℕ) (type start next : ℕ) : Type 0 where
   pub inside : In m f
 
 -- what the code read is where it stands
-pub told_place : (m : List ℕ) (type start next : ℕ) → Place.Is start next ≡ found_place (message_of m type) → Placed m type start next
-unfolding found_place
-told_place m type start next e = go (message_of m type) refl e
-  where
-    go : (o : Option Field) → message_of m type ≡ o → Place.Is start next ≡ found_place o → Placed m type start next
-    go none p q = let n : ◌≡◌ {A = ℕ} 0 1 = cc in absurd (omega arith)
-    go (some f) p q = record { f = f; is = p; starts = cc; ends = cc; inside = message_lies m type f p }
+pub told_place : (m : List ℕ) (type : ℕ) (p : Place) → Some p ≡ answered place_of (message_of m type) → Placed m type p.start p.next
+unfolding place_of
+told_place m type p e =
+    let t = from_some place_of (message_of m type) e in
+    record { f = t.x; is = t.is; starts = cc; ends = cc; inside = message_lies m type t.x t.is }
 
 -- it is not there
-pub told_no_place : (o : Option Field) → Place.Bad ≡ found_place o → o ≡ none
-unfolding found_place
-told_no_place none e = refl
-told_no_place (some f) e = let n : ◌≡◌ {A = ℕ} 0 1 = cc in absurd (omega arith)
+pub told_no_place : (o : Option Field) → None ≡ answered place_of o → o ≡ none
+told_no_place o e = from_none place_of o e
 
 -- ---- what was seen under the type, and under the number of a type
 
@@ -61,55 +60,48 @@ unfolding placed message_of bind
 seen_placed m type h fs e s w = place_law (numbered type fs) s w ∙ rw (lt-ltb type (2 ^ 32) h, e)
 
 -- no message stands in what is not well formed
-pub unformed_placed : (m : List ℕ) (type : ℕ) → fields m ≡ none → Place.Bad ≡ placed m type
-unfolding placed message_of bind found_place
+pub unformed_placed : (m : List ℕ) (type : ℕ) → fields m ≡ none → None ≡ placed m type
+unfolding placed message_of bind answered
 unformed_placed m type e = by_test (ltb type (2 ^ 32)) (λ t. rw (t, e)) (λ t. rw t)
 
 -- nor one of a number that is no type's
-pub high_placed : (m : List ℕ) (type : ℕ) → 2 ^ 32 ≤ type → Place.Bad ≡ placed m type
+pub high_placed : (m : List ℕ) (type : ℕ) → 2 ^ 32 ≤ type → None ≡ placed m type
 unfolding placed
 high_placed m type h = rw (le-ltb type (2 ^ 32) h)
 
 module _ (m : List ℕ) where
   -- no type stands in what is not well formed
-  pub unformed_base : fields m ≡ none → Base.Bad ≡ found_base m (type_of m)
-  unfolding found_base type_of bind
+  pub unformed_base : fields m ≡ none → None ≡ answered (base_of m) (type_of m)
+  unfolding answered base_of type_of bind
   unformed_base e = rw e
 
   module _ (fs : List Field) (e : fields m ≡ some fs) {x : Seen} (w : Saw 0 (numbered 1 fs) x) where
     -- the type is not right
-    pub untyped_base : Number.Bad ≡ number int32 x → Base.Bad ≡ found_base m (type_of m)
-    unfolding found_base type_of bind
+    pub untyped_base : None ≡ number int32 x → None ≡ answered (base_of m) (type_of m)
+    unfolding answered base_of type_of bind
     untyped_base n = rw (e, required_bad int32 w n)
 
     -- it is, and its message stands where it was found
-    pub typed_base : (type : ℕ) (p : Place) → Number.Is type ≡ number int32 x → p ≡ placed m type → Base.Of type p ≡ found_base m (type_of m)
-    unfolding found_base type_of bind
+    pub typed_base : (type : ℕ) (p : code.Option Place) → Some type ≡ number int32 x → p ≡ placed m type
+        → ◌≡◌ {A = code.Option Base} (Some (record { kind = type; message = p })) (answered (base_of m) (type_of m))
+    unfolding answered base_of type_of bind
     typed_base type p n q = rw (e, required_is int32 w n, q)
 
 -- what the code read is the type, and where its message stands
-pub told_base : (m : List ℕ) (type : ℕ) (p : Place) → Base.Of type p ≡ found_base m (type_of m) → (type_of m ≡ some type) × (p ≡ placed m type)
-unfolding found_base
-told_base m type p e = go (type_of m) refl e
-  where
-    go : (o : Option ℕ) → type_of m ≡ o → Base.Of type p ≡ found_base m o → (type_of m ≡ some type) × (p ≡ placed m type)
-    go none q d = let n : ◌≡◌ {A = ℕ} 0 1 = cc in absurd (omega arith)
-    go (some k) q d =
-        let a : k ≡ type = cc in
-        let b : p ≡ placed m k = cc in
-        (rw a at q, rw a at b)
+pub told_base : (m : List ℕ) (b : Base) → Some b ≡ answered (base_of m) (type_of m) → (type_of m ≡ some b.kind) × (b.message ≡ placed m b.kind)
+unfolding base_of
+told_base m b e =
+    let t = from_some (base_of m) (type_of m) e in
+    let k : b.kind ≡ t.x = cc in
+    let q : b.message ≡ placed m t.x = cc in
+    (rw k t.is, rw k q)
 
 -- there is no type
-pub told_untyped : (m : List ℕ) → Base.Bad ≡ found_base m (type_of m) → type_of m ≡ none
-unfolding found_base
-told_untyped m e = go (type_of m) e
-  where
-    go : (o : Option ℕ) → Base.Bad ≡ found_base m o → o ≡ none
-    go none d = refl
-    go (some k) d = let n : ◌≡◌ {A = ℕ} 0 1 = cc in absurd (omega arith)
+pub told_untyped : (m : List ℕ) → None ≡ answered (base_of m) (type_of m) → type_of m ≡ none
+told_untyped m e = from_none (base_of m) (type_of m) e
 
 -- where the message of a type below 2^32 stands
-pub placed_message : (m : List ℕ) (type : ℕ) → type < 2 ^ 32 → placed m type ≡ found_place (message_of m type)
+pub placed_message : (m : List ℕ) (type : ℕ) → type < 2 ^ 32 → placed m type ≡ answered place_of (message_of m type)
 unfolding placed
 placed_message m type h = rw (lt-ltb type (2 ^ 32) h)
 

@@ -1,9 +1,11 @@
 -- A field read by its wire type: what each way out of `field.rt` answers, from what was read of its varints.
 use Prim.Native.Nat.{ℕ, ◌+◌, ◌-◌, ◌/◌, ◌%◌, ◌^◌, ◌<◌, ◌≤◌}
-use mathlib.Core.Path.{◌≡◌, refl, ◌∙◌}
+use mathlib.Core.Path.{◌≡◌, refl, sym, ap, ◌∙◌}
 use mathlib.Core.Bool.{Bool, true, false, cond, and-eq-true_iff}
 use mathlib.Core.List.{List}
 use mathlib.Core.Option.{Option, none, some, bind}
+use Rattle.std.specs.Prelude.{Some, None}
+use Rattle.std.specs.Prelude as code
 use native.Mathlib.Omega.{arith}
 use lib.Dec.{eqb, leb, ltb}
 use lib.ListN.{length, get_or, drop, length-drop}
@@ -12,10 +14,15 @@ use Rattle.wire.specs.Varint.{varint}
 use Rattle.wire.specs.Varint as wire
 use Rattle.wire.specs.Fields.{field, field_of, varint_field, delimited_field, fixed_field, inside}
 use Rattle.wire.proofs.Varint.{varint_bounds}
-use Rattle.wire_fields.specs.Found.{found_varint, varint_at, as_field, found_field, part_tag, TwoBytes}
-use Rattle.wire_fields.proofs.Varints.{one_byte}
-use Rattle.wire_fields.specs.declared.varint.Varint.TheVariants.{Read, Bad}
-use Rattle.wire_fields.specs.declared.field.FieldAt.{FieldAt}
+use Rattle.wire_fields.specs.Found.{answered, as_varint, varint_at, as_field, part_tag, TwoBytes}
+use Rattle.wire_fields.proofs.Answered.{from_some, from_none}
+use Rattle.wire_fields.proofs.Varints.{Read, one_byte}
+use Rattle.wire_fields.specs.declared.field.Field.{Field}
+use Rattle.wire_fields.specs.declared.varint.Varint.{Varint}
+
+-- a field that was read, as the code answers it
+abbrev pub Is : Field → code.Option Field
+Is f = Some f
 
 -- a varint was read at a place: its number, and the place after it, which lies inside the message
 pub record Was (m : List ℕ) (at value next : ℕ) : Type 0 where
@@ -26,92 +33,85 @@ pub record Was (m : List ℕ) (at value next : ℕ) : Type 0 where
   pub ends : next ≤ length m
   pub fits : value < 2 ^ 64
 
-module _ (m : List ℕ) (at : ℕ) (h : at ≤ length m) where
-  -- what the code read is what the bytes say
-  pub was_read : (value next : ℕ) → Read value next ≡ varint_at m at → Was m at value next
-  unfolding varint_at found_varint
-  was_read value next e = go (varint (drop at m)) refl e
-    where
-      go : (o : Option wire.Varint) → varint (drop at m) ≡ o → Read value next ≡ found_varint at o → Was m at value next
-      go none p q = let z : ◌≡◌ {A = ℕ} 0 1 = cc in absurd (omega arith)
-      go (some v) p q =
-          let a : value ≡ v.value = cc in
-          let b : next ≡ at + v.size = cc in
-          let l = varint_bounds (drop at m) v p in
-          let d = length-drop at m in
-          record { size = v.size; is = rw a p; place = b; more = omega arith; ends = omega arith; fits = omega arith }
+-- what the code read is what the bytes say
+pub was_read : (m : List ℕ) (at : ℕ) → at ≤ length m → (value next : ℕ) → Read value next ≡ varint_at m at → Was m at value next
+unfolding varint_at as_varint
+was_read m at h value next e =
+    let p = from_some (as_varint at) (varint (drop at m)) e in
+    let a : value ≡ p.x.value = ap (λ (v : Varint). v.value) p.same in
+    let b : next ≡ at + p.x.size = ap (λ (v : Varint). v.next) p.same in
+    let of : ℕ → Option wire.Varint = λ v. some (record { value = v; size = p.x.size }) in
+    let l = varint_bounds (drop at m) p.x p.is in
+    let d = length-drop at m in
+    record { size = p.x.size; is = p.is ∙ ap of (sym a); place = b; more = omega arith; ends = omega arith; fits = omega arith }
 
 -- no varint is there
-pub not_read : (m : List ℕ) (at : ℕ) → Bad ≡ varint_at m at → varint (drop at m) ≡ none
-unfolding varint_at found_varint
-not_read m at e = go (varint (drop at m)) e
-  where
-    go : (o : Option wire.Varint) → Bad ≡ found_varint at o → o ≡ none
-    go none q = refl
-    go (some v) q = let z : ◌≡◌ {A = ℕ} 0 1 = cc in absurd (omega arith)
+pub not_read : (m : List ℕ) (at : ℕ) → None ≡ varint_at m at → varint (drop at m) ≡ none
+unfolding varint_at
+not_read m at e = from_none (as_varint at) (varint (drop at m)) e
 
 -- ---- a varint field
 
-pub no_varint_field : (m : List ℕ) (number at : ℕ) → varint (drop at m) ≡ none → FieldAt.Bad ≡ found_field (varint_field m number at)
-unfolding varint_field found_field
+pub no_varint_field : (m : List ℕ) (number at : ℕ) → varint (drop at m) ≡ none → None ≡ answered as_field (varint_field m number at)
+unfolding varint_field answered
 no_varint_field m number at e = rw e
 
 pub is_varint_field : (m : List ℕ) (number at value next : ℕ) → Was m at value next
-    → FieldAt.Is (record { number = number; wire = 0; value = value; start = at; next = next }) ≡ found_field (varint_field m number at)
-unfolding varint_field found_field as_field
+    → Is (record { number = number; wire = 0; value = value; start = at; next = next }) ≡ answered as_field (varint_field m number at)
+unfolding varint_field answered as_field
 is_varint_field m number at value next w = rw (w.is, w.place)
 
 -- ---- a field of a fixed width
 
 pub no_fixed_field : (m : List ℕ) (number wire width at : ℕ) → at ≤ length m → length m - at < width
-    → FieldAt.Bad ≡ found_field (fixed_field m number wire width at)
-unfolding fixed_field inside found_field
+    → None ≡ answered as_field (fixed_field m number wire width at)
+unfolding fixed_field inside answered
 no_fixed_field m number wire width at h l = rw (lt-leb (at + width) (length m) (omega arith))
 
 pub is_fixed_field : (m : List ℕ) (number wire width at : ℕ) → at ≤ length m → width ≤ length m - at
-    → FieldAt.Is (record { number = number; wire = wire; value = 0; start = at; next = at + width })
-    ≡ found_field (fixed_field m number wire width at)
-unfolding fixed_field inside found_field as_field
+    → Is (record { number = number; wire = wire; value = 0; start = at; next = at + width })
+    ≡ answered as_field (fixed_field m number wire width at)
+unfolding fixed_field inside answered as_field
 is_fixed_field m number wire width at h l = rw (le-leb (at + width) (length m) (omega arith))
 
 -- ---- a length-delimited field
 
-pub no_delimited_field : (m : List ℕ) (number at : ℕ) → varint (drop at m) ≡ none → FieldAt.Bad ≡ found_field (delimited_field m number at)
-unfolding delimited_field found_field bind
+pub no_delimited_field : (m : List ℕ) (number at : ℕ) → varint (drop at m) ≡ none → None ≡ answered as_field (delimited_field m number at)
+unfolding delimited_field answered bind
 no_delimited_field m number at e = rw e
 
 module _ (m : List ℕ) (number at size start : ℕ) (w : Was m at size start) where
-  pub past_the_end : length m - start < size → FieldAt.Bad ≡ found_field (delimited_field m number at)
-  unfolding delimited_field inside found_field bind
+  pub past_the_end : length m - start < size → None ≡ answered as_field (delimited_field m number at)
+  unfolding delimited_field inside answered bind
   past_the_end l = let t : leb (at + w.size + size) (length m) ≡ false = lt-leb (at + w.size + size) (length m) (omega (arith, w.place)) in rw (w.is, t)
 
   pub is_delimited_field : size ≤ length m - start
-      → FieldAt.Is (record { number = number; wire = 2; value = 0; start = start; next = start + size })
-      ≡ found_field (delimited_field m number at)
-  unfolding delimited_field inside found_field as_field bind
+      → Is (record { number = number; wire = 2; value = 0; start = start; next = start + size })
+      ≡ answered as_field (delimited_field m number at)
+  unfolding delimited_field inside answered as_field bind
   is_delimited_field l =
       let t : leb (at + w.size + size) (length m) ≡ true = le-leb (at + w.size + size) (length m) (omega (arith, w.place)) in rw (w.is, t, w.place)
 
 -- ---- a tag
 
 -- no tag is there
-pub no_tag : (m : List ℕ) (at : ℕ) → varint (drop at m) ≡ none → FieldAt.Bad ≡ found_field (field m at)
-unfolding field found_field bind
+pub no_tag : (m : List ℕ) (at : ℕ) → varint (drop at m) ≡ none → None ≡ answered as_field (field m at)
+unfolding field answered bind
 no_tag m at e = rw e
 
 module _ (m : List ℕ) (at tag after : ℕ) (w : Was m at tag after) where
   -- the number is 0
-  pub number_0 : tag < 8 → FieldAt.Bad ≡ found_field (field m at)
-  unfolding field found_field bind
+  pub number_0 : tag < 8 → None ≡ answered as_field (field m at)
+  unfolding field answered bind
   number_0 l = rw (w.is, lt-leb 8 tag l)
 
   -- it is 2^29 or more
-  pub number_high : 8 ≤ tag → 2 ^ 32 ≤ tag → FieldAt.Bad ≡ found_field (field m at)
-  unfolding field found_field bind
+  pub number_high : 8 ≤ tag → 2 ^ 32 ≤ tag → None ≡ answered as_field (field m at)
+  unfolding field answered bind
   number_high l g = rw (w.is, le-leb 8 tag l, le-ltb tag (2 ^ 32) g)
 
   -- it is a field's number
-  pub number_right : 8 ≤ tag → tag < 2 ^ 32 → found_field (field_of m (tag / 8) (tag % 8) after) ≡ found_field (field m at)
+  pub number_right : 8 ≤ tag → tag < 2 ^ 32 → answered as_field (field_of m (tag / 8) (tag % 8) after) ≡ answered as_field (field m at)
   unfolding field bind
   number_right l g = rw (w.is, le-leb 8 tag l, lt-ltb tag (2 ^ 32) g, w.place)
 
@@ -132,22 +132,22 @@ module _ {m : List ℕ} {at tag b : ℕ} (t : TwoBytes m at tag b) where
       rw e at (one_byte_was m (at + 1) b (omega (arith, t.inside)) t.is_b t.short_b)
 
   -- so the field is what the wire type says of them
-  by_wire : found_field (field_of m (tag / 8) (tag % 8) (at + 1)) ≡ found_field (field m at)
+  by_wire : answered as_field (field_of m (tag / 8) (tag % 8) (at + 1)) ≡ answered as_field (field m at)
   by_wire = number_right m at tag (at + 1) tag_was t.high (omega (arith, t.short_tag))
 
   -- the length is that of a part
-  delimited : tag % 8 ≡ 2 → found_field (delimited_field m (tag / 8) (at + 1)) ≡ found_field (field m at)
+  delimited : tag % 8 ≡ 2 → answered as_field (delimited_field m (tag / 8) (at + 1)) ≡ answered as_field (field m at)
   unfolding field_of
   delimited e =
       let x : eqb (tag % 8) 0 ≡ false = ne_eqb (tag % 8) 0 (λ z. omega arith) in
       let y : eqb (tag % 8) 1 ≡ false = ne_eqb (tag % 8) 1 (λ z. omega arith) in
       rw (x, y, eq-eqb (tag % 8) 2 e) at by_wire
 
-  pub two_bytes_past : tag % 8 ≡ 2 → length m - (at + 2) < b → FieldAt.Bad ≡ found_field (field m at)
+  pub two_bytes_past : tag % 8 ≡ 2 → length m - (at + 2) < b → None ≡ answered as_field (field m at)
   two_bytes_past e l = past_the_end m (tag / 8) (at + 1) b (at + 2) b_was l ∙ delimited e
 
   pub two_bytes_part : tag % 8 ≡ 2 → b ≤ length m - (at + 2)
-      → FieldAt.Is (record { number = tag / 8; wire = 2; value = 0; start = at + 2; next = at + 2 + b }) ≡ found_field (field m at)
+      → Is (record { number = tag / 8; wire = 2; value = 0; start = at + 2; next = at + 2 + b }) ≡ answered as_field (field m at)
   two_bytes_part e l = is_delimited_field m (tag / 8) (at + 1) b (at + 2) b_was l ∙ delimited e
 
 -- what is answered under a test, and else 0, was tested if it is not 0

@@ -1,9 +1,9 @@
 -- What the walks over a message turn on. Other crates cite `Walks` and `Selections`.
+pub mod Answered
 pub mod Varints
 pub mod FieldsRead
 pub mod Walks
 pub mod Tags
-pub mod Answers
 pub mod Selections
 pub mod Laying
 pub mod Bases

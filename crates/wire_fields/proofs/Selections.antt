@@ -5,6 +5,7 @@ use mathlib.Core.Path.{◌≡◌, refl, sym, ap, ◌∙◌}
 use mathlib.Core.Bool.{Bool, true, false, cond, ◌&&◌, and-true, and-false}
 use mathlib.Core.List.{List, [], ◌∷◌}
 use mathlib.Core.Option.{Option, none, some}
+use Rattle.std.specs.Prelude.{Some, None}
 use native.Mathlib.Omega.{arith}
 use native.Mathlib.Nat.{add-zero, zero-add}
 use lib.Dec.{eqb, leb}
@@ -14,12 +15,11 @@ use Rattle.rules.specs.Table.{keep, all}
 use Rattle.rules.proofs.Table.{by_test}
 use Rattle.wire.specs.Fields.{Field, fields}
 use Rattle.wire.specs.Select.{numbered, required, optional, part, up_to}
-use Rattle.wire_fields.specs.Found.{as_field}
+use Rattle.wire_fields.specs.Found.{as_field, answered, as_is}
 use Rattle.wire_fields.specs.Picked.{Wanted, nothing_seen, first_of, seen_with, seen_field, seen_after, picked_after, picked}
-use Rattle.wire_fields.specs.Selected.{is_one, number, optional_number, place, at_most, found_number, found_place}
+use Rattle.wire_fields.specs.Selected.{is_one, number, optional_number, place, at_most, place_of}
+use Rattle.wire_fields.proofs.Answered.{from_some, from_none, told_is, told_none}
 use Rattle.wire_fields.specs.declared.pick.Seen.{Seen}
-use Rattle.wire_fields.specs.declared.pick.Picked.TheVariants.{Fields, Bad}
-use Rattle.wire_fields.specs.declared.select.Number.{Number}
 use Rattle.wire_fields.specs.declared.select.Place.{Place}
 
 -- ---- what was seen of a list of fields
@@ -187,40 +187,30 @@ pub record Walked (m : List ℕ) (a b c : Wanted) (x y z : Seen) : Type 0 where
   pub at_b : Saw b.wire (numbered b.number fs) y
   pub at_c : Saw c.wire (numbered c.number fs) z
 
-pub walked : (m : List ℕ) (a b c : Wanted) (x y z : Seen) → Fields x y z ≡ picked m a b c → Walked m a b c x y z
+pub walked : (m : List ℕ) (a b c : Wanted) (x y z : Seen) → Some (x, y, z) ≡ picked m a b c → Walked m a b c x y z
 unfolding picked picked_after
 walked m a b c x y z e = go (fields m) refl e
   where
-    go : (o : Option (List Field)) → fields m ≡ o → Fields x y z ≡ picked_after a b c nothing_seen nothing_seen nothing_seen o
+    go : (o : Option (List Field)) → fields m ≡ o → Some (x, y, z) ≡ picked_after a b c nothing_seen nothing_seen nothing_seen o
         → Walked m a b c x y z
     go none p q = let n : ◌≡◌ {A = ℕ} 0 1 = cc in absurd (omega arith)
     go (some fs) p q =
-        let i : x ≡ seen_after a nothing_seen fs = cc in
-        let j : y ≡ seen_after b nothing_seen fs = cc in
-        let k : z ≡ seen_after c nothing_seen fs = cc in
+        let t : ◌≡◌ {A = Seen × Seen × Seen} (x, y, z) (seen_after a nothing_seen fs, seen_after b nothing_seen fs, seen_after c nothing_seen fs) = cc in
+        let i : x ≡ seen_after a nothing_seen fs = ap (λ (s : Seen × Seen × Seen). s.0) t in
+        let j : y ≡ seen_after b nothing_seen fs = ap (λ (s : Seen × Seen × Seen). s.1) t in
+        let k : z ≡ seen_after c nothing_seen fs = ap (λ (s : Seen × Seen × Seen). s.2) t in
         record { fs = fs; all_fields = p; at_a = rw i (saw a fs); at_b = rw j (saw b fs); at_c = rw k (saw c fs) }
 
 -- it is not well formed
-pub walked_not : (m : List ℕ) (a b c : Wanted) → Bad ≡ picked m a b c → fields m ≡ none
+pub walked_not : (m : List ℕ) (a b c : Wanted) → None ≡ picked m a b c → fields m ≡ none
 unfolding picked picked_after
 walked_not m a b c e = go (fields m) e
   where
-    go : (o : Option (List Field)) → Bad ≡ picked_after a b c nothing_seen nothing_seen nothing_seen o → o ≡ none
+    go : (o : Option (List Field)) → None ≡ picked_after a b c nothing_seen nothing_seen nothing_seen o → o ≡ none
     go none q = refl
     go (some fs) q = let n : ◌≡◌ {A = ℕ} 0 1 = cc in absurd (omega arith)
 
 -- ---- selections
-
--- how the code's answer tells that of the wire
-pub told_is : (o : Option ℕ) (v : ℕ) → Number.Is v ≡ found_number o → o ≡ some v
-unfolding found_number
-told_is none v e = let n : ◌≡◌ {A = ℕ} 0 1 = cc in absurd (omega arith)
-told_is (some u) v e = let q : u ≡ v = cc in ap some q
-
-pub told_bad : (o : Option ℕ) → Number.Bad ≡ found_number o → o ≡ none
-unfolding found_number
-told_bad none e = refl
-told_bad (some u) e = let n : ◌≡◌ {A = ℕ} 0 1 = cc in absurd (omega arith)
 
 -- whether some fields are one, of the wire type
 unfoldable one_of : ℕ → List Field → Bool
@@ -247,22 +237,22 @@ one_counted wire (f ∷ g ∷ l) s w =
     (λ t e. rw e (no_less wire 2 65 (g ∷ l) (omega arith) (omega arith))) in
     ne_eqb s.count 1 (λ z. omega (arith, w.count))
 
-pub number_law : (fits : ℕ → Bool) (l : List Field) (s : Seen) → Saw 0 l s → number fits s ≡ found_number (required fits l)
-unfolding number required found_number one_of first_of as_field
+pub number_law : (fits : ℕ → Bool) (l : List Field) (s : Seen) → Saw 0 l s → number fits s ≡ answered as_is (required fits l)
+unfolding number required answered one_of first_of as_field
 number_law fits [] s w = rw (one_counted 0 [] s w)
 number_law fits (f ∷ []) s w = rw (one_counted 0 (f ∷ []) s w) (by_test (eqb f.wire 0) (λ t. rw t (right t)) (λ t. rw t))
   where
-    right : eqb f.wire 0 ≡ true → cond (fits s.first) (Number.Is s.first) Number.Bad ≡ found_number (cond (fits f.value) (some f.value) none)
+    right : eqb f.wire 0 ≡ true → cond (fits s.first) (Some s.first) None ≡ answered as_is (cond (fits f.value) (some f.value) none)
     right t =
         let q : s.first ≡ f.value = (w.single f refl t).0 ∙ rw t in
         rw q (by_test (fits f.value) (λ u. rw u) (λ u. rw u))
 number_law fits (f ∷ g ∷ l) s w = rw (one_counted 0 (f ∷ g ∷ l) s w)
 
-pub required_is : (fits : ℕ → Bool) {l : List Field} {s : Seen} {v : ℕ} → Saw 0 l s → Number.Is v ≡ number fits s → required fits l ≡ some v
-required_is fits {l = l} {s = s} {v = v} w e = told_is (required fits l) v (e ∙ number_law fits l s w)
+pub required_is : (fits : ℕ → Bool) {l : List Field} {s : Seen} {v : ℕ} → Saw 0 l s → Some v ≡ number fits s → required fits l ≡ some v
+required_is fits {l = l} {s = s} {v = v} w e = told_is (required fits l) (e ∙ number_law fits l s w)
 
-pub required_bad : (fits : ℕ → Bool) {l : List Field} {s : Seen} → Saw 0 l s → Number.Bad ≡ number fits s → required fits l ≡ none
-required_bad fits {l = l} {s = s} w e = told_bad (required fits l) (e ∙ number_law fits l s w)
+pub required_bad : (fits : ℕ → Bool) {l : List Field} {s : Seen} → Saw 0 l s → None ≡ number fits s → required fits l ≡ none
+required_bad fits {l = l} {s = s} w e = told_none (required fits l) (e ∙ number_law fits l s w)
 
 -- none was seen exactly where there is none
 pub none_counted : (wire : ℕ) (f : Field) (l : List Field) (s : Seen) → Saw wire (f ∷ l) s → 1 ≤ s.count
@@ -273,8 +263,8 @@ none_counted wire f l s w =
     (λ t g e. absurd (omega arith))
     (λ t e. rw e (no_less wire 1 65 l (omega arith) (omega arith))))
 
-optional_law : (fits : ℕ → Bool) (l : List Field) (s : Seen) → Saw 0 l s → optional_number fits s ≡ found_number (optional fits l)
-unfolding optional_number optional found_number count_after
+optional_law : (fits : ℕ → Bool) (l : List Field) (s : Seen) → Saw 0 l s → optional_number fits s ≡ answered as_is (optional fits l)
+unfolding optional_number optional answered count_after
 optional_law fits [] s w = rw w.count
 optional_law fits (f ∷ l) s w =
     let n = none_counted 0 f l s w in
@@ -282,12 +272,12 @@ optional_law fits (f ∷ l) s w =
     rw t (number_law fits (f ∷ l) s w)
 
 pub optional_is : (fits : ℕ → Bool) {l : List Field} {s : Seen} {v : ℕ}
-    → Saw 0 l s → Number.Is v ≡ optional_number fits s → optional fits l ≡ some v
-optional_is fits {l = l} {s = s} {v = v} w e = told_is (optional fits l) v (e ∙ optional_law fits l s w)
+    → Saw 0 l s → Some v ≡ optional_number fits s → optional fits l ≡ some v
+optional_is fits {l = l} {s = s} {v = v} w e = told_is (optional fits l) (e ∙ optional_law fits l s w)
 
 pub optional_bad : (fits : ℕ → Bool) {l : List Field} {s : Seen}
-    → Saw 0 l s → Number.Bad ≡ optional_number fits s → optional fits l ≡ none
-optional_bad fits {l = l} {s = s} w e = told_bad (optional fits l) (e ∙ optional_law fits l s w)
+    → Saw 0 l s → None ≡ optional_number fits s → optional fits l ≡ none
+optional_bad fits {l = l} {s = s} w e = told_none (optional fits l) (e ∙ optional_law fits l s w)
 
 -- a part of a list of fields stands at a place
 pub record PartAt (l : List Field) (start next : ℕ) : Type 0 where
@@ -296,8 +286,8 @@ pub record PartAt (l : List Field) (start next : ℕ) : Type 0 where
   pub starts : f.start ≡ start
   pub ends : f.next ≡ next
 
-pub place_law : (l : List Field) (s : Seen) → Saw 2 l s → place s ≡ found_place (part l)
-unfolding place part found_place one_of first_of as_field
+pub place_law : (l : List Field) (s : Seen) → Saw 2 l s → place s ≡ answered place_of (part l)
+unfolding place part answered place_of one_of first_of as_field
 place_law [] s w = rw (one_counted 2 [] s w)
 place_law (f ∷ []) s w =
     rw (one_counted 2 (f ∷ []) s w)
@@ -311,44 +301,37 @@ place_law (f ∷ []) s w =
     (λ t. rw t))
 place_law (f ∷ g ∷ l) s w = rw (one_counted 2 (f ∷ g ∷ l) s w)
 
-pub part_is : {l : List Field} {s : Seen} {start next : ℕ} → Saw 2 l s → Place.Is start next ≡ place s → PartAt l start next
-unfolding found_place
-part_is {l = l} {s = s} {start = start} {next = next} w e = go (part l) refl (e ∙ place_law l s w)
-  where
-    go : (o : Option Field) → part l ≡ o → Place.Is start next ≡ found_place o → PartAt l start next
-    go none p q = let n : ◌≡◌ {A = ℕ} 0 1 = cc in absurd (omega arith)
-    go (some f) p q = record { f = f; is = p; starts = cc; ends = cc }
+pub part_is : {l : List Field} {s : Seen} {p : Place} → Saw 2 l s → Some p ≡ place s → PartAt l p.start p.next
+unfolding place_of
+part_is {l = l} {s = s} {p = p} w e =
+    let t = from_some place_of (part l) (e ∙ place_law l s w) in
+    record { f = t.x; is = t.is; starts = cc; ends = cc }
 
-pub part_bad : {l : List Field} {s : Seen} → Saw 2 l s → Place.Bad ≡ place s → part l ≡ none
-unfolding found_place
-part_bad {l = l} {s = s} w e = go (part l) (e ∙ place_law l s w)
-  where
-    go : (o : Option Field) → Place.Bad ≡ found_place o → o ≡ none
-    go none q = refl
-    go (some f) q = let n : ◌≡◌ {A = ℕ} 0 1 = cc in absurd (omega arith)
+pub part_bad : {l : List Field} {s : Seen} → Saw 2 l s → None ≡ place s → part l ≡ none
+part_bad {l = l} {s = s} w e = from_none place_of (part l) (e ∙ place_law l s w)
 
 -- at most k fields, all of a wire type
 module _ (k : ℕ) (few : k ≤ 64) {wire : ℕ} {l : List Field} {s : Seen} (w : Saw wire l s) where
   several_law : leb s.count k ≡ (leb (length l) k && all (of_wire wire) l)
   several_law = rw w.count (all_counted wire k 0 l few ∙ rw (zero-add (length l)))
 
-  pub several_is : {n : ℕ} → Number.Is n ≡ at_most k s → (up_to k wire l ≡ some l) × (n ≡ length l) × (n ≤ k)
+  pub several_is : {n : ℕ} → Some n ≡ at_most k s → (up_to k wire l ≡ some l) × (n ≡ length l) × (n ≤ k)
   unfolding up_to at_most
   several_is {n = n} e =
       by_test (leb s.count k)
       (λ t.
-      let z : Number.Is n ≡ Number.Is s.count = rw t at e in
+      let z : Some n ≡ Some s.count = rw t at e in
       let q : n ≡ s.count = cc in
       let h = leb-true s.count k t in
       let m = counted_length wire 0 l (omega (arith, w.count)) in
       (rw (← several_law, t), omega (arith, w.count), omega arith))
-      (λ t. let z : Number.Is n ≡ Number.Bad = rw t at e in let o : ◌≡◌ {A = ℕ} 0 1 = cc in absurd (omega arith))
+      (λ t. let z : Some n ≡ None = rw t at e in let o : ◌≡◌ {A = ℕ} 0 1 = cc in absurd (omega arith))
 
-  pub several_bad : Number.Bad ≡ at_most k s → up_to k wire l ≡ none
+  pub several_bad : None ≡ at_most k s → up_to k wire l ≡ none
   unfolding up_to at_most
   several_bad e =
       by_test (leb s.count k)
-      (λ t. let z : Number.Bad ≡ Number.Is s.count = rw t at e in let n : ◌≡◌ {A = ℕ} 0 1 = cc in absurd (omega arith))
+      (λ t. let z : None ≡ Some s.count = rw t at e in let n : ◌≡◌ {A = ℕ} 0 1 = cc in absurd (omega arith))
       (λ t. rw (← several_law, t))
 
 -- ---- what was asked for by a tag that was made of a number

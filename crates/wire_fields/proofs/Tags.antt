@@ -5,17 +5,17 @@ use mathlib.Core.Path.{◌≡◌, refl, sym, ◌∙◌}
 use mathlib.Core.Bool.{true, ◌&&◌, true≢false, and-eq-true_iff}
 use mathlib.Core.List.{List}
 use mathlib.Core.Option.{none}
+use Rattle.std.specs.Prelude.{None}
 use native.Mathlib.Omega.{arith}
 use lib.Dec.{eqb, leb, ltb}
 use lib.ListN.{length, get_or}
 use borrow.Author.Tests.{ltb-true, leb-true, eqb-true, eqb-false, eq-eqb, not-true}
 use Rattle.rules.proofs.Table.{by_test}
 use Rattle.wire.specs.Fields.{field, field_of, varint_field}
-use Rattle.wire_fields.specs.Found.{varint_at, found_field, varint_tag, short_tag, passed_by}
-use Rattle.wire_fields.specs.declared.varint.Varint.TheVariants.{Read, Bad}
+use Rattle.wire_fields.specs.Found.{varint_at, answered, as_field, varint_tag, short_tag, passed_by}
 use Rattle.wire_fields.specs.declared.field.Field.{Field}
 use Rattle.wire_fields.proofs.FieldsRead.{tested, was_read, not_read, one_byte_was, number_right, no_varint_field, is_varint_field}
-use Rattle.wire_fields.proofs.Varints.{one_byte}
+use Rattle.wire_fields.proofs.Varints.{Read, one_byte}
 use Rattle.wire_fields.proofs.Walks.{Stands, stands, stands_not}
 
 -- a tag of one byte, that of a varint field
@@ -48,7 +48,7 @@ module _ (m : List ℕ) (at tag : ℕ) (e : tag ≡ varint_tag m at) (n : tag �
       go (suc k) z = omega arith
 
   -- so the field is a varint field
-  varint_there : found_field (varint_field m (tag / 8) (at + 1)) ≡ found_field (field m at)
+  varint_there : answered as_field (varint_field m (tag / 8) (at + 1)) ≡ answered as_field (field m at)
   unfolding field_of
   varint_there =
       let t = tagged m at tag e n in
@@ -65,7 +65,7 @@ module _ (m : List ℕ) (at tag : ℕ) (e : tag ≡ varint_tag m at) (n : tag �
       stands m at _ (is_varint_field m (tag / 8) (at + 1) value next w ∙ varint_there)
 
   -- or there is none, and the message is not well formed
-  pub tag_bad : Bad ≡ varint_at m (at + 1) → field m at ≡ none
+  pub tag_bad : None ≡ varint_at m (at + 1) → field m at ≡ none
   tag_bad r = stands_not m at (no_varint_field m (tag / 8) (at + 1) (not_read m (at + 1) r) ∙ varint_there)
 
 -- a field of two bytes

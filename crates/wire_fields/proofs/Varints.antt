@@ -5,6 +5,8 @@ use mathlib.Core.Path.{◌≡◌, refl, sym, ap, ◌∙◌}
 use mathlib.Core.Bool.{Bool, true, false, cond}
 use mathlib.Core.List.{List}
 use mathlib.Core.Option.{Option, none, some, map, bind}
+use Rattle.std.specs.Prelude.{Some, None}
+use Rattle.std.specs.Prelude as code
 use native.Mathlib.Nat.{mul_comm, mul_assoc, mul-add, add-zero, add_assoc, mul-le-mul_right}
 use native.Mathlib.Numerals.{add-one}
 use native.Mathlib.Omega.{arith}
@@ -15,8 +17,12 @@ use lib.Seq.{drop-cons}
 use borrow.Author.Tests.{lt-ltb, le-ltb, ltb-true}
 use Rattle.wire.specs.Varint.{followed, varint_within, of_64_bits, varint}
 use Rattle.wire.specs.Varint as wire
-use Rattle.wire_fields.specs.Found.{found_varint, varint_at, after, Partway}
-use Rattle.wire_fields.specs.declared.varint.Varint.TheVariants.{Read, Bad}
+use Rattle.wire_fields.specs.Found.{answered, as_varint, varint_at, after, Partway}
+use Rattle.wire_fields.specs.declared.varint.Varint.{Varint}
+
+-- a varint that was read, as the code answers it
+abbrev pub Read : ℕ → ℕ → code.Option Varint
+Read value next = Some (record { value = value; next = next })
 
 -- what is left of a varint at a place inside the message
 within_step : (k : ℕ) (m : List ℕ) (i : ℕ) → i < length m
@@ -74,23 +80,23 @@ partway_start m at h =
 
 -- the varint at a place, from the varint of at most ten bytes there
 at_place : (m : List ℕ) (at : ℕ) {o : Option wire.Varint} → varint_within 10 (drop at m) ≡ o
-    → varint_at m at ≡ found_varint at (bind o of_64_bits)
+    → varint_at m at ≡ answered (as_varint at) (bind o of_64_bits)
 unfolding varint_at varint
 at_place m at e = rw e
 
 -- a number of 64 bits is taken, a larger one is not
 taken : (at value size : ℕ) → value < 2 ^ 64
-    → found_varint at (bind (some (record { value = value; size = size })) of_64_bits) ≡ Read value (at + size)
-unfolding found_varint bind of_64_bits
+    → answered (as_varint at) (bind (some (record { value = value; size = size })) of_64_bits) ≡ Read value (at + size)
+unfolding answered as_varint bind of_64_bits
 taken at value size h = rw (lt-ltb value (2 ^ 64) h)
 
 too_wide : (at value size : ℕ) → 2 ^ 64 ≤ value
-    → found_varint at (bind (some (record { value = value; size = size })) of_64_bits) ≡ Bad
-unfolding found_varint bind of_64_bits
+    → answered (as_varint at) (bind (some (record { value = value; size = size })) of_64_bits) ≡ None
+unfolding answered as_varint bind of_64_bits
 too_wide at value size h = rw (le-ltb value (2 ^ 64) h)
 
-no_varint : (at : ℕ) → found_varint at (bind none of_64_bits) ≡ Bad
-unfolding found_varint bind
+no_varint : (at : ℕ) → answered (as_varint at) (bind none of_64_bits) ≡ None
+unfolding answered bind
 no_varint at = refl
 
 module _ {m : List ℕ} {at value size : ℕ} (p : Partway m at value size) where
@@ -99,7 +105,7 @@ module _ {m : List ℕ} {at value size : ℕ} (p : Partway m at value size) wher
   one_left = omega arith
 
   -- the message ends before the varint does
-  pub cut_off : length m ≤ at + size → Bad ≡ varint_at m at
+  pub cut_off : length m ≤ at + size → None ≡ varint_at m at
   unfolding varint_within
   cut_off h =
       let e : varint_within (10 - size) (drop (at + size) m) ≡ none = rw (one_left, drop_of_length-le m h) in
@@ -150,11 +156,11 @@ module _ {m : List ℕ} {at value : ℕ} (p : Partway m at value 9) (b : ℕ) (i
       let g : at + (9 + 1) ≡ next = omega arith in
       sym (at_place m at (last_one p b is h (omega arith)) ∙ taken at (value + b * 2 ^ 63) 10 w ∙ rw (g, e))
 
-  pub tenth_wide : 1 < b → Bad ≡ varint_at m at
+  pub tenth_wide : 1 < b → None ≡ varint_at m at
   unfolding varint_within
   tenth_wide l = sym (go (ltb b 128) refl)
     where
-      go : (t : Bool) → ltb b 128 ≡ t → varint_at m at ≡ Bad
+      go : (t : Bool) → ltb b 128 ≡ t → varint_at m at ≡ None
       go true t = at_place m at (last_one p b is h (ltb-true b 128 t)) ∙ too_wide at (value + b * 2 ^ 63) 10 (omega arith)
       go false t =
           let e : varint_within 1 (drop (at + 9) m) ≡ none = next_byte p b is h ∙ rw t in

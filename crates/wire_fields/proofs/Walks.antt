@@ -4,17 +4,17 @@ use Prim.Native.Nat.{ℕ, ◌<◌, ◌≤◌}
 use mathlib.Core.Path.{◌≡◌, refl, sym, ap, ◌∙◌}
 use mathlib.Core.List.{List, ◌∷◌}
 use mathlib.Core.Option.{Option, none, some, map, bind}
+use Rattle.std.specs.Prelude.{Some, None}
 use native.Mathlib.Omega.{arith}
 use lib.ListN.{length}
 use Rattle.wire.specs.Fields.{field, left}
 use Rattle.wire.specs.Fields as wire
 use Rattle.wire.proofs.Fields.{field_lies, left_start, left_end, left_step}
-use Rattle.wire_fields.specs.Found.{as_field, found_field}
+use Rattle.wire_fields.specs.Found.{as_field, answered}
 use Rattle.wire_fields.specs.Picked.{Wanted, nothing_seen, seen_field, seen_after, picked_after, picked}
 use Rattle.wire_fields.specs.declared.field.Field.{Field}
-use Rattle.wire_fields.specs.declared.field.FieldAt.{FieldAt}
+use Rattle.wire_fields.proofs.Answered.{from_some, from_none}
 use Rattle.wire_fields.specs.declared.pick.Seen.{Seen}
-use Rattle.wire_fields.specs.declared.pick.Picked.TheVariants.{Fields, Bad}
 
 -- ---- the field of a turn
 
@@ -27,25 +27,17 @@ pub record Stands (m : List ℕ) (at : ℕ) (f : Field) : Type 0 where
   pub starts : f.start ≤ f.next
   pub ends : f.next ≤ length m
 
-pub stands : (m : List ℕ) (at : ℕ) (f : Field) → FieldAt.Is f ≡ found_field (field m at) → Stands m at f
-unfolding found_field as_field
-stands m at f e = go (field m at) refl e
-  where
-    go : (o : Option wire.Field) → field m at ≡ o → FieldAt.Is f ≡ found_field o → Stands m at f
-    go none p q = let z : ◌≡◌ {A = ℕ} 0 1 = cc in absurd (omega arith)
-    go (some g) p q =
-        let l = field_lies m at g p in
-        let s : f ≡ as_field g = cc in
-        record { g = g; is = p; same = s; more = rw s l.0; starts = rw s l.1; ends = rw s l.2 }
+pub stands : (m : List ℕ) (at : ℕ) (f : Field) → Some f ≡ answered as_field (field m at) → Stands m at f
+unfolding as_field
+stands m at f e =
+    let p = from_some as_field (field m at) e in
+    let l = field_lies m at p.x p.is in
+    let s = p.same in
+    record { g = p.x; is = p.is; same = s; more = rw s l.0; starts = rw s l.1; ends = rw s l.2 }
 
 -- no field is there
-pub stands_not : (m : List ℕ) (at : ℕ) → FieldAt.Bad ≡ found_field (field m at) → field m at ≡ none
-unfolding found_field
-stands_not m at e = go (field m at) e
-  where
-    go : (o : Option wire.Field) → FieldAt.Bad ≡ found_field o → o ≡ none
-    go none q = refl
-    go (some g) q = let z : ◌≡◌ {A = ℕ} 0 1 = cc in absurd (omega arith)
+pub stands_not : (m : List ℕ) (at : ℕ) → None ≡ answered as_field (field m at) → field m at ≡ none
+stands_not m at e = from_none as_field (field m at) e
 
 -- the fields from a place on begin with that of the turn
 pub left_on : (m : List ℕ) (at : ℕ) (f : Field) → at < length m → (w : Stands m at f)
@@ -79,11 +71,11 @@ module _ (m : List ℕ) (a b c : Wanted) where
   seen_on x y z g (some l) = refl
 
   module _ {at : ℕ} {x y z : Seen} (p : Partly m a b c at x y z) where
-    pub partly_end : length m ≤ at → Fields x y z ≡ picked m a b c
+    pub partly_end : length m ≤ at → Some (x, y, z) ≡ picked m a b c
     unfolding picked_after seen_after
     partly_end h = sym (p.rest ∙ rw (left_end m at h))
 
-    pub partly_bad : at < length m → field m at ≡ none → Bad ≡ picked m a b c
+    pub partly_bad : at < length m → field m at ≡ none → None ≡ picked m a b c
     unfolding picked_after
     partly_bad h e = sym (p.rest ∙ rw (left_bad m at h e))
 

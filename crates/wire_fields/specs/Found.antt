@@ -1,22 +1,29 @@
 -- What the code of this crate answers, by the definitions of the wire.
-use Rattle.std.specs.Prelude.{ℕ, ◌+◌, ◌-◌, ◌*◌, ◌/◌, ◌%◌, ◌^◌, ◌<◌, ◌≤◌, ◌≡◌, Bool, false, not, cond, ◌&&◌, List, eqb, leb, ltb, length, get_or, drop}
-use Rattle.std.proofs.Math.Option.{Option, none, some, map}
+use Rattle.std.specs.Prelude.{ℕ, ◌+◌, ◌-◌, ◌*◌, ◌/◌, ◌%◌, ◌^◌, ◌<◌, ◌≤◌, ◌≡◌, Bool, false, not, cond, ◌&&◌, List, eqb, leb, ltb, length, get_or, drop, Option, Some, None}
+use Rattle.std.proofs.Math.Option.{none, some, map}
+use Rattle.std.proofs.Math.Option as math
 use Rattle.wire.specs.Varint.{varint, varint_within}
 use Rattle.wire.specs.Varint as wire
 use Rattle.wire.specs.Fields as wire_fields
 use Rattle.wire_fields.specs.declared.field.Field.{Field}
-use Rattle.wire_fields.specs.declared.field.FieldAt.{FieldAt}
 use Rattle.wire_fields.specs.declared.varint.Varint.{Varint}
-use Rattle.wire_fields.specs.declared.varint.Varint.TheVariants.{Read, Bad}
+
+-- what is there or not by the wire's definitions, as the code answers it
+unfoldable pub answered : {A B : Type 0} → (A → B) → math.Option A → Option B
+answered f none = None
+answered f (some x) = Some (f x)
+
+-- what the code has as the definitions do
+abbrev pub as_is : {A : Type 0} → A → A
+as_is x = x
 
 -- a varint read at a place, as the code has it
-unfoldable pub found_varint : ℕ → Option wire.Varint → Varint
-found_varint at none = Bad
-found_varint at (some v) = Read v.value (at + v.size)
+unfoldable pub as_varint : ℕ → wire.Varint → Varint
+as_varint at v = record { value = v.value; next = at + v.size }
 
 -- the varint at a place
-unfoldable pub varint_at : List ℕ → ℕ → Varint
-varint_at m at = found_varint at (varint (drop at m))
+unfoldable pub varint_at : List ℕ → ℕ → Option Varint
+varint_at m at = answered (as_varint at) (varint (drop at m))
 
 -- a varint with a number of some bytes before it
 unfoldable pub after : ℕ → ℕ → wire.Varint → wire.Varint
@@ -32,11 +39,6 @@ pub record Partway (m : List ℕ) (at value size : ℕ) : Type 0 where
 -- a field as the code has it
 unfoldable pub as_field : wire_fields.Field → Field
 as_field f = record { number = f.number; wire = f.wire; value = f.value; start = f.start; next = f.next }
-
--- a field that is there or not
-unfoldable pub found_field : Option wire_fields.Field → FieldAt
-found_field none = FieldAt.Bad
-found_field (some f) = FieldAt.Is (as_field f)
 
 -- two bytes of a message, neither of which says that another follows; the first is a tag
 pub record TwoBytes (m : List ℕ) (at tag b : ℕ) : Type 0 where

@@ -2,4 +2,5 @@
 pub mod Found
 pub mod Picked
 pub mod Selected
+pub mod Unread
 pub mod Values

@@ -1,14 +1,13 @@
 -- What a walk over all fields of a message keeps of those of a number: how many there were, or that one had another wire type than
 -- its declaration, and the last one's number or place.
-use Rattle.std.specs.Prelude.{ℕ, ◌+◌, ◌/◌, ◌%◌, cond, List, [], ◌∷◌, eqb, leb}
-use Rattle.std.proofs.Math.Option.{Option, none, some}
+use Rattle.std.specs.Prelude.{ℕ, ◌+◌, ◌/◌, ◌%◌, cond, List, [], ◌∷◌, eqb, leb, Option, Some, None}
+use Rattle.std.proofs.Math.Option.{none, some}
+use Rattle.std.proofs.Math.Option as math
 use Rattle.wire.specs.Fields.{fields}
 use Rattle.wire.specs.Fields as wire
 use Rattle.wire_fields.specs.Found.{as_field}
 use Rattle.wire_fields.specs.declared.field.Field.{Field}
 use Rattle.wire_fields.specs.declared.pick.Seen.{Seen}
-use Rattle.wire_fields.specs.declared.pick.Picked.{Picked}
-use Rattle.wire_fields.specs.declared.pick.Picked.TheVariants.{Fields, Bad}
 
 -- a number that is read, with the wire type of its declaration
 pub record Wanted : Type 0 where
@@ -54,10 +53,10 @@ seen_after w s [] = s
 seen_after w s (f ∷ fs) = seen_after w (seen_field w s (as_field f)) fs
 
 -- what was seen under three numbers, if the fields are there, after what was seen before
-unfoldable pub picked_after : Wanted → Wanted → Wanted → Seen → Seen → Seen → Option (List wire.Field) → Picked
-picked_after a b c x y z none = Bad
-picked_after a b c x y z (some fs) = Fields (seen_after a x fs) (seen_after b y fs) (seen_after c z fs)
+unfoldable pub picked_after : Wanted → Wanted → Wanted → Seen → Seen → Seen → math.Option (List wire.Field) → Option (Seen × Seen × Seen)
+picked_after a b c x y z none = None
+picked_after a b c x y z (some fs) = Some (seen_after a x fs, seen_after b y fs, seen_after c z fs)
 
 -- what stands under three numbers of a message
-unfoldable pub picked : List ℕ → Wanted → Wanted → Wanted → Picked
+unfoldable pub picked : List ℕ → Wanted → Wanted → Wanted → Option (Seen × Seen × Seen)
 picked m a b c = picked_after a b c nothing_seen nothing_seen nothing_seen (fields m)

@@ -1,11 +1,12 @@
 // A BaseCommand: its type, and where the message of that type stands in it.
 ghost use Rattle.std.specs.Prelude.{◌≡◌, ◌<◌, ◌^◌};
 ghost use Rattle.wire.specs.Commands.{type_of};
-ghost use Rattle.wire_fields.specs.Selected.{found_base, placed};
+ghost use Rattle.wire_fields.specs.Found.{answered};
+ghost use Rattle.wire_fields.specs.Selected.{base_of, placed};
 
 use super::field::{DELIMITED, VARINT, WIRE_TYPES};
-use super::pick::{Picked, pick};
-use super::select::{Number, Place, required_int32, required_part};
+use super::pick::pick;
+use super::select::{Place, Width};
 use super::varint::wide;
 
 // The tag of the type.
@@ -17,11 +18,11 @@ pub const NOTHING: u64 = 0;
 // Numbers of types are below this.
 const TYPES_END: u64 = 0x1_0000_0000;
 
-// The type and where its message stands; or the bytes are no BaseCommand.
+// The type, and where its message stands if it is there.
 #[derive(Clone, Copy)]
-pub enum Base {
-    Of(u64, Place),
-    Bad,
+pub struct Base {
+    pub kind: u64,
+    pub message: Option<Place>,
 }
 
 // The second byte, which in most commands is the type.
@@ -35,36 +36,29 @@ fn likely_type(m: &[u8]) -> u64
 }
 
 // Where the message of a type stands in a BaseCommand.
-fn message_part(m: &[u8], kind: u64) -> Place
+fn message_part(m: &[u8], kind: u64) -> Option<Place>
     ensures { result ≡ placed m.now kind }
 {
     if TYPES_END <= kind {
-        return Place::Bad;
+        return None;
     }
-    let Picked::Fields(x, _, _) = pick(m, kind * WIRE_TYPES + DELIMITED, NOTHING, NOTHING) else {
-        return Place::Bad;
-    };
-    required_part(x)
+    let (x, _, _) = pick(m, kind * WIRE_TYPES + DELIMITED, NOTHING, NOTHING)?;
+    x.part()
 }
 
 // The type of a BaseCommand and where its message stands: in one walk where the type is as likely. The slice is lent anew as its
 // whole part, since handed on as it came it is copied first, and what reads the copy has to wait for it.
-pub fn read_base(m: &[u8]) -> Base
-    ensures { result ≡ found_base m.now (type_of m.now) }
+pub fn read_base(m: &[u8]) -> Option<Base>
+    ensures { result ≡ answered (base_of m.now) (type_of m.now) }
 {
     let likely = likely_type(m);
     let n = m.len();
-    let Picked::Fields(x, y, _) = pick(&m[0..n], TYPE, likely * WIRE_TYPES + DELIMITED, NOTHING)
-    else {
-        return Base::Bad;
-    };
-    let Number::Is(kind) = required_int32(x) else {
-        return Base::Bad;
-    };
+    let (x, y, _) = pick(&m[0..n], TYPE, likely * WIRE_TYPES + DELIMITED, NOTHING)?;
+    let kind = x.required(Width::Int32)?;
     if kind == likely {
-        let place = required_part(y);
-        return Base::Of(kind, place);
+        let message = y.part();
+        return Some(Base { kind, message });
     }
-    let place = message_part(m, kind);
-    Base::Of(kind, place)
+    let message = message_part(m, kind);
+    Some(Base { kind, message })
 }

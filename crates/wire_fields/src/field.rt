@@ -1,9 +1,9 @@
 // The field whose tag stands at a place of a message. Its content is looked at as far as its wire type says, and not inside.
 ghost use Rattle.std.specs.Prelude.{◌≡◌, ◌+◌, ◌≤◌, length};
 ghost use Rattle.wire.specs.Fields.{field, field_of, varint_field, delimited_field, fixed_field};
-ghost use Rattle.wire_fields.specs.Found.{found_field, part_tag, varint_tag, short_tag, passed_by};
+ghost use Rattle.wire_fields.specs.Found.{answered, as_field, part_tag, varint_tag, short_tag, passed_by};
 
-use super::varint::{MORE, Varint, varint_at, wide};
+use super::varint::{MORE, varint_at, wide};
 
 // A field as the wire has it: its number and wire type, the number of a varint, and the places where its content begins and where
 // the next field does.
@@ -14,13 +14,6 @@ pub struct Field {
     pub value: u64,
     pub start: usize,
     pub next: usize,
-}
-
-// A field; or none is there.
-#[derive(Clone, Copy)]
-pub enum FieldAt {
-    Is(Field),
-    Bad,
 }
 
 // Wire types.
@@ -38,53 +31,49 @@ pub const WIRE_TYPES: u64 = 8;
 const TAGS_END: u64 = 0x1_0000_0000;
 
 // A varint field whose number stands at a place.
-fn varint_field(m: &[u8], number: u64, at: usize) -> FieldAt
+fn varint_field(m: &[u8], number: u64, at: usize) -> Option<Field>
     requires { at ≤ length m.now }
-    ensures { result ≡ found_field (varint_field m.now number at) }
+    ensures { result ≡ answered as_field (varint_field m.now number at) }
 {
-    let Varint::Read(value, next) = varint_at(m, at) else {
-        return FieldAt::Bad;
-    };
-    FieldAt::Is(Field {
-        number: number,
+    let v = varint_at(m, at)?;
+    Some(Field {
+        number,
         wire: VARINT,
-        value: value,
+        value: v.value,
         start: at,
-        next: next,
+        next: v.next,
     })
 }
 
 // A length-delimited field whose length stands at a place.
-fn delimited_field(m: &[u8], number: u64, at: usize) -> FieldAt
+fn delimited_field(m: &[u8], number: u64, at: usize) -> Option<Field>
     requires { at ≤ length m.now }
-    ensures { result ≡ found_field (delimited_field m.now number at) }
+    ensures { result ≡ answered as_field (delimited_field m.now number at) }
 {
-    let Varint::Read(size, start) = varint_at(m, at) else {
-        return FieldAt::Bad;
-    };
-    if ((m.len() - start) as u64) < size {
-        return FieldAt::Bad;
+    let size = varint_at(m, at)?;
+    if ((m.len() - size.next) as u64) < size.value {
+        return None;
     }
-    FieldAt::Is(Field {
-        number: number,
+    Some(Field {
+        number,
         wire: DELIMITED,
         value: 0,
-        start: start,
-        next: start + size as usize,
+        start: size.next,
+        next: size.next + size.value as usize,
     })
 }
 
 // A field of a fixed width.
-fn fixed_field(m: &[u8], number: u64, wire: u64, width: usize, at: usize) -> FieldAt
+fn fixed_field(m: &[u8], number: u64, wire: u64, width: usize, at: usize) -> Option<Field>
     requires { at ≤ length m.now }
-    ensures { result ≡ found_field (fixed_field m.now number wire width at) }
+    ensures { result ≡ answered as_field (fixed_field m.now number wire width at) }
 {
     if m.len() - at < width {
-        return FieldAt::Bad;
+        return None;
     }
-    FieldAt::Is(Field {
-        number: number,
-        wire: wire,
+    Some(Field {
+        number,
+        wire,
         value: 0,
         start: at,
         next: at + width,
@@ -92,9 +81,10 @@ fn fixed_field(m: &[u8], number: u64, wire: u64, width: usize, at: usize) -> Fie
 }
 
 // What a wire type says, from a place on; groups and unknown types are no field.
-fn content_at(m: &[u8], number: u64, wire: u64, at: usize) -> FieldAt
+#[tactic(auto, unfolding(wire::specs::Fields::field_of, crate::specs::Found::answered))]
+fn content_at(m: &[u8], number: u64, wire: u64, at: usize) -> Option<Field>
     requires { at ≤ length m.now }
-    ensures { result ≡ found_field (field_of m.now number wire at) }
+    ensures { result ≡ answered as_field (field_of m.now number wire at) }
 {
     if wire == VARINT {
         return varint_field(m, number, at);
@@ -108,27 +98,26 @@ fn content_at(m: &[u8], number: u64, wire: u64, at: usize) -> FieldAt
     if wire == FIXED_32 {
         return fixed_field(m, number, FIXED_32, 4, at);
     }
-    FieldAt::Bad
+    None
 }
 
 // The field whose tag stands at a place, of any form.
-fn field_of_any_size(m: &[u8], at: usize) -> FieldAt
+fn field_of_any_size(m: &[u8], at: usize) -> Option<Field>
     requires { at ≤ length m.now }
-    ensures { result ≡ found_field (field m.now at) }
+    ensures { result ≡ answered as_field (field m.now at) }
 {
-    let Varint::Read(tag, after) = varint_at(m, at) else {
-        return FieldAt::Bad;
-    };
-    if tag < WIRE_TYPES {
-        return FieldAt::Bad;
+    let tag = varint_at(m, at)?;
+    if tag.value < WIRE_TYPES {
+        return None;
     }
-    if TAGS_END <= tag {
-        return FieldAt::Bad;
+    if TAGS_END <= tag.value {
+        return None;
     }
-    content_at(m, tag / WIRE_TYPES, tag % WIRE_TYPES, after)
+    content_at(m, tag.value / WIRE_TYPES, tag.value % WIRE_TYPES, tag.next)
 }
 
 // The tag at a place if it is that of a length-delimited field and has one byte, as the length has; else 0.
+#[tactic(auto, unfolding(crate::specs::Found::part_tag))]
 fn part_tag(m: &[u8], at: usize) -> u64
     requires { at + 2 ≤ length m.now }
     ensures { result ≡ part_tag m.now at }
@@ -150,9 +139,9 @@ fn part_tag(m: &[u8], at: usize) -> u64
 }
 
 // The field whose tag stands at a place. Most parts have a tag and a length of one byte, and are read at once.
-pub fn field_at(m: &[u8], at: usize) -> FieldAt
+pub fn field_at(m: &[u8], at: usize) -> Option<Field>
     requires { at ≤ length m.now }
-    ensures { result ≡ found_field (field m.now at) }
+    ensures { result ≡ answered as_field (field m.now at) }
 {
     if m.len() - at < 2 {
         return field_of_any_size(m, at);
@@ -164,19 +153,20 @@ pub fn field_at(m: &[u8], at: usize) -> FieldAt
     let size = wide(m[at + 1]);
     let start = at + 2;
     if ((m.len() - start) as u64) < size {
-        return FieldAt::Bad;
+        return None;
     }
-    FieldAt::Is(Field {
+    Some(Field {
         number: tag / WIRE_TYPES,
         wire: DELIMITED,
         value: 0,
-        start: start,
+        start,
         next: start + size as usize,
     })
 }
 
 // The tag at a place if it is that of a varint field and has one byte; else 0. Walks go by it and by `short_tag` where they can,
 // since they then make no field.
+#[tactic(auto, unfolding(crate::specs::Found::varint_tag))]
 pub fn varint_tag(m: &[u8], at: usize) -> u64
     ensures { result ≡ varint_tag m.now at }
 {
@@ -194,6 +184,7 @@ pub fn varint_tag(m: &[u8], at: usize) -> u64
 }
 
 // The tag of a varint field of two bytes at a place; else 0.
+#[tactic(auto, unfolding(crate::specs::Found::short_tag))]
 pub fn short_tag(m: &[u8], at: usize) -> u64
     requires { at ≤ length m.now }
     ensures { result ≡ short_tag m.now at }
@@ -208,6 +199,7 @@ pub fn short_tag(m: &[u8], at: usize) -> u64
 }
 
 // Whether a varint field of two bytes stands at a place that is of another number: a walk that looks for the number passes it by.
+#[tactic(auto, unfolding(crate::specs::Found::passed_by))]
 pub fn passed_by(m: &[u8], at: usize, number: u64) -> bool
     requires { at ≤ length m.now }
     ensures { result ≡ passed_by m.now at number }

@@ -3,7 +3,7 @@ ghost use Rattle.std.specs.Prelude.{◌≡◌, ◌+◌, ◌≤◌, length};
 ghost use Rattle.words.specs.Act.{lay};
 ghost use Rattle.wire_fields.specs.Values.{one_value, values_of, Ready, Laid};
 
-use super::field::{Field, FieldAt, field_at};
+use super::field::{Field, field_at};
 
 // Lays the number of a field if the field is of the number, and answers the place after it.
 fn lay_number(f: Field, number: u64, list: &mut [u64], to: usize) -> usize
@@ -25,7 +25,7 @@ pub fn lay_numbers(m: &[u8], number: u64, list: &mut [u64], to: usize)
     let mut at = 0;
     let mut next = to;
     while at < m.len() {
-        let FieldAt::Is(f) = field_at(m, at) else {
+        let Some(f) = field_at(m, at) else {
             return;
         };
         next = lay_number(f, number, list, next);

@@ -1,5 +1,5 @@
 // A message of the wire gone through field by field: a varint, a field, one walk over all fields that keeps what stands under
-// three numbers, and what a reader takes out of that. The walk is also the test that the message is well formed.
+// three numbers, what a reader takes out of that, and why bytes are not read. The walk is also the test that the message is well formed.
 #![tactic(auto)]
 
 pub mod base;
@@ -7,4 +7,5 @@ pub mod field;
 pub mod lay;
 pub mod pick;
 pub mod select;
+pub mod unread;
 pub mod varint;

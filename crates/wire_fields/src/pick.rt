@@ -3,7 +3,7 @@
 ghost use Rattle.std.specs.Prelude.{◌≡◌};
 ghost use Rattle.wire_fields.specs.Picked.{wanted_of, nothing_seen, first_of, seen_with, picked};
 
-use super::field::{Field, FieldAt, VARINT, WIRE_TYPES, field_at, short_tag};
+use super::field::{Field, VARINT, WIRE_TYPES, field_at, short_tag};
 use super::varint::wide;
 
 // What was seen under a number: how many fields, MANY where one had another wire type; and of the last its number or where its
@@ -18,13 +18,6 @@ pub struct Seen {
 // More fields than any reader takes.
 const MANY: u64 = 65;
 
-// What was seen under three numbers of a message; or it is not well formed.
-#[derive(Clone, Copy)]
-pub enum Picked {
-    Fields(Seen, Seen, Seen),
-    Bad,
-}
-
 impl Seen {
     // Nothing was seen yet.
     fn nothing() -> Seen
@@ -38,6 +31,7 @@ impl Seen {
     }
 
     // One field more.
+    #[tactic(auto, unfolding(crate::specs::Picked::seen_with))]
     fn with(self, wanted: u64, number: u64, wire: u64, first: u64, next: usize) -> Seen
         ensures { result ≡ seen_with (wanted_of wanted) self number wire first next }
     {
@@ -56,13 +50,14 @@ impl Seen {
         }
         Seen {
             count: self.count + 1,
-            first: first,
-            next: next,
+            first,
+            next,
         }
     }
 }
 
 // A varint's number; of another field where its bytes begin.
+#[tactic(auto, unfolding(crate::specs::Picked::first_of))]
 fn first_of(f: Field) -> u64
     ensures { result ≡ first_of f }
 {
@@ -72,8 +67,8 @@ fn first_of(f: Field) -> u64
     f.start as u64
 }
 
-// What stands under three numbers of a message.
-pub fn pick(m: &[u8], a: u64, b: u64, c: u64) -> Picked
+// What stands under three numbers of a message that is well formed.
+pub fn pick(m: &[u8], a: u64, b: u64, c: u64) -> Option<(Seen, Seen, Seen)>
     ensures { result ≡ picked m.now (wanted_of a) (wanted_of b) (wanted_of c) }
 {
     let mut at = 0;
@@ -91,14 +86,12 @@ pub fn pick(m: &[u8], a: u64, b: u64, c: u64) -> Picked
             at = next;
             continue;
         }
-        let FieldAt::Is(f) = field_at(m, at) else {
-            return Picked::Bad;
-        };
+        let f = field_at(m, at)?;
         let first = first_of(f);
         x = x.with(a, f.number, f.wire, first, f.next);
         y = y.with(b, f.number, f.wire, first, f.next);
         z = z.with(c, f.number, f.wire, first, f.next);
         at = f.next;
     }
-    Picked::Fields(x, y, z)
+    Some((x, y, z))
 }

@@ -1,127 +1,104 @@
 // What a reader takes out of what was seen under a number: a number or a part that has to be there, a number that may be absent,
 // or several fields. A singular field stands once, with the wire type of its declaration and a number of its width.
 ghost use Rattle.std.specs.Prelude.{◌≡◌};
-ghost use Rattle.wire.specs.Select.{uint64, uint32, int32, count};
-ghost use Rattle.wire_fields.specs.Selected.{is_one, number, optional_number, place, at_most};
+ghost use Rattle.wire_fields.specs.Selected.{fits, is_one, number, optional_number, place, at_most};
 
 use super::pick::Seen;
 
-// A number; or there is none that is right.
+// Where a part begins, and where it ends.
 #[derive(Clone, Copy)]
-pub enum Number {
-    Is(u64),
-    Bad,
+pub struct Place {
+    pub start: usize,
+    pub next: usize,
 }
 
-// Where a part begins and ends; or there is none that is right.
-#[derive(Clone, Copy)]
-pub enum Place {
-    Is(usize, usize),
-    Bad,
+// The width of a number, by its declaration; a count is an int32 from 0 on.
+#[derive(Clone, Copy, Debug, PartialEq, Eq)]
+pub enum Width {
+    Uint64,
+    Uint32,
+    Int32,
+    Count,
 }
 
-// Widths: a uint32 is below the first, an int32 below the second or, negative in ten bytes, from the third on.
+// A uint32 is below the first, an int32 below the second or, negative in ten bytes, from the third on.
 const UINT32_END: u64 = 0x1_0000_0000;
 
 const INT32_END: u64 = 0x8000_0000;
 
 const INT32_NEGATIVE: u64 = 0xffff_ffff_8000_0000;
 
-// Whether one field was seen, of the right wire type.
-fn is_one(s: Seen) -> bool
-    ensures { result ≡ is_one s }
-{
-    s.count == 1
+impl Width {
+    // Whether a number is of the width.
+    #[tactic(auto, unfolding(wire::specs::Select::uint64, wire::specs::Select::uint32, wire::specs::Select::int32, wire::specs::Select::count))]
+    fn fits(self, value: u64) -> bool
+        ensures { result ≡ fits self value }
+    {
+        match self {
+            Width::Uint64 => true,
+            Width::Uint32 => value < UINT32_END,
+            Width::Int32 => value < INT32_END || INT32_NEGATIVE <= value,
+            Width::Count => value < INT32_END,
+        }
+    }
 }
 
-// A uint64 that has to be there.
-pub fn required_uint64(s: Seen) -> Number
-    ensures { result ≡ number uint64 s }
-{
-    if !is_one(s) {
-        return Number::Bad;
+impl Seen {
+    // Whether one field was seen, of the right wire type.
+    #[tactic(auto, unfolding(crate::specs::Selected::is_one))]
+    fn is_one(self) -> bool
+        ensures { result ≡ is_one self }
+    {
+        self.count == 1
     }
-    Number::Is(s.first)
-}
 
-// A uint32 that has to be there.
-pub fn required_uint32(s: Seen) -> Number
-    ensures { result ≡ number uint32 s }
-{
-    if !is_one(s) {
-        return Number::Bad;
+    // A number that has to be there.
+    #[tactic(auto, unfolding(crate::specs::Selected::number))]
+    pub fn required(self, width: Width) -> Option<u64>
+        ensures { result ≡ number (fits width) self }
+    {
+        if !self.is_one() {
+            return None;
+        }
+        if !width.fits(self.first) {
+            return None;
+        }
+        Some(self.first)
     }
-    if UINT32_END <= s.first {
-        return Number::Bad;
-    }
-    Number::Is(s.first)
-}
 
-// An int32 or an enum that has to be there.
-pub fn required_int32(s: Seen) -> Number
-    ensures { result ≡ number int32 s }
-{
-    if !is_one(s) {
-        return Number::Bad;
+    // A number that may be absent, and is 0 then.
+    #[tactic(auto, unfolding(crate::specs::Selected::optional_number))]
+    pub fn optional(self, width: Width) -> Option<u64>
+        ensures { result ≡ optional_number (fits width) self }
+    {
+        if self.count == 0 {
+            return Some(0);
+        }
+        self.required(width)
     }
-    if s.first < INT32_END {
-        return Number::Is(s.first);
-    }
-    if s.first < INT32_NEGATIVE {
-        return Number::Bad;
-    }
-    Number::Is(s.first)
-}
 
-// An int32 from 0 on that has to be there.
-fn required_count(s: Seen) -> Number
-    ensures { result ≡ number count s }
-{
-    if !is_one(s) {
-        return Number::Bad;
+    // A part that has to be there.
+    #[tactic(auto, unfolding(crate::specs::Selected::place))]
+    pub fn part(self) -> Option<Place>
+        ensures { result ≡ place self }
+    {
+        if !self.is_one() {
+            return None;
+        }
+        Some(Place {
+            start: self.first as usize,
+            next: self.next,
+        })
     }
-    if INT32_END <= s.first {
-        return Number::Bad;
-    }
-    Number::Is(s.first)
-}
 
-// A uint32 that may be absent, and is 0 then.
-pub fn optional_uint32(s: Seen) -> Number
-    ensures { result ≡ optional_number uint32 s }
-{
-    if s.count == 0 {
-        return Number::Is(0);
+    // How many fields there are, at most some number and all of the right wire type.
+    #[tactic(auto, unfolding(crate::specs::Selected::at_most))]
+    pub fn several(self, most: u64) -> Option<u64>
+        ensures { result ≡ at_most most self }
+    {
+        if most < self.count {
+            return None;
+        }
+        Some(self.count)
     }
-    required_uint32(s)
-}
-
-// An int32 from 0 on that may be absent, and is 0 then.
-pub fn optional_count(s: Seen) -> Number
-    ensures { result ≡ optional_number count s }
-{
-    if s.count == 0 {
-        return Number::Is(0);
-    }
-    required_count(s)
-}
-
-// A part that has to be there.
-pub fn required_part(s: Seen) -> Place
-    ensures { result ≡ place s }
-{
-    if !is_one(s) {
-        return Place::Bad;
-    }
-    Place::Is(s.first as usize, s.next)
-}
-
-// How many fields there are, at most some number and all of the right wire type.
-pub fn several(s: Seen, most: u64) -> Number
-    ensures { result ≡ at_most most s }
-{
-    if most < s.count {
-        return Number::Bad;
-    }
-    Number::Is(s.count)
 }

@@ -2,11 +2,11 @@
 ghost use Rattle.std.specs.Prelude.{◌≡◌, ◌≤◌, length};
 ghost use Rattle.wire_fields.specs.Found.{varint_at, Partway};
 
-// A varint's number and the place after it; or none is there.
+// A varint's number, and the place after it.
 #[derive(Clone, Copy)]
-pub enum Varint {
-    Read(u64, usize),
-    Bad,
+pub struct Varint {
+    pub value: u64,
+    pub next: usize,
 }
 
 // The bytes before the last that a varint can have, and how many bits each has.
@@ -24,52 +24,59 @@ pub fn wide(x: u8) -> u64
 }
 
 // The varint at a place. Most have one byte, which is read without the loop.
-pub fn varint_at(m: &[u8], at: usize) -> Varint
+pub fn varint_at(m: &[u8], at: usize) -> Option<Varint>
     requires { at ≤ length m.now }
     ensures { result ≡ varint_at m.now at }
 {
     if m.len() <= at {
-        return Varint::Bad;
+        return None;
     }
     let b = wide(m[at]);
     if b < MORE {
-        return Varint::Read(b, at + 1);
+        return Some(Varint {
+            value: b,
+            next: at + 1,
+        });
     }
     varint_of_any_size(m, at)
 }
 
 // The varint at a place, byte by byte.
-pub fn varint_of_any_size(m: &[u8], at: usize) -> Varint
+pub fn varint_of_any_size(m: &[u8], at: usize) -> Option<Varint>
     requires { at ≤ length m.now }
     ensures { result ≡ varint_at m.now at }
 {
     let mut value: u64 = 0;
-    let mut size = 0;
-    while size < MOST_BEFORE {
+    for size in 0..MOST_BEFORE {
         if m.len() <= at + size {
-            return Varint::Bad;
+            return None;
         }
         let b = wide(m[at + size]);
         if b < MORE {
-            return Varint::Read(value + (b << (BITS * size)), at + size + 1);
+            return Some(Varint {
+                value: value + (b << (BITS * size)),
+                next: at + size + 1,
+            });
         }
         value += (b - MORE) << (BITS * size);
-        size += 1;
     }
     last_byte(m, at, value)
 }
 
 // The tenth byte after nine with their number: it has one bit.
-fn last_byte(m: &[u8], at: usize, value: u64) -> Varint
+fn last_byte(m: &[u8], at: usize, value: u64) -> Option<Varint>
     requires { Partway m.now at value 9 }
     ensures { result ≡ varint_at m.now at }
 {
     if m.len() <= at + MOST_BEFORE {
-        return Varint::Bad;
+        return None;
     }
     let b = wide(m[at + MOST_BEFORE]);
     if 1 < b {
-        return Varint::Bad;
+        return None;
     }
-    Varint::Read(value + (b << (BITS * MOST_BEFORE)), at + MOST_BEFORE + 1)
+    Some(Varint {
+        value: value + (b << (BITS * MOST_BEFORE)),
+        next: at + MOST_BEFORE + 1,
+    })
 }

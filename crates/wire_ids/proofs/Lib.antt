@@ -1,5 +1,4 @@
 -- The laws of the two passes over ids.
-pub mod Turns
 pub mod Parts
 pub mod Tallies
 pub mod OneId

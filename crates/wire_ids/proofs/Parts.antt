@@ -6,6 +6,7 @@ use mathlib.Core.Bool.{Bool, true, false, cond, ◌&&◌, and-false}
 use mathlib.Core.List.{List, [], ◌∷◌, map}
 use mathlib.Core.Option
 use mathlib.Core.Option.{Option, none, some, bind}
+use Rattle.std.specs.Prelude.{Some, None}
 use native.Mathlib.Nat.{add-zero, zero-add}
 use native.Mathlib.Omega.{arith}
 use lib.Dec.{eqb, leb, ltb}
@@ -13,16 +14,18 @@ use lib.ListN.{length, length-map}
 use borrow.Author.Tests.{lt-leb, le-ltb, leb-false, ltb-true, ltb-false, eq-eqb, ne_eqb}
 use Rattle.rules.specs.Table.{all, keep, is_some}
 use Rattle.rules.specs.State.{Id}
+use Rattle.rules.specs.Groups.{Group}
 use Rattle.rules.proofs.Table.{by_test}
 use Rattle.wire.specs.Fields.{field, fields, left}
 use Rattle.wire.specs.Fields as wire
 use Rattle.wire.specs.Select.{numbered, uint64, required, up_to, numbers}
 use Rattle.wire.specs.Ids.{id_of, group_of}
 use Rattle.wire.proofs.Fields.{left_start, left_end}
-use Rattle.wire_fields.specs.Found.{as_field}
+use Rattle.wire.proofs.Ids.{group_short}
+use Rattle.wire_fields.specs.Found.{as_field, answered}
 use Rattle.wire_fields.specs.declared.field.Field.{Field}
 use Rattle.wire_fields.proofs.Walks.{Stands, left_on, left_bad}
-use Rattle.wire_ids.specs.Parts.{found_words, one_more, counted, parts_with, parts_after, words_told, told_after}
+use Rattle.wire_ids.specs.Parts.{words_in, found_words, one_more, counted, parts_with, parts_after, words_told, told_after}
 use Rattle.wire_ids.specs.declared.id.Parts.{Parts}
 
 -- a field is a varint
@@ -140,6 +143,26 @@ told_law fs =
     go (some ledger) none = refl
     go (some ledger) (some entry) = words_law _ (numbered 5 fs)
 
+-- ---- what is answered
+
+-- 17 words are told: there is no id
+told_none : (m : List ℕ) (n : ℕ) → n ≡ found_words (group_of m) → 16 < n → None ≡ answered words_in (group_of m)
+unfolding found_words answered
+told_none m n e h = go (group_of m) refl e
+  where
+    go : (i : Option Group) → group_of m ≡ i → n ≡ found_words i → None ≡ answered words_in i
+    go none p q = refl
+    go (some g) p q = let s = group_short m g p in absurd (omega arith)
+
+-- at most 16 are: there is one with as many
+told_some : (m : List ℕ) (n : ℕ) → n ≡ found_words (group_of m) → n ≤ 16 → Some n ≡ answered words_in (group_of m)
+unfolding found_words answered
+told_some m n e h = go (group_of m) e
+  where
+    go : (i : Option Group) → n ≡ found_words i → Some n ≡ answered words_in i
+    go none q = absurd (omega arith)
+    go (some g) q = rw q
+
 -- ---- the loop
 
 -- what was counted up to a place, and what is left, tell the words of the id
@@ -168,9 +191,9 @@ module _ (m : List ℕ) where
     partly_end h = sym (c.rest ∙ rw (left_end m at h))
 
     -- where no field is, it is no id
-    pub partly_bad : at < length m → field m at ≡ none → 17 ≡ found_words (group_of m)
+    pub partly_bad : at < length m → field m at ≡ none → None ≡ answered words_in (group_of m)
     unfolding told_after
-    partly_bad h e = sym (c.rest ∙ rw (left_bad m at h e))
+    partly_bad h e = told_none m 17 (sym (c.rest ∙ rw (left_bad m at h e))) (omega arith)
 
     -- a field more
     pub partly_on : at < length m → (f : Field) → Stands m at f → (q : Parts) → q ≡ parts_with f.number f.wire p
@@ -187,15 +210,21 @@ module _ (m : List ℕ) where
         go none = refl
         go (some l) = refl
 
-    -- the ways out after the end: not one ledger, not one entry, one of each
-    pub no_ledger : length m ≤ at → (p.ledgers ≡ 1 → ⊥) → 17 ≡ found_words (group_of m)
+    -- the ways out after the end: not one ledger, not one entry, one of each and too many words or few
+    pub no_ledger : length m ≤ at → (p.ledgers ≡ 1 → ⊥) → None ≡ answered words_in (group_of m)
     unfolding words_told
-    no_ledger h n = rw (ne_eqb p.ledgers 1 n) at (partly_end h)
+    no_ledger h n = told_none m 17 (rw (ne_eqb p.ledgers 1 n) at (partly_end h)) (omega arith)
 
-    pub no_entry : length m ≤ at → (p.entries ≡ 1 → ⊥) → 17 ≡ found_words (group_of m)
+    pub no_entry : length m ≤ at → (p.entries ≡ 1 → ⊥) → None ≡ answered words_in (group_of m)
     unfolding words_told
-    no_entry h n = rw (ne_eqb p.entries 1 n, and-false (eqb p.ledgers 1)) at (partly_end h)
+    no_entry h n = told_none m 17 (rw (ne_eqb p.entries 1 n, and-false (eqb p.ledgers 1)) at (partly_end h)) (omega arith)
 
-    pub has_both : length m ≤ at → p.ledgers ≡ 1 → p.entries ≡ 1 → p.words ≡ found_words (group_of m)
+    has_both : length m ≤ at → p.ledgers ≡ 1 → p.entries ≡ 1 → p.words ≡ found_words (group_of m)
     unfolding words_told
     has_both h l e = rw (eq-eqb p.ledgers 1 l, eq-eqb p.entries 1 e) at (partly_end h)
+
+    pub many_words : length m ≤ at → p.ledgers ≡ 1 → p.entries ≡ 1 → 16 < p.words → None ≡ answered words_in (group_of m)
+    many_words h l e w = told_none m p.words (has_both h l e) w
+
+    pub few_words : length m ≤ at → p.ledgers ≡ 1 → p.entries ≡ 1 → p.words ≤ 16 → Some p.words ≡ answered words_in (group_of m)
+    few_words h l e w = told_some m p.words (has_both h l e) w

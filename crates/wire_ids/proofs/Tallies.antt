@@ -5,6 +5,8 @@ use mathlib.Core.Path.{◌≡◌, refl, sym, ap, ◌∙◌}
 use mathlib.Core.Bool.{true, false, cond, and-false}
 use mathlib.Core.List.{List, [], ◌∷◌}
 use mathlib.Core.Option.{Option, none, some, map, bind}
+use Rattle.std.specs.Prelude.{Some, None}
+use Rattle.std.specs.Prelude as code
 use native.Mathlib.Nat.{add-zero, pos_of_ne-zero}
 use native.Mathlib.Omega.{arith}
 use lib.Dec.{eqb, leb}
@@ -19,14 +21,13 @@ use Rattle.wire.specs.Select.{numbered, up_to, bytes_of}
 use Rattle.wire.specs.Ids.{group_of, groups_of, id_list, group_words, list_words}
 use Rattle.wire.proofs.Fields.{left_start, left_end}
 use Rattle.wire.proofs.Ids.{group_short}
-use Rattle.wire_fields.specs.Found.{as_field}
+use Rattle.wire_fields.specs.Found.{as_field, answered}
 use Rattle.wire_fields.specs.declared.field.Field.{Field}
-use Rattle.wire_fields.specs.declared.select.Number.{Number}
 use Rattle.wire_fields.proofs.Walks.{Stands, left_on, left_bad}
-use Rattle.wire_ids.specs.Parts.{found_words}
-use Rattle.wire_ids.specs.Sizes.{ids_of, found_size, tallied, tally_id, tally_with}
+use Rattle.wire_fields.proofs.Answered.{from_some, from_none}
+use Rattle.wire_ids.specs.Parts.{words_in}
+use Rattle.wire_ids.specs.Sizes.{ids_of, size_of, tallied, tally_id, tally_with}
 use Rattle.wire_ids.specs.declared.size.Tally.{Tally}
-use Rattle.wire_ids.specs.declared.size.Tallied.{Tallied}
 
 -- at most one more field of a repeated one
 up_to_on : (k : ℕ) (f : wire.Field) (l : List wire.Field) → eqb f.wire 2 ≡ true
@@ -57,9 +58,9 @@ unfolding up_to all
 up_to_nothing k = rw (le-leb 0 k (omega arith))
 
 -- the words of ids, after some others
-unfoldable size_after : ℕ → Option (List Group) → Number
-size_after words none = Number.Bad
-size_after words (some ids) = Number.Is (words + length (list_words ids))
+unfoldable size_after : ℕ → Option (List Group) → code.Option ℕ
+size_after words none = None
+size_after words (some ids) = Some (words + length (list_words ids))
 
 -- one group in front of others
 group_first : (words : ℕ) (g : Group) (o : Option (List Group))
@@ -68,11 +69,11 @@ unfolding size_after list_words group_words
 group_first words g none = refl
 group_first words g (some ids) =
     let e = length-append g.words (list_words ids) in
-    ap Number.Is (omega arith)
+    ap Some (omega arith)
 
 -- an id takes 19 words at most
 id_room : (t u : Tally) (bytes : List ℕ) (i : Option Group) → group_of bytes ≡ i → 0 < t.left → t.words + 19 * t.left ≤ 1216
-    → Tallied.Is u ≡ tallied t i → u.words + 19 * u.left ≤ 1216
+    → Some u ≡ tallied t i → u.words + 19 * u.left ≤ 1216
 unfolding tallied
 id_room t u bytes none p h r e = let n : ◌≡◌ {A = ℕ} 0 1 = cc in absurd (omega arith)
 id_room t u bytes (some g) p h r e =
@@ -82,13 +83,13 @@ id_room t u bytes (some g) p h r e =
 
 module _ (m : List ℕ) (number : ℕ) where
   -- a tally that goes on or not
-  unfoldable pub tally_on : Tallied → (Tally → Number) → Number
-  tally_on (Tallied.Is t) rest = rest t
-  tally_on Tallied.Bad rest = Number.Bad
+  unfoldable pub tally_on : code.Option Tally → (Tally → code.Option ℕ) → code.Option ℕ
+  tally_on (Some t) rest = rest t
+  tally_on None rest = None
 
   -- the tally of some fields
-  unfoldable pub tally_fields : List wire.Field → Tally → Number
-  tally_fields [] t = Number.Is t.words
+  unfoldable pub tally_fields : List wire.Field → Tally → code.Option ℕ
+  tally_fields [] t = Some t.words
   tally_fields (f ∷ fs) t = tally_on (tally_with m number (as_field f) t) (tally_fields fs)
 
   -- an id in front of others
@@ -102,7 +103,7 @@ module _ (m : List ℕ) (number : ℕ) where
   id_first left words f (some r) (some g) e = rw e (group_first words g (groups_of m r))
 
   -- one id fewer is left
-  one_fewer : (k words : ℕ) (i : Option Group) (h : ℕ → ℕ → Number)
+  one_fewer : (k words : ℕ) (i : Option Group) (h : ℕ → ℕ → code.Option ℕ)
       → tally_on (tallied (record { left = suc k; words = words }) i) (λ (t : Tally). h k t.words)
       ≡ tally_on (tallied (record { left = suc k; words = words }) i) (λ (t : Tally). h t.left t.words)
   unfolding tally_on tallied
@@ -111,10 +112,10 @@ module _ (m : List ℕ) (number : ℕ) where
       let e : k ≡ suc k - 1 = omega arith in ap (λ (j : ℕ). h j (words + (3 + length g.words))) e
 
   -- what goes on alike
-  same_on : (x : Tallied) (g h : Tally → Number) → ((t : Tally) → g t ≡ h t) → tally_on x g ≡ tally_on x h
+  same_on : (x : code.Option Tally) (g h : Tally → code.Option ℕ) → ((t : Tally) → g t ≡ h t) → tally_on x g ≡ tally_on x h
   unfolding tally_on
-  same_on (Tallied.Is t) g h e = e t
-  same_on Tallied.Bad g h e = refl
+  same_on (Some t) g h e = e t
+  same_on None g h e = refl
 
   -- a field in front of others
   field_first : (left words : ℕ) (f : wire.Field) (fs : List wire.Field) → (t : Tally) → t ≡ record { left = left; words = words }
@@ -131,7 +132,7 @@ module _ (m : List ℕ) (number : ℕ) where
       go : (left : ℕ) → eqb f.wire 2 ≡ true
           → size_after words (bind (up_to left 2 (f ∷ numbered number fs)) (groups_of m))
           ≡ tally_on
-          (cond (eqb left 0) Tallied.Bad (tallied (record { left = left; words = words }) (group_of (bytes_of m f))))
+          (cond (eqb left 0) None (tallied (record { left = left; words = words }) (group_of (bytes_of m f))))
           (λ (u : Tally). size_after u.words (bind (up_to u.left 2 (numbered number fs)) (groups_of m)))
       go zero u = rw (up_to_full f (numbered number fs))
       go (suc k) u =
@@ -146,16 +147,16 @@ module _ (m : List ℕ) (number : ℕ) where
   passed_by f fs t n = rw n
 
   -- where nothing follows, nothing is told
-  nothing : (x : Tallied) → tally_on x (λ (t : Tally). Number.Bad) ≡ Number.Bad
+  nothing : (x : code.Option Tally) → tally_on x (λ (t : Tally). None) ≡ None
   unfolding tally_on
-  nothing (Tallied.Is t) = refl
-  nothing Tallied.Bad = refl
+  nothing (Some t) = refl
+  nothing None = refl
 
   -- so the tally is of the ids under the number
   tally_law : (fs : List wire.Field) (left words : ℕ)
       → size_after words (bind (up_to left 2 (numbered number fs)) (groups_of m)) ≡ tally_fields fs (record { left = left; words = words })
   unfolding tally_fields size_after numbered keep bind groups_of list_words
-  tally_law [] left words = rw (up_to_nothing left) (ap Number.Is (add-zero words))
+  tally_law [] left words = rw (up_to_nothing left) (ap Some (add-zero words))
   tally_law (f ∷ fs) left words =
       let t : Tally = record { left = left; words = words } in
       by_test (eqb f.number number)
@@ -165,25 +166,25 @@ module _ (m : List ℕ) (number : ℕ) where
       (λ n. rw n (tally_law fs left words ∙ sym (passed_by f fs t n)))
 
   -- the tally of fields that may be there, from a place on
-  unfoldable pub tally_left : Option (List wire.Field) → Tally → Number
-  tally_left none t = Number.Bad
+  unfoldable pub tally_left : Option (List wire.Field) → Tally → code.Option ℕ
+  tally_left none t = None
   tally_left (some fs) t = tally_fields fs t
 
-  size_start : found_size (ids_of m number) ≡ tally_left (fields m) (record { left = 64; words = 0 })
-  unfolding ids_of found_size tally_left bind id_list size_after
+  size_start : answered size_of (ids_of m number) ≡ tally_left (fields m) (record { left = 64; words = 0 })
+  unfolding ids_of answered tally_left bind id_list size_after
   size_start = go (fields m)
     where
-      first : (o : Option (List Group)) → found_size o ≡ size_after 0 o
+      first : (o : Option (List Group)) → answered size_of o ≡ size_after 0 o
       first none = refl
-      first (some ids) = ap Number.Is (omega arith)
+      first (some ids) = ap Some (omega arith)
 
       go : (o : Option (List wire.Field))
-          → found_size (bind o (λ (fs : List wire.Field). id_list m (numbered number fs))) ≡ tally_left o (record { left = 64; words = 0 })
+          → answered size_of (bind o (λ (fs : List wire.Field). id_list m (numbered number fs))) ≡ tally_left o (record { left = 64; words = 0 })
       go none = refl
       go (some fs) = first (bind (up_to 64 2 (numbered number fs)) (groups_of m)) ∙ tally_law fs 64 0
 
   -- a field leaves room for the ids that may follow
-  tally_room : (f : Field) (t u : Tally) → t.words + 19 * t.left ≤ 1216 → Tallied.Is u ≡ tally_with m number f t
+  tally_room : (f : Field) (t u : Tally) → t.words + 19 * t.left ≤ 1216 → Some u ≡ tally_with m number f t
       → u.words + 19 * u.left ≤ 1216
   unfolding tally_with tally_id
   tally_room f t u r e =
@@ -198,33 +199,33 @@ module _ (m : List ℕ) (number : ℕ) where
       bytes_of_code : Field → List ℕ
       bytes_of_code f = take (f.next - f.start) (drop f.start m)
 
-      never : {P : Type 0} → Tallied.Is u ≡ Tallied.Bad → P
+      never : {P : Type 0} → Some u ≡ None → P
       never z = let n : ◌≡◌ {A = ℕ} 0 1 = cc in absurd (omega arith)
 
-      same : Tallied.Is u ≡ Tallied.Is t → u ≡ t
+      same : Some u ≡ Some t → u ≡ t
       same z = cc
 
   -- the tally so far, with room for what may follow, and the fields that are left are all ids
   pub record Counted (at : ℕ) (t : Tally) : Type 0 where
     pub inside : at ≤ length m
     pub room : t.words + 19 * t.left ≤ 1216
-    pub rest : found_size (ids_of m number) ≡ tally_left (left m at) t
+    pub rest : answered size_of (ids_of m number) ≡ tally_left (left m at) t
 
   pub counted_start : Counted 0 (record { left = 64; words = 0 })
   counted_start = record { inside = omega arith; room = omega arith; rest = rw (left_start m) size_start }
 
   module _ {at : ℕ} {t : Tally} (c : Counted at t) where
-    pub counted_end : length m ≤ at → Number.Is t.words ≡ found_size (ids_of m number)
+    pub counted_end : length m ≤ at → Some t.words ≡ answered size_of (ids_of m number)
     unfolding tally_left tally_fields
     counted_end h = sym (c.rest ∙ rw (left_end m at h))
 
-    pub counted_unformed : at < length m → field m at ≡ none → Number.Bad ≡ found_size (ids_of m number)
+    pub counted_unformed : at < length m → field m at ≡ none → None ≡ answered size_of (ids_of m number)
     unfolding tally_left
     counted_unformed h e = sym (c.rest ∙ rw (left_bad m at h e))
 
     module _ (f : Field) (h : at < length m) (w : Stands m at f) where
       -- the field in front of what is left
-      now_tally : found_size (ids_of m number) ≡ tally_on (tally_with m number f t) (tally_left (left m f.next))
+      now_tally : answered size_of (ids_of m number) ≡ tally_on (tally_with m number f t) (tally_left (left m f.next))
       unfolding tally_left tally_fields
       now_tally =
           c.rest ∙ ap (λ (o : Option (List wire.Field)). tally_left o t) (left_on m at f h w)
@@ -235,11 +236,11 @@ module _ (m : List ℕ) (number : ℕ) where
           go none = sym (nothing (tally_with m number (as_field w.g) t))
           go (some l) = refl
 
-      pub counted_bad : Tallied.Bad ≡ tally_with m number f t → Number.Bad ≡ found_size (ids_of m number)
+      pub counted_bad : None ≡ tally_with m number f t → None ≡ answered size_of (ids_of m number)
       unfolding tally_on
       counted_bad e = sym (now_tally ∙ rw (← e))
 
-      pub counted_on : (u : Tally) → Tallied.Is u ≡ tally_with m number f t → Counted f.next u
+      pub counted_on : (u : Tally) → Some u ≡ tally_with m number f t → Counted f.next u
       unfolding tally_on
       counted_on u e = record { inside = w.ends; room = tally_room f t u c.room e; rest = now_tally ∙ rw (← e) }
 
@@ -248,21 +249,22 @@ module _ (m : List ℕ) (number : ℕ) where
       unfolding tally_with
       counted_past n = counted_on t (rw (ne_eqb f.number number n))
 
--- 17 words are told: there is no id
-pub tallied_none : (t : Tally) (bytes : List ℕ) (n : ℕ) → n ≡ found_words (group_of bytes) → 16 < n → tallied t (group_of bytes) ≡ Tallied.Bad
-unfolding found_words tallied
-tallied_none t bytes n e h = go (group_of bytes) refl e
-  where
-    go : (i : Option Group) → group_of bytes ≡ i → n ≡ found_words i → tallied t i ≡ Tallied.Bad
-    go none p q = refl
-    go (some g) p q = let s = group_short bytes g p in absurd (omega arith)
+-- there is no id
+pub tallied_none : (t : Tally) (bytes : List ℕ) → None ≡ answered words_in (group_of bytes) → tallied t (group_of bytes) ≡ None
+unfolding tallied
+tallied_none t bytes e = rw (from_none words_in (group_of bytes) e)
 
--- at most 16 are: there is one with as many
-pub tallied_some : (t : Tally) (bytes : List ℕ) (n : ℕ) → n ≡ found_words (group_of bytes) → n ≤ 16
-    → tallied t (group_of bytes) ≡ Tallied.Is (record { left = t.left - 1; words = t.words + (3 + n) })
-unfolding found_words tallied
-tallied_some t bytes n e h = go (group_of bytes) e
-  where
-    go : (i : Option Group) → n ≡ found_words i → tallied t i ≡ Tallied.Is (record { left = t.left - 1; words = t.words + (3 + n) })
-    go none q = absurd (omega arith)
-    go (some g) q = rw q
+-- there is one, of at most 16 words
+module _ (t : Tally) (bytes : List ℕ) (n : ℕ) (e : Some n ≡ answered words_in (group_of bytes)) where
+  pub words_few : n ≤ 16
+  words_few =
+      let p = from_some words_in (group_of bytes) e in
+      let s = group_short bytes p.x p.is in
+      omega (arith, p.same)
+
+  pub tallied_some : tallied t (group_of bytes) ≡ Some (record { left = t.left - 1; words = t.words + (3 + n) })
+  unfolding tallied
+  tallied_some =
+      let p = from_some words_in (group_of bytes) e in
+      let of : ℕ → code.Option Tally = λ k. Some (record { left = t.left - 1; words = t.words + (3 + k) }) in
+      ap (tallied t) p.is ∙ ap of (sym p.same)

@@ -6,7 +6,11 @@ use Rattle.rules.specs.Groups.{Group}
 use Rattle.wire.specs.Fields as wire
 use Rattle.wire_ids.specs.declared.id.Parts.{Parts}
 
--- how many words the ack set of an id has that is there; 17, one too many, where it is not
+-- how many words the ack set of an id has
+abbrev pub words_in : Group → ℕ
+words_in g = length g.words
+
+-- and of one that is there; 17, one too many, where it is not
 unfoldable pub found_words : Option Group → ℕ
 found_words none = 17
 found_words (some g) = length g.words

@@ -1,37 +1,35 @@
 -- What the first pass over the ids of an Ack or a Redeliver answers: how many words they take in a list.
-use Rattle.std.specs.Prelude.{ℕ, ◌+◌, ◌-◌, cond, List, eqb, length, take, drop}
-use Rattle.std.proofs.Math.Option.{Option, none, some, bind}
+use Rattle.std.specs.Prelude.{ℕ, ◌+◌, ◌-◌, cond, List, eqb, length, take, drop, Option, Some, None}
+use Rattle.std.proofs.Math.Option.{none, some, bind}
+use Rattle.std.proofs.Math.Option as math
 use Rattle.rules.specs.Groups.{Group}
 use Rattle.wire.specs.Fields.{fields}
 use Rattle.wire.specs.Fields as wire
 use Rattle.wire.specs.Select.{numbered}
 use Rattle.wire.specs.Ids.{group_of, id_list, list_words}
 use Rattle.wire_fields.specs.declared.field.Field.{Field}
-use Rattle.wire_fields.specs.declared.select.Number.{Number}
 use Rattle.wire_ids.specs.declared.size.Tally.{Tally}
-use Rattle.wire_ids.specs.declared.size.Tallied.{Tallied}
 
 -- the ids under a number of a message
-unfoldable pub ids_of : List ℕ → ℕ → Option (List Group)
+unfoldable pub ids_of : List ℕ → ℕ → math.Option (List Group)
 ids_of m number = bind (fields m) (λ (fs : List wire.Field). id_list m (numbered number fs))
 
--- how many words they take
-unfoldable pub found_size : Option (List Group) → Number
-found_size none = Number.Bad
-found_size (some ids) = Number.Is (length (list_words ids))
+-- how many words ids take
+abbrev pub size_of : List Group → ℕ
+size_of ids = length (list_words ids)
 
 -- a tally with an id that is there or not
-unfoldable pub tallied : Tally → Option Group → Tallied
-tallied t none = Tallied.Bad
-tallied t (some g) = Tallied.Is (record { left = t.left - 1; words = t.words + (3 + length g.words) })
+unfoldable pub tallied : Tally → math.Option Group → Option Tally
+tallied t none = None
+tallied t (some g) = Some (record { left = t.left - 1; words = t.words + (3 + length g.words) })
 
 -- one id more, from its wire type and its place
-unfoldable pub tally_id : List ℕ → ℕ → ℕ → ℕ → Tally → Tallied
+unfoldable pub tally_id : List ℕ → ℕ → ℕ → ℕ → Tally → Option Tally
 tally_id m wire start next t =
     cond (eqb wire 2)
-    (cond (eqb t.left 0) Tallied.Bad (tallied t (group_of (take (next - start) (drop start m)))))
-    Tallied.Bad
+    (cond (eqb t.left 0) None (tallied t (group_of (take (next - start) (drop start m)))))
+    None
 
 -- one field more, which may be an id
-unfoldable pub tally_with : List ℕ → ℕ → Field → Tally → Tallied
-tally_with m number f t = cond (eqb f.number number) (tally_id m f.wire f.start f.next t) (Tallied.Is t)
+unfoldable pub tally_with : List ℕ → ℕ → Field → Tally → Option Tally
+tally_with m number f t = cond (eqb f.number number) (tally_id m f.wire f.start f.next t) (Some t)

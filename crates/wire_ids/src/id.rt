@@ -1,11 +1,12 @@
 // The test of one id, in one walk over its fields that keeps three numbers: how many ledgers, entries and words of its ack set
 // there were.
-ghost use Rattle.std.specs.Prelude.{◌≡◌, ◌-◌, ◌≤◌, length, take, drop};
+ghost use Rattle.std.specs.Prelude.{◌≡◌};
 ghost use Rattle.wire.specs.Ids.{group_of};
-ghost use Rattle.wire_ids.specs.Parts.{one_more, parts_with, found_words};
+ghost use Rattle.wire_fields.specs.Found.{answered};
+ghost use Rattle.wire_ids.specs.Parts.{one_more, parts_with, words_in};
 
-use wire_fields::field::{FieldAt, VARINT, WIRE_TYPES, field_at, short_tag, varint_tag};
-use wire_fields::varint::{Varint, varint_of_any_size};
+use wire_fields::field::{VARINT, WIRE_TYPES, field_at, short_tag, varint_tag};
+use wire_fields::varint::varint_of_any_size;
 
 // The numbers of the fields that are read.
 pub const LEDGER: u64 = 1;
@@ -19,6 +20,9 @@ const TOO_MANY: u64 = 2;
 
 const TOO_MANY_WORDS: u64 = 17;
 
+// The most words of an id's ack set.
+const MOST_WORDS: u64 = 16;
+
 // How many ledgers, entries and words there were. Each number stops where it is too many, and a field of another wire type
 // takes it there.
 #[derive(Clone, Copy)]
@@ -29,6 +33,7 @@ pub struct Parts {
 }
 
 // One field more under a number.
+#[tactic(auto, unfolding(crate::specs::Parts::one_more))]
 fn one_more(n: u64, wire: u64, most: u64) -> u64
     ensures { result ≡ one_more most wire n }
 {
@@ -43,6 +48,7 @@ fn one_more(n: u64, wire: u64, most: u64) -> u64
 
 impl Parts {
     // One field more.
+    #[tactic(auto, unfolding(crate::specs::Parts::parts_with, crate::specs::Parts::counted))]
     fn with(self, number: u64, wire: u64) -> Parts
         ensures { result ≡ parts_with number wire self }
     {
@@ -71,9 +77,9 @@ impl Parts {
     }
 }
 
-// How many words the ack set of the id has whose message is `m`; 17 where `m` is no id.
-pub fn id_words(m: &[u8]) -> u64
-    ensures { result ≡ found_words (group_of m.now) }
+// How many words the ack set of the id has whose message is `m`.
+pub fn id_words(m: &[u8]) -> Option<u64>
+    ensures { result ≡ answered words_in (group_of m.now) }
 {
     let mut at = 0;
     let mut p = Parts {
@@ -90,32 +96,23 @@ pub fn id_words(m: &[u8]) -> u64
         }
         let tag = varint_tag(m, at);
         if tag != 0 {
-            let Varint::Read(_, next) = varint_of_any_size(m, at + 1) else {
-                return TOO_MANY_WORDS;
-            };
+            let value = varint_of_any_size(m, at + 1)?;
             p = p.with(tag / WIRE_TYPES, VARINT);
-            at = next;
+            at = value.next;
             continue;
         }
-        let FieldAt::Is(f) = field_at(m, at) else {
-            return TOO_MANY_WORDS;
-        };
+        let f = field_at(m, at)?;
         p = p.with(f.number, f.wire);
         at = f.next;
     }
     if p.ledgers != 1 {
-        return TOO_MANY_WORDS;
+        return None;
     }
     if p.entries != 1 {
-        return TOO_MANY_WORDS;
+        return None;
     }
-    p.words
-}
-
-// How many words the ack set of the id has whose message is a part of `m`.
-pub fn id_words_in(m: &[u8], start: usize, next: usize) -> u64
-    requires { (start ≤ next) × (next ≤ length m.now) }
-    ensures { result ≡ found_words (group_of (take (next - start) (drop start m.now))) }
-{
-    id_words(&m[start..next])
+    if MOST_WORDS < p.words {
+        return None;
+    }
+    Some(p.words)
 }

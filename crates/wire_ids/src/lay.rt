@@ -1,17 +1,18 @@
 // The second pass: the ids are laid into a lent list as groups of ledger, entry, how many words, and the words. Each is laid in
 // one walk over its fields, which were tested before.
-ghost use Rattle.std.specs.Prelude.{◌≡◌, ◌+◌, ◌-◌, ◌≤◌, length, take, drop};
+ghost use Rattle.std.specs.Prelude.{◌≡◌, ◌+◌, ◌≤◌, length};
 ghost use Rattle.words.specs.Act.{lay};
 ghost use Rattle.wire.specs.Ids.{list_words};
 ghost use Rattle.wire_fields.specs.Values.{Laid};
 ghost use Rattle.wire_ids.specs.Groups.{id_words, field_words, count_with, Put, IdRoom, FieldRoom, ids_there, Listed};
 
 use super::id::{ACK_SET, ENTRY, LEDGER};
-use wire_fields::field::{Field, FieldAt, WIRE_TYPES, field_at, passed_by, short_tag, varint_tag};
-use wire_fields::varint::{Varint, varint_of_any_size, wide};
+use wire_fields::field::{Field, WIRE_TYPES, field_at, passed_by, short_tag, varint_tag};
+use wire_fields::varint::{varint_of_any_size, wide};
 
 // Puts the number of a field into its place in the group that begins at `to` and has `n` words so far; answers how many it has
 // then.
+#[tactic(auto, unfolding(crate::specs::Groups::count_with, crate::specs::Groups::put_in))]
 fn put(list: &mut [u64], to: usize, n: usize, number: u64, value: u64) -> usize
     requires { to + 3 + count_with number n ≤ length list.old }
     ensures { Put list.old to n number value list.new result }
@@ -47,14 +48,14 @@ fn lay_id(m: &[u8], list: &mut [u64], to: usize) -> usize
         }
         let tag = varint_tag(m, at);
         if tag != 0 {
-            let Varint::Read(value, next) = varint_of_any_size(m, at + 1) else {
+            let Some(v) = varint_of_any_size(m, at + 1) else {
                 return to;
             };
-            n = put(list, to, n, tag / WIRE_TYPES, value);
-            at = next;
+            n = put(list, to, n, tag / WIRE_TYPES, v.value);
+            at = v.next;
             continue;
         }
-        let FieldAt::Is(f) = field_at(m, at) else {
+        let Some(f) = field_at(m, at) else {
             return to;
         };
         n = put(list, to, n, f.number, f.value);
@@ -62,14 +63,6 @@ fn lay_id(m: &[u8], list: &mut [u64], to: usize) -> usize
     }
     list[to + 2] = n as u64;
     to + 3 + n
-}
-
-// Lays the id whose message is a part of `m`.
-fn lay_id_in(m: &[u8], start: usize, next: usize, list: &mut [u64], to: usize) -> usize
-    requires { (start ≤ next) × (next ≤ length m.now) × IdRoom (take (next - start) (drop start m.now)) (length list.old) to }
-    ensures { Laid list.old to (id_words (take (next - start) (drop start m.now))) list.new result }
-{
-    lay_id(&m[start..next], list, to)
 }
 
 // Lays a field if it is an id.
@@ -80,7 +73,7 @@ fn lay_field(m: &[u8], number: u64, f: Field, list: &mut [u64], to: usize) -> us
     if f.number != number {
         return to;
     }
-    lay_id_in(m, f.start, f.next, list, to)
+    lay_id(&m[f.start..f.next], list, to)
 }
 
 // Lays the ids under a number of a message, from the list's start on.
@@ -95,7 +88,7 @@ pub fn lay_ids(m: &[u8], number: u64, list: &mut [u64])
             at += 2;
             continue;
         }
-        let FieldAt::Is(f) = field_at(m, at) else {
+        let Some(f) = field_at(m, at) else {
             return;
         };
         to = lay_field(m, number, f, list, to);

@@ -1,11 +1,10 @@
 -- The content of a Message by what the code read of it: the id of its own bytes in place of the id's fields, the ack words counted
 -- before they are laid, and what a content that was read says of them.
 use Prim.Native.Nat.{ℕ, ◌≤◌}
-use mathlib.Core.Path.{◌≡◌, refl, sym, ap, ◌∙◌}
+use mathlib.Core.Path.{◌≡◌, refl, sym, ◌∙◌}
 use mathlib.Core.List.{List, map}
 use mathlib.Core.Option
 use mathlib.Core.Option.{Option, none, some, bind, map-eq-some_iff, none-ne-some}
-use native.Mathlib.Omega.{arith}
 use lib.ListN.{length, length-map}
 use Rattle.rules.specs.State.{Id}
 use Rattle.rules.specs.Table.{or_else}
@@ -15,30 +14,19 @@ use Rattle.wire.specs.Ids.{id_of}
 use Rattle.wire.specs.Message.{Message, content_of}
 use Rattle.wire.proofs.Ids.{numbers_length, up_to_is}
 use Rattle.wire.proofs.Options.{bind_same, gives_some, gives_bind}
-use Rattle.wire_fields.specs.Selected.{at_most, found_number}
+use Rattle.std.specs.Prelude.{Some, None}
+use Rattle.std.specs.Prelude as code
+use Rattle.wire_fields.specs.Found.{answered, as_is}
+use Rattle.wire_fields.specs.Selected.{at_most}
 use Rattle.wire_fields.specs.Values.{all_of, values, values_of}
 use Rattle.wire_fields.specs.declared.pick.Seen.{Seen}
-use Rattle.wire_fields.specs.declared.select.Number.{Number}
+use Rattle.wire_fields.proofs.Answered.{from_some}
 use Rattle.wire_fields.proofs.Selections.{Saw, several_is, several_bad}
-use Rattle.wire_message.specs.Found.{batch_id, id_of_bytes, ack_count, head_of, found_id, found_content}
+use Rattle.wire_message.specs.Found.{batch_id, id_of_bytes, ack_count, head_of}
 use Rattle.wire_message.specs.declared.content.BatchId.{BatchId}
-use Rattle.wire_message.specs.declared.content.IdRead.TheVariants as IdRead
 use Rattle.wire_message.specs.declared.content.Head.{Head}
-use Rattle.wire_message.specs.declared.content.Content.TheVariants as Content
 
 -- ---- the id
-
--- what the code read is the id of its own bytes
-pub told_id : (o : Option BatchId) (id : BatchId) → IdRead.Is id ≡ found_id o → o ≡ some id
-unfolding found_id
-told_id none id e = let n : ◌≡◌ {A = ℕ} 0 1 = cc in absurd (omega arith)
-told_id (some i) id e = let q : i ≡ id = cc in ap some q
-
--- there is none
-pub told_no_id : (o : Option BatchId) → IdRead.Bad ≡ found_id o → o ≡ none
-unfolding found_id
-told_no_id none e = refl
-told_no_id (some i) e = let n : ◌≡◌ {A = ℕ} 0 1 = cc in absurd (omega arith)
 
 -- a chain that goes on after a chain
 bind_assoc : {A B C : Type 0} (o : Option A) (f : A → Option B) (g : B → Option C) → bind (bind o f) g ≡ bind o (λ (a : A). bind (f a) g)
@@ -100,31 +88,20 @@ pub record Contained (m : List ℕ) (h : Head) : Type 0 where
   pub same : h ≡ head_of x
 
 -- what the code read is the content's numbers
-pub told_content : (m : List ℕ) (h : Head) → Content.Is h ≡ found_content (content_of m) → Contained m h
-unfolding found_content
-told_content m h e = go (content_of m) refl e
-  where
-    go : (o : Option Message) → content_of m ≡ o → Content.Is h ≡ found_content o → Contained m h
-    go none p q = let n : ◌≡◌ {A = ℕ} 0 1 = cc in absurd (omega arith)
-    go (some x) p q = record { x = x; is = p; same = cc }
-
--- there is none
-pub told_no_content : (o : Option Message) → Content.Bad ≡ found_content o → o ≡ none
-unfolding found_content
-told_no_content none e = refl
-told_no_content (some x) e = let n : ◌≡◌ {A = ℕ} 0 1 = cc in absurd (omega arith)
+pub told_content : (m : List ℕ) (h : Head) → Some h ≡ answered head_of (content_of m) → Contained m h
+told_content m h e = let t = from_some head_of (content_of m) e in record { x = t.x; is = t.is; same = t.same }
 
 -- ---- ack words
 
 -- a message's fields of a number, at most some, counted
 pub several_count : (k : ℕ) → k ≤ 64 → {wire : ℕ} {l : List Field} {s : Seen} → Saw wire l s
-    → at_most k s ≡ found_number (Option.map length (up_to k wire l))
-unfolding found_number
+    → at_most k s ≡ answered as_is (Option.map length (up_to k wire l))
+unfolding answered
 several_count k few {wire = wire} {l = l} {s = s} w = go (at_most k s) refl
   where
-    go : (n : Number) → n ≡ at_most k s → n ≡ found_number (Option.map length (up_to k wire l))
-    go (Number.Is n) e = let p = several_is k few w e in rw (p.0, p.1)
-    go Number.Bad e = rw (several_bad k few w e)
+    go : (n : code.Option ℕ) → n ≡ at_most k s → n ≡ answered as_is (Option.map length (up_to k wire l))
+    go (Some n) e = let p = several_is k few w e in rw (p.0, p.1)
+    go None e = rw (several_bad k few w e)
 
 module _ (m : List ℕ) (fs : List Field) (e : fields m ≡ some fs) where
   -- the words that were counted

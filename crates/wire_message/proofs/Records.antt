@@ -23,6 +23,10 @@ use Rattle.wire_fields.specs.Values.{values_of, Ready}
 use Rattle.wire_fields.proofs.Bases.{base_untyped, base_other, base_no_message, base_message}
 use Rattle.wire_message.specs.Found.{head_of, dispatch_of, content_answer, content_after}
 use Rattle.wire_message.specs.declared.content.Head.{Head}
+use Rattle.std.specs.Prelude.{Result, Ok, Err}
+use Rattle.wire_fields.specs.declared.unread.Unread.{Unread}
+use Rattle.wire_fields.specs.declared.unread.Unread.TheVariants.{Malformed, OtherType}
+use Rattle.wire_fields.specs.Unread.{unread_number, unread_or_0}
 use Rattle.wire_message.proofs.Contents.{Contained, content_words}
 
 -- ---- the record's words
@@ -55,13 +59,14 @@ record_laid x words e h =
 -- ---- a content read
 
 -- the answer to a content, and the record after it
-abbrev ContentDone : Option Message → List ℕ → ℕ → List ℕ → Type 0
-ContentDone o words answer after = (answer ≡ content_answer o) × (after ≡ content_after words o)
+pub record ContentDone (o : Option Message) (words : List ℕ) (result : Result Unit Unread) (after : List ℕ) : Type 0 where
+  pub answer : unread_or_0 result ≡ content_answer o
+  pub written : after ≡ content_after words o
 
 -- no content
-pub content_refused : (m words : List ℕ) → content_of m ≡ none → ContentDone (content_of m) words 16 words
+pub content_refused : (m words : List ℕ) → content_of m ≡ none → ContentDone (content_of m) words (Err Malformed) words
 unfolding content_answer content_after
-content_refused m words e = rw e (refl, refl)
+content_refused m words e = rw e (record { answer = refl; written = refl })
 
 -- a content was read, and its numbers are written over thirteen words
 module _
@@ -77,51 +82,51 @@ module _
       record { formed = s.formed; room = omega (arith, s.few) }
 
   -- and they complete the record
-  pub content_filled : {after : List ℕ} → after ≡ (lay (values_of m 4)).run 6 written → ContentDone (content_of m) words 0 after
+  pub content_filled : {after : List ℕ} → after ≡ (lay (values_of m 4)).run 6 written → ContentDone (content_of m) words (Ok tt) after
   unfolding content_answer content_after
   content_filled {after} a =
       let s = content_words m k.x k.is in
-      rw k.is (
-        refl,
-        a ∙ rw (← s.are, w, e, k.same) (record_laid k.x words thirteen s.few),
-      )
+      rw k.is (record { answer = refl; written = a ∙ rw (← s.are, w, e, k.same) (record_laid k.x words thirteen s.few) })
 
 -- ---- a Message read
 
 -- the answer to a Message, and the record after it
-abbrev MessageDone : List ℕ → List ℕ → ℕ → List ℕ → Type 0
-MessageDone m words answer after = (answer ≡ message_answer (message m)) × (after ≡ record_after words (message m))
+pub record MessageDone (m words : List ℕ) (result : Result Unit Unread) (after : List ℕ) : Type 0 where
+  pub answer : unread_or_0 result ≡ message_answer (message m)
+  pub written : after ≡ record_after words (message m)
 
 module _ (m words : List ℕ) where
   -- what is refused changes nothing
-  message_refused : (n : ℕ) → message m ≡ refused n → MessageDone m words n words
+  message_refused : (why : Unread) → message m ≡ refused (unread_number why) → MessageDone m words (Err why) words
   unfolding message_answer record_after
-  message_refused n e = rw e (refl, refl)
+  message_refused why e = record { answer = rw e refl; written = rw e refl }
 
   -- there is no type
-  pub not_typed : type_of m ≡ none → MessageDone m words 16 words
+  pub not_typed : type_of m ≡ none → MessageDone m words (Err Malformed) words
   unfolding message
-  not_typed e = message_refused 16 (base_untyped (eqb MESSAGE) _ m e)
+  not_typed e = message_refused Malformed (base_untyped (eqb MESSAGE) _ m e)
 
   -- it is another
-  pub other_type : (type : ℕ) → type_of m ≡ some type → (type ≡ MESSAGE → ⊥) → MessageDone m words 17 words
+  pub other_type : (type : ℕ) → type_of m ≡ some type → (type ≡ MESSAGE → ⊥) → MessageDone m words (Err OtherType) words
   unfolding message
-  other_type type e d = message_refused 17 (base_other (eqb MESSAGE) _ m type e (ne_eqb MESSAGE type (λ p. d (sym p))))
+  other_type type e d = message_refused OtherType (base_other (eqb MESSAGE) _ m type e (ne_eqb MESSAGE type (λ p. d (sym p))))
 
   module _ (e : type_of m ≡ some MESSAGE) where
     -- its message is not there
-    pub no_message : message_of m MESSAGE ≡ none → MessageDone m words 16 words
+    pub no_message : message_of m MESSAGE ≡ none → MessageDone m words (Err Malformed) words
     unfolding message
-    no_message f = message_refused 16 (base_no_message (eqb MESSAGE) _ m MESSAGE e refl f)
+    no_message f = message_refused Malformed (base_no_message (eqb MESSAGE) _ m MESSAGE e refl f)
 
     -- its message is there, and its content decides
-    pub message_read : {f : Field} {answer : ℕ} {after : List ℕ} → message_of m MESSAGE ≡ some f
-        → ContentDone (content_of (bytes_of m f)) words answer after → MessageDone m words answer after
+    pub message_read : {f : Field} {result : Result Unit Unread} {after : List ℕ} → message_of m MESSAGE ≡ some f
+        → ContentDone (content_of (bytes_of m f)) words result after → MessageDone m words result after
     unfolding message or_16 message_answer record_after content_answer content_after
-    message_read {f} {answer} {after} p d =
-        rw (base_message (eqb MESSAGE) (λ (type : ℕ) (g : Field). content_of (bytes_of m g)) m MESSAGE e f refl p) (go (content_of (bytes_of m f)) d)
+    message_read {f} {result} {after} p d =
+        let q = go (content_of (bytes_of m f)) d in
+        let b = base_message (eqb MESSAGE) (λ (type : ℕ) (g : Field). content_of (bytes_of m g)) m MESSAGE e f refl p in
+        record { answer = rw b q.0; written = rw b q.1 }
       where
-        go : (o : Option Message) → ContentDone o words answer after
-            → (answer ≡ message_answer (or_16 (map read o))) × (after ≡ record_after words (or_16 (map read o)))
-        go none q = q
-        go (some x) q = q
+        go : (o : Option Message) → ContentDone o words result after
+            → (unread_or_0 result ≡ message_answer (or_16 (map read o))) × (after ≡ record_after words (or_16 (map read o)))
+        go none q = (q.answer, q.written)
+        go (some x) q = (q.answer, q.written)

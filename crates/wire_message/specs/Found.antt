@@ -9,9 +9,7 @@ use Rattle.wire.specs.Message.{Message}
 use Rattle.wire.specs.Answers.{record_of}
 use Rattle.record.specs.declared.Dispatch.{Dispatch}
 use Rattle.wire_message.specs.declared.content.BatchId.{BatchId}
-use Rattle.wire_message.specs.declared.content.IdRead.{IdRead}
 use Rattle.wire_message.specs.declared.content.Head.{Head}
-use Rattle.wire_message.specs.declared.content.Content.{Content}
 
 -- an id with its batch size
 abbrev pub batch_id : Id → ℕ → BatchId
@@ -24,11 +22,6 @@ id_of_bytes m =
     bind (id_of ids) (λ (id : Id).
     bind (optional count (numbered 6 ids)) (λ (batch_size : ℕ).
     some (batch_id id batch_size))))
-
--- an id that is there or not, as the code has it
-unfoldable pub found_id : Option BatchId → IdRead
-found_id none = IdRead.Bad
-found_id (some id) = IdRead.Is id
 
 -- how many ack words a Message has, at most 4
 unfoldable pub ack_count : List ℕ → Option ℕ
@@ -43,11 +36,6 @@ head_of x =
       redelivery_count = x.redelivery_count;
       ack_set_words = length x.ack_set;
     }
-
--- a content that is there or not, as the code has it
-unfoldable pub found_content : Option Message → Content
-found_content none = Content.Bad
-found_content (some x) = Content.Is (head_of x)
 
 -- the record of a Message before its ack words are laid
 unfoldable pub dispatch_of : Head → Dispatch

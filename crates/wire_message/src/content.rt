@@ -1,16 +1,14 @@
 // The content of a Message, read from its own bytes: consumer, id, redelivery count, and how many ack words there are. Nothing
 // is written here, so that what is not right is refused before a word of the record changes.
-ghost use Rattle.std.specs.Prelude.{◌≡◌, ◌-◌, ◌≤◌, length, take, drop};
+ghost use Rattle.std.specs.Prelude.{◌≡◌};
 ghost use Rattle.wire.specs.Message.{content_of};
-ghost use Rattle.wire_fields.specs.Selected.{found_number};
-ghost use Rattle.wire_message.specs.Found.{id_of_bytes, found_id, ack_count, found_content};
+ghost use Rattle.wire_fields.specs.Found.{answered, as_is};
+ghost use Rattle.wire_message.specs.Found.{id_of_bytes, ack_count, head_of};
 
 use wire_fields::base::NOTHING;
 use wire_fields::field::{DELIMITED, VARINT, WIRE_TYPES};
-use wire_fields::pick::{Picked, pick};
-use wire_fields::select::{
-    Number, Place, optional_count, optional_uint32, required_part, required_uint64, several,
-};
+use wire_fields::pick::pick;
+use wire_fields::select::Width;
 
 // An id with its batch size.
 #[derive(Clone, Copy)]
@@ -20,13 +18,6 @@ pub struct BatchId {
     pub batch_size: u64,
 }
 
-// An id; or there is none that is right.
-#[derive(Clone, Copy)]
-pub enum IdRead {
-    Is(BatchId),
-    Bad,
-}
-
 // A Message's numbers, and how many ack words it has.
 #[derive(Clone, Copy)]
 pub struct Head {
@@ -34,13 +25,6 @@ pub struct Head {
     pub id: BatchId,
     pub redelivery_count: u64,
     pub ack_set_words: u64,
-}
-
-// A Message's content; or it is not right.
-#[derive(Clone, Copy)]
-pub enum Content {
-    Is(Head),
-    Bad,
 }
 
 // Fields of MessageIdData.
@@ -63,72 +47,42 @@ const ACK_SET: u64 = 4 * WIRE_TYPES + VARINT;
 const MOST_ACK_SET_WORDS: u64 = 4;
 
 // The id of its own bytes.
-fn id_of(m: &[u8]) -> IdRead
-    ensures { result ≡ found_id (id_of_bytes m.now) }
+fn id_of(m: &[u8]) -> Option<BatchId>
+    ensures { result ≡ answered as_is (id_of_bytes m.now) }
 {
-    let Picked::Fields(x, y, z) = pick(m, LEDGER_ID, ENTRY_ID, BATCH_SIZE) else {
-        return IdRead::Bad;
-    };
-    let Number::Is(ledger) = required_uint64(x) else {
-        return IdRead::Bad;
-    };
-    let Number::Is(entry) = required_uint64(y) else {
-        return IdRead::Bad;
-    };
-    let Number::Is(batch_size) = optional_count(z) else {
-        return IdRead::Bad;
-    };
-    IdRead::Is(BatchId {
-        ledger: ledger,
-        entry: entry,
-        batch_size: batch_size,
+    let (x, y, z) = pick(m, LEDGER_ID, ENTRY_ID, BATCH_SIZE)?;
+    let ledger = x.required(Width::Uint64)?;
+    let entry = y.required(Width::Uint64)?;
+    let batch_size = z.optional(Width::Count)?;
+    Some(BatchId {
+        ledger,
+        entry,
+        batch_size,
     })
 }
 
-// The id of a part.
-fn id_in(m: &[u8], start: usize, next: usize) -> IdRead
-    requires { (start ≤ next) × (next ≤ length m.now) }
-    ensures { result ≡ found_id (id_of_bytes (take (next - start) (drop start m.now))) }
-{
-    id_of(&m[start..next])
-}
-
 // How many ack words there are, at most four.
-fn ack_words(m: &[u8]) -> Number
-    ensures { result ≡ found_number (ack_count m.now) }
+fn ack_words(m: &[u8]) -> Option<u64>
+    ensures { result ≡ answered as_is (ack_count m.now) }
 {
-    let Picked::Fields(x, _, _) = pick(m, ACK_SET, NOTHING, NOTHING) else {
-        return Number::Bad;
-    };
-    several(x, MOST_ACK_SET_WORDS)
+    let (x, _, _) = pick(m, ACK_SET, NOTHING, NOTHING)?;
+    x.several(MOST_ACK_SET_WORDS)
 }
 
 // The content of its own bytes.
-pub fn read_content(m: &[u8]) -> Content
-    ensures { result ≡ found_content (content_of m.now) }
+pub fn read_content(m: &[u8]) -> Option<Head>
+    ensures { result ≡ answered head_of (content_of m.now) }
 {
-    let Picked::Fields(x, y, z) = pick(m, CONSUMER_ID, MESSAGE_ID, REDELIVERY_COUNT) else {
-        return Content::Bad;
-    };
-    let Number::Is(consumer) = required_uint64(x) else {
-        return Content::Bad;
-    };
-    let Place::Is(start, next) = required_part(y) else {
-        return Content::Bad;
-    };
-    let IdRead::Is(id) = id_in(m, start, next) else {
-        return Content::Bad;
-    };
-    let Number::Is(redelivery_count) = optional_uint32(z) else {
-        return Content::Bad;
-    };
-    let Number::Is(ack_set_words) = ack_words(m) else {
-        return Content::Bad;
-    };
-    Content::Is(Head {
-        consumer: consumer,
-        id: id,
-        redelivery_count: redelivery_count,
-        ack_set_words: ack_set_words,
+    let (x, y, z) = pick(m, CONSUMER_ID, MESSAGE_ID, REDELIVERY_COUNT)?;
+    let consumer = x.required(Width::Uint64)?;
+    let part = y.part()?;
+    let id = id_of(&m[part.start..part.next])?;
+    let redelivery_count = z.optional(Width::Uint32)?;
+    let ack_set_words = ack_words(m)?;
+    Some(Head {
+        consumer,
+        id,
+        redelivery_count,
+        ack_set_words,
     })
 }

@@ -1,15 +1,16 @@
 // A BaseCommand of type Message read into a record: the type, the message's part, its content, and then the words.
-ghost use Rattle.std.specs.Prelude.{◌≡◌, ◌-◌, ◌≤◌, length, take, drop};
+ghost use Rattle.std.specs.Prelude.{◌≡◌, length};
 ghost use Rattle.wire.specs.Message.{content_of, message};
 ghost use Rattle.wire.specs.Answers.{message_answer, record_after};
+ghost use Rattle.wire_fields.specs.Unread.{unread_or_0};
 ghost use Rattle.wire_message.specs.Found.{dispatch_of, content_answer, content_after};
 
-use super::content::{Content, Head, read_content};
+use super::content::{Head, read_content};
 use bits::UnackedBits;
 use record::{Dispatch, write_record};
-use wire_fields::base::{Base, read_base};
+use wire_fields::base::read_base;
 use wire_fields::lay::lay_numbers;
-use wire_fields::select::Place;
+use wire_fields::unread::Unread;
 
 // The type of a Message.
 const MESSAGE: u64 = 9;
@@ -19,14 +20,8 @@ const ACK_SET: u64 = 4;
 
 const ACK_SET_AT: usize = 6;
 
-// What a call answers: done; not well formed or out of limits; another type.
-const DONE: u64 = 0;
-
-const NOT_READ: u64 = 16;
-
-const OTHER_TYPE: u64 = 17;
-
 // The record of a Message before its ack words are laid; handle, cost and permits are not on the wire.
+#[tactic(auto, unfolding(crate::specs::Found::dispatch_of))]
 fn dispatch(head: Head) -> Dispatch
     ensures { result ≡ dispatch_of head }
 {
@@ -50,41 +45,32 @@ fn dispatch(head: Head) -> Dispatch
 }
 
 // Reads a Message's content from its own bytes into a record.
-fn fill_record(m: &[u8], record: &mut [u64]) -> u64
+fn fill_record(m: &[u8], record: &mut [u64]) -> Result<(), Unread>
     requires { length «record».old ≡ 13 }
-    ensures answer { result ≡ content_answer (content_of m.now) }
+    ensures answer { unread_or_0 result ≡ content_answer (content_of m.now) }
     ensures words { «record».new ≡ content_after «record».old (content_of m.now) }
 {
-    let Content::Is(head) = read_content(m) else {
-        return NOT_READ;
+    let Some(head) = read_content(m) else {
+        return Err(Unread::Malformed);
     };
     write_record(record, 0, dispatch(head));
     lay_numbers(m, ACK_SET, record, ACK_SET_AT);
-    DONE
+    Ok(())
 }
 
-// Reads a Message's content from a part into a record.
-fn fill_from(m: &[u8], start: usize, next: usize, record: &mut [u64]) -> u64
-    requires { (start ≤ next) × (next ≤ length m.now) × (length «record».old ≡ 13) }
-    ensures answer { result ≡ content_answer (content_of (take (next - start) (drop start m.now))) }
-    ensures words { «record».new ≡ content_after «record».old (content_of (take (next - start) (drop start m.now))) }
-{
-    fill_record(&m[start..next], record)
-}
-
-// Reads a Message into a record and answers 0; or answers 16 or 17 and changes nothing.
-pub fn read_message(bytes: &[u8], record: &mut [u64; 13]) -> u64
-    ensures answer { result ≡ message_answer (message bytes.now) }
+// Reads a Message into a record; or says why it is not read, and changes nothing.
+pub fn read_message(bytes: &[u8], record: &mut [u64; 13]) -> Result<(), Unread>
+    ensures answer { unread_or_0 result ≡ message_answer (message bytes.now) }
     ensures words { «record».new ≡ record_after «record».old (message bytes.now) }
 {
-    let Base::Of(kind, place) = read_base(bytes) else {
-        return NOT_READ;
+    let Some(base) = read_base(bytes) else {
+        return Err(Unread::Malformed);
     };
-    if kind != MESSAGE {
-        return OTHER_TYPE;
+    if base.kind != MESSAGE {
+        return Err(Unread::OtherType);
     }
-    let Place::Is(start, next) = place else {
-        return NOT_READ;
+    let Some(place) = base.message else {
+        return Err(Unread::Malformed);
     };
-    fill_from(bytes, start, next, record)
+    fill_record(&bytes[place.start..place.next], record)
 }

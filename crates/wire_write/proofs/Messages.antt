@@ -2,7 +2,7 @@
 use mathlib.Core.Path.{◌≡◌, ◌∙◌}
 use mathlib.Core.Bool.{true, false, ◌&&◌, and-eq-true_iff}
 use mathlib.Core.List.{List}
-use Prim.Native.Nat.{ℕ, ◌+◌, ◌-◌, ◌*◌, ◌^◌, ◌≤◌, ◌<◌}
+use Prim.Native.Nat.{ℕ, ◌+◌, ◌-◌, ◌^◌, ◌≤◌, ◌<◌}
 use native.Mathlib.Nat.{zero-add}
 use native.Mathlib.Omega.{arith}
 use lib.Dec.{leb, ltb}
@@ -12,7 +12,8 @@ use Rattle.rules.proofs.Table.{by_test}
 use Rattle.wire.specs.Message.{number_bytes, part_bytes, ack_set_bytes, content_bytes, message_bytes}
 use Rattle.wire.specs.Answers.{message_from, writable, write_message, bytes_answer, buffer_after}
 use Rattle.words.specs.Wrote.{Wrote}
-use Rattle.wire_write.specs.Numbers.{id_numbers}
+use Rattle.std.specs.Prelude.{Option, Some, None}
+use Rattle.wire_write.specs.Numbers.{id_numbers, size_word}
 use Rattle.words.proofs.Writers.{and_then}
 
 -- consumer, id, redelivery count and ack words, one after the other, are a record's content
@@ -30,29 +31,29 @@ content_written words u v w x =
 -- ---- the answer and the buffer after the call
 
 -- both are the definition's
-abbrev Answered : List ℕ → List ℕ → ℕ → List ℕ → Type 0
-Answered buffer words answer after =
-    (answer ≡ bytes_answer (write_message buffer words)) × (after ≡ buffer_after buffer (write_message buffer words))
+pub record Answered (buffer words : List ℕ) (result : Option ℕ) (after : List ℕ) : Type 0 where
+  pub answer : size_word result ≡ bytes_answer (write_message buffer words)
+  pub bytes : after ≡ buffer_after buffer (write_message buffer words)
 
 -- a buffer that is too small is refused
-pub refuses_buffer : (buffer words : List ℕ) → length buffer < 256 → Answered buffer words 16 buffer
+pub refuses_buffer : (buffer words : List ℕ) → length buffer < 256 → Answered buffer words None buffer
 unfolding write_message bytes_answer buffer_after
-refuses_buffer buffer words h = let t = lt-leb 256 (length buffer) h in (rw t, rw t)
+refuses_buffer buffer words h = let t = lt-leb 256 (length buffer) h in record { answer = rw t; bytes = rw t }
 
 -- a record that cannot be written is refused
-pub refuses_record : (buffer words : List ℕ) → writable words ≡ false → Answered buffer words 16 buffer
+pub refuses_record : (buffer words : List ℕ) → writable words ≡ false → Answered buffer words None buffer
 unfolding write_message bytes_answer buffer_after
 refuses_record buffer words t =
-    by_test (leb 256 (length buffer)) (λ s. (rw (s, t), rw (s, t))) (λ s. (rw s, rw s))
+    by_test (leb 256 (length buffer)) (λ s. record { answer = rw (s, t); bytes = rw (s, t) }) (λ s. record { answer = rw s; bytes = rw s })
 
 -- another is written
 pub writes : {buffer after : List ℕ} {next : ℕ} (words : List ℕ) → 256 ≤ length buffer → writable words ≡ true
-    → Wrote 136 buffer 0 (message_bytes (message_from words)) after next → Answered buffer words (next * 256) after
+    → Wrote 136 buffer 0 (message_bytes (message_from words)) after next → Answered buffer words (Some next) after
 unfolding write_message bytes_answer buffer_after
 writes {buffer} {next = next} words h t w =
     let s = le-leb 256 (length buffer) h in
     let e : next ≡ length (message_bytes (message_from words)) = w.ends ∙ zero-add _ in
-    (rw (s, t, e), rw (s, t) w.laid)
+    record { answer = rw (s, t, e); bytes = rw (s, t) w.laid }
 
 -- a record that can be written has four words at most
 pub few_words : (words : List ℕ) → writable words ≡ true → get_or words 5 0 ≤ 4

@@ -36,10 +36,8 @@ pub fn write_ack_set(buffer: &mut [u8], at: usize, words: &[u64]) -> usize
     ensures { Wrote 44 buffer.old at (ack_set_bytes words.now) buffer.new result }
 {
     let mut here = at;
-    let mut i = 0;
-    while i < words.len() {
-        here = write_number(buffer, here, 4, words[i]);
-        i += 1;
+    for word in words {
+        here = write_number(buffer, here, 4, *word);
     }
     here
 }

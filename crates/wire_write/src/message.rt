@@ -1,15 +1,12 @@
 // The Message of a record, from the inside out. An id and a message's content take fewer than 128 bytes, so that their
 // lengths are one byte each: it is left open while the bytes after it are written, and filled in when their number is known.
-ghost use Rattle.std.specs.Prelude.{◌≡◌, ◌+◌, ◌≤◌, length, get_or};
+ghost use Rattle.std.specs.Prelude.{◌≡◌, ◌+◌, ◌≤◌, length, get_or, IfSome};
 ghost use Rattle.wire.specs.Message.{number_bytes, part_bytes, content_bytes, message_bytes};
 ghost use Rattle.wire.specs.Answers.{message_from, writable, write_message, bytes_answer, buffer_after};
 ghost use Rattle.words.specs.Wrote.{Wrote};
-ghost use Rattle.wire_write.specs.Numbers.{id_numbers};
+ghost use Rattle.wire_write.specs.Numbers.{id_numbers, size_word};
 
 use super::fields::{write_ack_set, write_number};
-
-// The answer to a record or a buffer that is not right.
-const NOT_WRITTEN: u64 = 16;
 
 // The bytes that a buffer has at least.
 const BUFFER_BYTES: usize = 256;
@@ -88,6 +85,7 @@ fn write_command(buffer: &mut [u8], record: &[u64]) -> usize
 }
 
 // Whether a record can be written: its count of words, its batch size and its redelivery count are in range.
+#[tactic(auto, unfolding(wire::specs::Answers::writable))]
 fn can_write(record: &[u64]) -> bool
     requires { length «record».now ≡ 13 }
     ensures { result ≡ writable «record».now }
@@ -101,17 +99,18 @@ fn can_write(record: &[u64]) -> bool
     record[10] < REDELIVERY_LIMIT
 }
 
-// Writes a record's Message as a BaseCommand at the start of a buffer and answers how many bytes it has, times 256; or
-// answers 16 and writes nothing.
-pub fn write_message(record: &[u64; 13], buffer: &mut [u8]) -> u64
-    ensures answer { result ≡ bytes_answer (write_message buffer.old «record».now) }
+// Writes a record's Message as a BaseCommand at the start of a buffer and answers how many bytes it has; or writes nothing, where
+// the record is out of limits or the buffer short.
+pub fn write_message(record: &[u64; 13], buffer: &mut [u8]) -> Option<usize>
+    ensures answer { size_word result ≡ bytes_answer (write_message buffer.old «record».now) }
+    ensures short { IfSome result (λ size. size ≤ 136) }
     ensures bytes { buffer.new ≡ buffer_after buffer.old (write_message buffer.old «record».now) }
 {
     if buffer.len() < BUFFER_BYTES {
-        return NOT_WRITTEN;
+        return None;
     }
     if !can_write(record) {
-        return NOT_WRITTEN;
+        return None;
     }
-    write_command(buffer, record) as u64 * 256
+    Some(write_command(buffer, record))
 }

@@ -1,39 +1,35 @@
 -- `wire_command::numbers::flow` meets its contract: the numbers that were seen are the message's.
-use mathlib.Core.Path.{sym, ◌∙◌}
 use mathlib.Core.Option.{bind}
 use Rattle.wire.specs.Select.{uint64, uint32}
 use Rattle.wire.specs.Commands.{flow_of}
-use Rattle.wire_fields.proofs.Selections.{walked_not, required_is, required_bad}
-use Rattle.wire_command.specs.Found.{as_command, found_command}
-use Rattle.wire_command.proofs.Steps.{walked_as}
+use Rattle.wire_fields.specs.Found.{answered}
+use Rattle.wire_fields.proofs.Selections.{walked, walked_not, required_is, required_bad}
+use Rattle.wire_command.specs.Found.{as_command}
 use Rattle.wire_command.proofs.numbers.flow.Goals as goal
 
-pub returns-in_default : goal.returns-in_default
-unfolding flow_of found_command as_command bind
-returns-in_default c = rw (walked_not _ _ _ _ (sym c.in_default.is ∙ c.pick.ensures))
+pub returns-in_err-x : goal.returns-in_err-x
+unfolding flow_of answered bind
+returns-in_err-x c = rw (c.from_residual.ensures, walked_not _ _ _ _ c.in_err-x.ensures)
 
-pub returns-in_default-required_uint64 : goal.returns-in_default-required_uint64
-unfolding flow_of found_command as_command bind
-returns-in_default-required_uint64 c =
-    let w = walked_as c.in-Fields.is c.pick.ensures in
-    rw (w.all_fields, required_bad uint64 w.at_a (sym c.in_default-required_uint64.is ∙ c.required_uint64.ensures))
+pub returns-in_err-consumer : goal.returns-in_err-consumer
+unfolding flow_of answered bind
+returns-in_err-consumer c =
+    let w = walked _ _ _ _ _ _ _ c.in_ok-x.ensures in
+    rw (c.from_residual-in_err-consumer.ensures, w.all_fields, required_bad uint64 w.at_a c.in_err-consumer.ensures)
 
-pub returns-in_default-required_uint32 : goal.returns-in_default-required_uint32
-unfolding flow_of found_command as_command bind
-returns-in_default-required_uint32 c =
-    let w = walked_as c.in-Fields.is c.pick.ensures in
+pub returns-in_err-permits : goal.returns-in_err-permits
+unfolding flow_of answered bind
+returns-in_err-permits c =
+    let w = walked _ _ _ _ _ _ _ c.in_ok-x.ensures in
     rw (
+      c.from_residual-in_err-permits.ensures,
       w.all_fields,
-      required_is uint64 w.at_a (sym c.in-Is.is ∙ c.required_uint64.ensures),
-      required_bad uint32 w.at_b (sym c.in_default-required_uint32.is ∙ c.required_uint32.ensures),
+      required_is uint64 w.at_a c.in_ok-consumer.ensures,
+      required_bad uint32 w.at_b c.in_err-permits.ensures,
     )
 
 pub returns : goal.returns
-unfolding flow_of found_command as_command bind
+unfolding flow_of answered as_command bind
 returns c =
-    let w = walked_as c.in-Fields.is c.pick.ensures in
-    rw (
-      w.all_fields,
-      required_is uint64 w.at_a (sym c.in-Is.is ∙ c.required_uint64.ensures),
-      required_is uint32 w.at_b (sym c.in-Is-required_uint32.is ∙ c.required_uint32.ensures),
-    )
+    let w = walked _ _ _ _ _ _ _ c.in_ok-x.ensures in
+    rw (w.all_fields, required_is uint64 w.at_a c.in_ok-consumer.ensures, required_is uint32 w.at_b c.in_ok-permits.ensures)

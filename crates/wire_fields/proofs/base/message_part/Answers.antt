@@ -1,5 +1,5 @@
 -- `wire_fields::base::message_part` meets its contract: the part that was seen under the type's number is its message.
-use mathlib.Core.Path.{sym, ◌∙◌}
+use mathlib.Core.Path.{◌∙◌}
 use Rattle.wire_fields.proofs.Selections.{walked, walked_not, saw_part}
 use Rattle.wire_fields.proofs.Bases.{seen_placed, unformed_placed, high_placed}
 use Rattle.wire_fields.proofs.base.message_part.Goals as goal
@@ -7,11 +7,11 @@ use Rattle.wire_fields.proofs.base.message_part.Goals as goal
 pub returns-then-kind-ge-TYPES_END : goal.returns-then-kind-ge-TYPES_END
 returns-then-kind-ge-TYPES_END c = high_placed _ _ c.if-kind-ge-TYPES_END.true
 
-pub returns-in_default : goal.returns-in_default
-returns-in_default c = unformed_placed _ _ (walked_not _ _ _ _ (sym c.in_default.is ∙ c.pick.ensures))
+pub returns-in_err-x : goal.returns-in_err-x
+returns-in_err-x c = rw c.from_residual.ensures (unformed_placed _ _ (walked_not _ _ _ _ c.in_err-x.ensures))
 
 pub returns : goal.returns
 returns c =
-    let w = walked _ _ _ _ _ _ _ (sym c.in-Fields.is ∙ c.pick.ensures) in
+    let w = walked _ _ _ _ _ _ _ c.in_ok-x.ensures in
     let kind = c.args.kind in
-    c.required_part.ensures ∙ seen_placed _ kind c.if-kind-ge-TYPES_END.false w.fs w.all_fields _ (saw_part kind w.fs w.at_a)
+    c.part.ensures ∙ seen_placed _ kind c.if-kind-ge-TYPES_END.false w.fs w.all_fields _ (saw_part kind w.fs w.at_a)

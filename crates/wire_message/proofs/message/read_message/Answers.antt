@@ -1,0 +1,67 @@
+-- `wire_message::message::read_message` meets its contract: 16 where there is no type, 17 for another, and then the message's
+-- content decides.
+use mathlib.Core.Path.{sym, ap, ◌∙◌}
+use mathlib.Core.Option.{some}
+use native.Mathlib.Omega.{arith}
+use Rattle.wire.specs.Message.{MESSAGE}
+use Rattle.wire_fields.specs.Selected.{placed}
+use Rattle.wire_fields.proofs.Bases.{told_place, told_no_place, told_base, told_untyped, placed_message}
+use Rattle.wire_message.proofs.Records.{not_typed, other_type, no_message, message_read}
+use Rattle.wire_message.proofs.message.read_message.Goals as goal
+
+pub returns-in_default : goal.returns-in_default
+returns-in_default c =
+    let a = c.args in
+    let d = not_typed a.bytes.now a.record.now (told_untyped _ c.in_default.ensures) in
+    record { answer = d.answer; words = d.written }
+
+pub returns-then-base-ne-MESSAGE : goal.returns-then-base-ne-MESSAGE
+returns-then-base-ne-MESSAGE c =
+    let a = c.args in
+    let b = told_base a.bytes.now _ c.in-Some.ensures in
+    let d = other_type a.bytes.now a.record.now _ b.0 c.if-base-ne-MESSAGE.true in
+    record { answer = d.answer; words = d.written }
+
+pub returns-in_default-message : goal.returns-in_default-message
+returns-in_default-message c =
+    let a = c.args in
+    let k = c.if-base-ne-MESSAGE.false in
+    let b = told_base a.bytes.now _ c.in-Some.ensures in
+    let p = b.1 ∙ ap (placed a.bytes.now) k ∙ placed_message a.bytes.now MESSAGE (omega arith) in
+    let d = no_message a.bytes.now a.record.now (b.0 ∙ ap some k) (told_no_place _ (sym c.in_default-message.is ∙ p)) in
+    record { answer = d.answer; words = d.written }
+
+pub slice_bounds-fill_record-count : goal.slice_bounds-fill_record-count
+slice_bounds-fill_record-count c =
+    let a = c.args in
+    let b = told_base a.bytes.now _ c.in-Some.ensures in
+    let p = b.1 ∙ ap (placed a.bytes.now) c.if-base-ne-MESSAGE.false ∙ placed_message a.bytes.now MESSAGE (omega arith) in
+    let s = told_place _ _ _ (sym c.in-Some-message.is ∙ p) in
+    omega (arith, s.starts, s.ends, s.inside.0)
+
+pub slice_bounds-fill_record-start : goal.slice_bounds-fill_record-start
+slice_bounds-fill_record-start c =
+    let a = c.args in
+    let b = told_base a.bytes.now _ c.in-Some.ensures in
+    let p = b.1 ∙ ap (placed a.bytes.now) c.if-base-ne-MESSAGE.false ∙ placed_message a.bytes.now MESSAGE (omega arith) in
+    let s = told_place _ _ _ (sym c.in-Some-message.is ∙ p) in
+    omega (arith, s.starts, s.ends, s.inside.0)
+
+pub slice_bounds-fill_record-end : goal.slice_bounds-fill_record-end
+slice_bounds-fill_record-end c =
+    let a = c.args in
+    let b = told_base a.bytes.now _ c.in-Some.ensures in
+    let p = b.1 ∙ ap (placed a.bytes.now) c.if-base-ne-MESSAGE.false ∙ placed_message a.bytes.now MESSAGE (omega arith) in
+    let s = told_place _ _ _ (sym c.in-Some-message.is ∙ p) in
+    omega (arith, s.ends, s.inside.1)
+
+pub returns : goal.returns
+returns c =
+    let a = c.args in
+    let k = c.if-base-ne-MESSAGE.false in
+    let b = told_base a.bytes.now _ c.in-Some.ensures in
+    let p = b.1 ∙ ap (placed a.bytes.now) k ∙ placed_message a.bytes.now MESSAGE (omega arith) in
+    let s = told_place _ _ _ (sym c.in-Some-message.is ∙ p) in
+    let r = c.fill_record.ensures in
+    let d = message_read a.bytes.now a.record.now (b.0 ∙ ap some k) s.is (rw (s.starts, s.ends) (record { answer = r.answer; written = r.words })) in
+    record { answer = d.answer; words = d.written }
