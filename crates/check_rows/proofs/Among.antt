@@ -5,12 +5,13 @@ use mathlib.Core.List.{List}
 use Prim.Native.Nat.{ℕ, ◌+◌, ◌*◌, ◌≤◌, ◌<◌}
 use native.Mathlib.Nat.{le_trans}
 use native.Mathlib.Omega.{arith}
-use lib.Dec.{eqb, leb, ltb}
+use lib.Dec.{eqb, leb}
+use Rattle.std.proofs.Common.{Option, Some, None, is_some, IfSome}
 use borrow.Author.Tests.{leb-true, le-leb, eq-eqb, ne_eqb}
 use Rattle.rules.proofs.Table.{by_test}
 use Rattle.check_rows.specs.Below.{each_below, some_below}
 use Rattle.check_rows.specs.Rows.{row, row_second, among, first_row, two_among}
-use Rattle.check_rows.proofs.Below.{each_at, each_given, each_turn, some_found, some_none, some_turn, first_some, first_found, first_none}
+use Rattle.check_rows.proofs.Below.{each_at, each_given, each_turn, some_found, some_none, some_turn, first_some, first_less}
 use Rattle.store.proofs.Rooms.{slot_le}
 
 -- a row below the count ends within the rows
@@ -35,20 +36,16 @@ module _ (ws : List ℕ) (first w : ℕ) where
   unfolding among
   among_turn i a e f = some_turn (λ j. eqb a (row ws first w j)) i e (ne_eqb a (row ws first w i) (λ q. f (sym q)))
 
-  -- the first row that starts with a word, found
-  pub first_here : (n i a : ℕ) → i < n → among ws first w i a ≡ false → row ws first w i ≡ a → i ≡ first_row ws first w n a
-  unfolding among first_row
-  first_here n i a h e f = first_found (λ j. eqb a (row ws first w j)) n i h e (eq-eqb a (row ws first w i) (sym f))
-
-  -- there is none
-  pub first_nowhere : (n a : ℕ) → among ws first w n a ≡ false → n ≡ first_row ws first w n a
-  unfolding among first_row
-  first_nowhere n a e = first_none (λ j. eqb a (row ws first w j)) n e
-
-  -- there is one where the word is among them
-  pub first_among : (n a : ℕ) → ltb (first_row ws first w n a) n ≡ among ws first w n a
+  -- there is a first one where the word is among them
+  pub first_among : (n a : ℕ) → is_some (first_row ws first w n a) ≡ among ws first w n a
   unfolding among first_row
   first_among n a = first_some (λ j. eqb a (row ws first w j)) n
+
+  -- and it is one of the rows
+  pub first_inside : (n a : ℕ) (o : Option ℕ) → o ≡ first_row ws first w n a → IfSome o (λ i. i < n)
+  unfolding first_row
+  first_inside n a None e = tt
+  first_inside n a (Some i) e = first_less (λ j. eqb a (row ws first w j)) n i (sym e)
 
   -- a word above all rows is none of theirs
   pub among_above : (n a greatest : ℕ) → each_below (λ j. leb (row ws first w j) greatest) n ≡ true → greatest < a → among ws first w n a ≡ false

@@ -7,7 +7,8 @@ use native.Mathlib.Nat.{not-suc-le-zero, add-zero, add-suc}
 use native.Mathlib.Numerals.{add-one}
 use native.Mathlib.Omega.{arith}
 use lib.Dec.{ltb}
-use borrow.Author.Tests.{ltb-true, ltb-false, lt-ltb, le-ltb, not-true, not-false}
+use Rattle.std.proofs.Common.{Some, None, is_some}
+use borrow.Author.Tests.{ltb-true, ltb-false, not-true, not-false}
 use Rattle.rules.proofs.Says.{Says}
 use Rattle.rules.proofs.Table.{by_test, never_both}
 use Rattle.check_rows.specs.Below.{each_below, some_below, first_below}
@@ -151,17 +152,23 @@ some_first q (suc n) = ap (λ (b : Bool). b || q (suc n)) (some_first q n) ∙ o
 
 module _ (q : ℕ → Bool) where
   -- there is one where some number passes
-  pub first_some : (n : ℕ) → ltb (first_below q n) n ≡ some_below q n
+  pub first_some : (n : ℕ) → is_some (first_below q n) ≡ some_below q n
   unfolding first_below some_below
-  first_some zero = le-ltb 0 0 (omega arith)
+  first_some zero = refl
   first_some (suc n) =
-      by_test (some_below q n)
-      (λ t. let l = ltb-true (first_below q n) n (first_some n ∙ t) in rw t (lt-ltb (first_below q n) (suc n) (omega arith)))
-      (λ t. rw t
-      (by_test (q n) (λ u. rw u (lt-ltb n (suc n) (omega arith))) (λ u. rw u (le-ltb (suc n) (suc n) (omega arith)))))
+      by_test (some_below q n) (λ t. rw t (first_some n ∙ t))
+      (λ t. rw t (by_test (q n) (λ u. rw u) (λ u. rw u)))
+
+  -- it is below the bound
+  pub first_less : (n i : ℕ) → first_below q n ≡ Some i → i < n
+  unfolding first_below
+  first_less zero i e = absurd (cc)
+  first_less (suc n) i e =
+      by_test (some_below q n) (λ t. let l = first_less n i (rw t at e) in omega arith)
+      (λ t. by_test (q n) (λ u. let k : n ≡ i = cc (rw (t, u) at e) in omega arith) (λ u. absurd (cc (rw (t, u) at e))))
 
   -- a number passes, and none before it
-  pub first_found : (n i : ℕ) → i < n → some_below q i ≡ false → q i ≡ true → i ≡ first_below q n
+  pub first_found : (n i : ℕ) → i < n → some_below q i ≡ false → q i ≡ true → Some i ≡ first_below q n
   unfolding first_below
   first_found zero i h e t = absurd (not-suc-le-zero h)
   first_found (suc n) i h e t =
@@ -170,7 +177,7 @@ module _ (q : ℕ → Bool) where
       (λ u. let l = ltb-false i n u in let s : i ≡ n = omega arith in rw (← s, e, t))
 
   -- none passes
-  pub first_none : (n : ℕ) → some_below q n ≡ false → n ≡ first_below q n
+  pub first_none : (n : ℕ) → some_below q n ≡ false → None ≡ first_below q n
   unfolding first_below some_below
   first_none zero e = refl
   first_none (suc n) e =

@@ -1,5 +1,5 @@
 -- Tests of rows of words: n rows of a width stand from an offset on, and each is known by its first word or its first two.
-use Rattle.std.specs.Prelude.{ℕ, ◌+◌, ◌-◌, ◌*◌, Bool, not, ◌&&◌, ◌||◌, List, eqb, ltb, get_or}
+use Rattle.std.specs.Prelude.{ℕ, ◌+◌, ◌-◌, ◌*◌, Bool, not, ◌&&◌, ◌||◌, Option, List, eqb, ltb, get_or}
 use Rattle.check_rows.specs.Below.{each_below, some_below, first_below}
 
 -- ---- rows known by one word
@@ -12,8 +12,8 @@ row ws first w j = get_or ws (first + j * w) 0
 unfoldable pub among : List ℕ → ℕ → ℕ → ℕ → ℕ → Bool
 among ws first w n a = some_below (λ j. eqb a (row ws first w j)) n
 
--- the first of n rows that starts with a word; n where there is none
-unfoldable pub first_row : List ℕ → ℕ → ℕ → ℕ → ℕ → ℕ
+-- the first of n rows that starts with a word, if one does
+unfoldable pub first_row : List ℕ → ℕ → ℕ → ℕ → ℕ → Option ℕ
 first_row ws first w n a = first_below (λ j. eqb a (row ws first w j)) n
 
 -- whether row j starts with another word than each row before it

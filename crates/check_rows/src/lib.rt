@@ -1,85 +1,31 @@
-// Rows of words: n rows of `width` words from `first` on, each known by its first word or its first
-// two. Whether one is there, whether all are distinct, whether they ascend. Nothing here knows what the
-// words mean.
+// Rows of words: each row is known by its first word or its first two. Whether one is there, whether
+// all are distinct, whether they ascend. Nothing here knows what the words mean.
 #![tactic(auto)]
 
-ghost use Rattle.std.specs.Prelude.{◌≡◌, true, ◌+◌, ◌*◌, ◌≤◌, leb, length};
-ghost use Rattle.check_rows.specs.Below.{each_below};
-ghost use Rattle.check_rows.specs.Rows.{row, among, first_row, rows_distinct, two_among, twos_distinct, pair_above, above_last, twos_ascend};
+ghost use Rattle.std.specs.Prelude.{◌≡◌, true, ◌+◌, ◌*◌, ◌≤◌, ◌<◌, length};
+ghost use Rattle.check_rows.specs.Rows.{row, row_second, among, first_row, rows_distinct, two_among, twos_distinct, pair_above, above_last, twos_ascend};
 
-// A row that starts with a word: the first such row, or the number of rows where there is none.
-pub fn row_of(store: &[u64], first: usize, width: usize, n: usize, a: u64) -> usize
-    requires { (1 ≤ width) × (first + n * width ≤ length store.now) }
-    ensures { result ≡ first_row store.now first width n a }
-{
-    let mut i = 0;
-    while i < n {
-        if store[first + i * width] == a {
-            return i;
-        }
-        i += 1;
-    }
-    i
+// Rows of `width` words each, which stand in a store from `first` on.
+#[derive(Clone, Copy)]
+pub struct Rows<'a> {
+    pub store: &'a [u64],
+    pub first: usize,
+    pub width: usize,
+    pub count: usize,
+    pub ghost inside: { first + count * width ≤ length store.now },
 }
 
-// Whether a word starts one of the rows, of which none is above `greatest`.
-fn repeated(store: &[u64], first: usize, width: usize, n: usize, a: u64, greatest: u64) -> bool
-    requires room { (1 ≤ width) × (first + n * width ≤ length store.now) }
-    requires below { each_below (λ j. leb (row store.now first width j) greatest) n ≡ true }
-    ensures { result ≡ among store.now first width n a }
-{
-    if greatest < a {
-        return false;
-    }
-    row_of(store, first, width, n, a) < n
-}
-
-// The greater of two words.
-fn greater(a: u64, b: u64) -> u64
-    ensures { (a ≤ result) × (b ≤ result) }
-{
-    if a < b { b } else { a }
-}
-
-// Whether no two rows start with the same word. A word above all before it is not compared, so that
-// ascending rows are passed over once.
-pub fn rows_distinct(store: &[u64], first: usize, width: usize, n: usize) -> bool
-    requires { (1 ≤ width) × (first + n * width ≤ length store.now) }
-    ensures { result ≡ rows_distinct store.now first width n }
-{
-    let mut greatest = 0;
-    let mut i = 0;
-    while i < n {
-        let a = store[first + i * width];
-        if repeated(store, first, width, i, a, greatest) {
-            return false;
-        }
-        greatest = greater(greatest, a);
-        i += 1;
-    }
-    true
-}
-
-// Whether one of the rows starts with two words.
-fn two_among(store: &[u64], first: usize, width: usize, n: usize, a: u64, b: u64) -> bool
-    requires { (2 ≤ width) × (first + n * width ≤ length store.now) }
-    ensures { result ≡ two_among store.now first width n a b }
-{
-    let mut i = 0;
-    while i < n {
-        let at = first + i * width;
-        if store[at] == a {
-            if store[at + 1] == b {
-                return true;
-            }
-        }
-        i += 1;
-    }
-    false
+// Rows of two words or more, and whether it is known that they ascend by these two.
+#[derive(Clone, Copy)]
+pub struct PairRows<'a> {
+    pub rows: Rows<'a>,
+    pub ascend: bool,
+    pub ghost wide: { 2 ≤ rows.width },
+    pub ghost known: { ascend ≡ true → twos_ascend rows.store.now rows.first rows.width rows.count ≡ true },
 }
 
 // Whether two words are above another two: by the first words, or by the second where the first are
-// the same.
+// the same. `c < a || (a == c && d < b)` took half as long again over rows that ascend.
 pub fn is_above(a: u64, b: u64, c: u64, d: u64) -> bool
     ensures { result ≡ pair_above a b c d }
 {
@@ -89,110 +35,142 @@ pub fn is_above(a: u64, b: u64, c: u64, d: u64) -> bool
     c < a
 }
 
-// Whether no two rows start with the same two words. Two words above all before them are not compared,
-// so that ascending rows are passed over once.
-pub fn twos_distinct(store: &[u64], first: usize, width: usize, n: usize) -> bool
-    requires { (2 ≤ width) × (first + n * width ≤ length store.now) }
-    ensures { result ≡ twos_distinct store.now first width n }
-{
-    let mut x = 0;
-    let mut y = 0;
-    let mut i = 0;
-    while i < n {
-        let at = first + i * width;
-        let a = store[at];
-        let b = store[at + 1];
-        if is_above(a, b, x, y) {
-            x = a;
-            y = b;
-        } else if two_among(store, first, width, i, a, b) {
+impl Rows<'_> {
+    // The first word of row i.
+    pub fn word(&self, i: usize) -> u64
+        requires { (1 ≤ self.now.width) × (i < self.now.count) }
+        ensures { result ≡ row self.now.store.now self.now.first self.now.width i }
+    {
+        self.store[self.first + i * self.width]
+    }
+
+    // The second word of row i.
+    pub fn second(&self, i: usize) -> u64
+        requires { (2 ≤ self.now.width) × (i < self.now.count) }
+        ensures { result ≡ row_second self.now.store.now self.now.first self.now.width i }
+    {
+        self.store[self.first + i * self.width + 1]
+    }
+
+    // The first row that starts with a word.
+    pub fn row_of(&self, a: u64) -> Option<usize>
+        requires { 1 ≤ self.now.width }
+        ensures { result ≡ first_row self.now.store.now self.now.first self.now.width self.now.count a }
+    {
+        (0..self.count).find(|&i| a == self.word(i))
+    }
+
+    // Whether one of the first n rows starts with a word.
+    fn is_among(&self, n: usize, a: u64) -> bool
+        requires { (1 ≤ self.now.width) × (n ≤ self.now.count) }
+        ensures { result ≡ among self.now.store.now self.now.first self.now.width n a }
+    {
+        (0..n).any(|i| a == self.word(i))
+    }
+
+    // Whether no two rows start with the same word. A word above all before it is not compared, so that
+    // ascending rows are passed over once.
+    pub fn distinct(&self) -> bool
+        requires { 1 ≤ self.now.width }
+        ensures { result ≡ rows_distinct self.now.store.now self.now.first self.now.width self.now.count }
+    {
+        let mut greatest = 0;
+        for i in 0..self.count {
+            let a = self.word(i);
+            if a <= greatest && self.is_among(i, a) {
+                return false;
+            }
+            greatest = greatest.max(a);
+        }
+        true
+    }
+
+    // Whether one of the first n rows starts with two words.
+    fn is_pair_among(&self, n: usize, a: u64, b: u64) -> bool
+        requires { (2 ≤ self.now.width) × (n ≤ self.now.count) }
+        ensures { result ≡ two_among self.now.store.now self.now.first self.now.width n a b }
+    {
+        (0..n).any(|i| a == self.word(i) && b == self.second(i))
+    }
+
+    // Whether no two rows start with the same two words. Two words above all before them are not
+    // compared, so that ascending rows are passed over once.
+    pub fn pairs_distinct(&self) -> bool
+        requires { 2 ≤ self.now.width }
+        ensures { result ≡ twos_distinct self.now.store.now self.now.first self.now.width self.now.count }
+    {
+        let mut x = 0;
+        let mut y = 0;
+        for i in 0..self.count {
+            let a = self.word(i);
+            let b = self.second(i);
+            if is_above(a, b, x, y) {
+                x = a;
+                y = b;
+            } else if self.is_pair_among(i, a, b) {
+                return false;
+            }
+        }
+        true
+    }
+
+    // Whether the rows ascend by their two words.
+    pub fn pairs_ascend(&self) -> bool
+        requires { 2 ≤ self.now.width }
+        ensures { result ≡ twos_ascend self.now.store.now self.now.first self.now.width self.now.count }
+    {
+        (1..self.count).all(|i| is_above(
+            self.word(i),
+            self.second(i),
+            self.word(i - 1),
+            self.second(i - 1),
+        ))
+    }
+
+    // Whether two words are above those of the last row.
+    pub fn is_past(&self, a: u64, b: u64) -> bool
+        requires { 2 ≤ self.now.width }
+        ensures { result ≡ above_last self.now.store.now self.now.first self.now.width self.now.count a b }
+    {
+        if self.count == 0 {
             return false;
         }
-        i += 1;
+        is_above(a, b, self.word(self.count - 1), self.second(self.count - 1))
     }
-    true
 }
 
-// Whether the rows ascend by their two words.
-pub fn twos_ascend(store: &[u64], first: usize, width: usize, n: usize) -> bool
-    requires { (2 ≤ width) × (first + n * width ≤ length store.now) }
-    ensures { result ≡ twos_ascend store.now first width n }
-{
-    if n == 0 {
-        return true;
-    }
-    let mut a = store[first];
-    let mut b = store[first + 1];
-    let mut i = 1;
-    while i < n {
-        let at = first + i * width;
-        let x = store[at];
-        let y = store[at + 1];
-        if !is_above(x, y, a, b) {
-            return false;
+impl PairRows<'_> {
+    // Whether one of the rows, which ascend, starts with two words: the half that cannot have it is left
+    // out again and again.
+    fn is_found(&self, a: u64, b: u64) -> bool
+        requires { self.now.ascend ≡ true }
+        ensures { result ≡ two_among self.now.rows.store.now self.now.rows.first self.now.rows.width self.now.rows.count a b }
+    {
+        let mut low = 0;
+        let mut high = self.rows.count;
+        while low < high {
+            let middle = low + (high - low) / 2;
+            let x = self.rows.word(middle);
+            let y = self.rows.second(middle);
+            if is_above(a, b, x, y) {
+                low = middle + 1;
+            } else if is_above(x, y, a, b) {
+                high = middle;
+            } else {
+                return true;
+            }
         }
-        a = x;
-        b = y;
-        i += 1;
+        false
     }
-    true
-}
 
-// Whether one of the rows, which ascend, starts with two words: the half that cannot have it is left
-// out again and again.
-fn two_searched(store: &[u64], first: usize, width: usize, n: usize, a: u64, b: u64) -> bool
-    requires room { (2 ≤ width) × (first + n * width ≤ length store.now) }
-    requires ascend { twos_ascend store.now first width n ≡ true }
-    ensures { result ≡ two_among store.now first width n a b }
-{
-    let mut low = 0;
-    let mut high = n;
-    while low < high {
-        let middle = low + (high - low) / 2;
-        let at = first + middle * width;
-        if is_above(a, b, store[at], store[at + 1]) {
-            low = middle + 1;
-        } else if is_above(store[at], store[at + 1], a, b) {
-            high = middle;
-        } else {
-            return true;
+    // Whether one of the rows starts with two words. Words above the last of ascending rows are not
+    // searched for.
+    pub fn has(&self, a: u64, b: u64) -> bool
+        ensures { result ≡ two_among self.now.rows.store.now self.now.rows.first self.now.rows.width self.now.rows.count a b }
+    {
+        if self.ascend {
+            return !self.rows.is_past(a, b) && self.is_found(a, b);
         }
+        self.rows.is_pair_among(self.rows.count, a, b)
     }
-    false
-}
-
-// Whether two words are above those of the last row.
-pub fn above_last(store: &[u64], first: usize, width: usize, n: usize, a: u64, b: u64) -> bool
-    requires { (2 ≤ width) × (first + n * width ≤ length store.now) }
-    ensures { result ≡ above_last store.now first width n a b }
-{
-    if n == 0 {
-        return false;
-    }
-    let at = first + (n - 1) * width;
-    is_above(a, b, store[at], store[at + 1])
-}
-
-// Whether one of the rows starts with two words, where it may be known that they ascend. Words above
-// the last of ascending rows are not searched for.
-pub fn two_found(
-    store: &[u64],
-    first: usize,
-    width: usize,
-    n: usize,
-    ascend: bool,
-    a: u64,
-    b: u64,
-) -> bool
-    requires room { (2 ≤ width) × (first + n * width ≤ length store.now) }
-    requires ascend { ascend ≡ true → twos_ascend store.now first width n ≡ true }
-    ensures { result ≡ two_among store.now first width n a b }
-{
-    if ascend {
-        if above_last(store, first, width, n, a, b) {
-            return false;
-        }
-        return two_searched(store, first, width, n, a, b);
-    }
-    two_among(store, first, width, n, a, b)
 }

@@ -27,14 +27,10 @@ fn state_valid(store: &[u64], e: usize) -> bool
     requires { CanonStore e store.now }
     ensures { result ≡ valid (decode store.now) }
 {
-    let mut orders = [0u8; 9];
-    if !topics_valid(store, e, &mut orders) {
-        return false;
-    }
-    if !consumers_valid(store, e) {
-        return false;
-    }
-    dispatchers_valid(store, e, &orders)
+    let mut ascend = [false; 9];
+    topics_valid(store, e, &mut ascend)
+        && consumers_valid(store, e)
+        && dispatchers_valid(store, e, &ascend)
 }
 
 // Whether the words spell a state.

@@ -1,26 +1,25 @@
 // Whether the dispatchers of a store are valid: pairs distinct, and each dispatcher's head, ring,
 // places, marks and outside ids right. The store is spelt as it should be, so that every count is
 // within its list's room.
-ghost use Rattle.std.specs.Prelude.{◌≡◌, true, ◌+◌, ◌*◌, ◌≤◌, ◌<◌, length, get_or};
+ghost use Rattle.std.specs.Prelude.{◌≡◌, ◌+◌, ◌≤◌, ◌<◌, length, get_or};
 ghost use Rattle.rules.specs.Table.{all};
 ghost use Rattle.rules.specs.Valid.{valid_dispatcher};
 ghost use Rattle.layout.specs.Layout.{decode};
 ghost use Rattle.layout.specs.Canon.{CanonStore};
 ghost use Rattle.layout.specs.Fields.{dispatcher_now};
 ghost use Rattle.layout.specs.Offsets.{ring_in, outside_in};
-ghost use Rattle.check_rows.specs.Rows.{twos_ascend};
 ghost use Rattle.check_topics.specs.Orders.{Known};
 ghost use Rattle.check_state.specs.Places.{Under, Tested};
-ghost use Rattle.check_state.specs.Dispatchers.{DispatcherRoom, head_right, next_right, ring_right, front_right, rest_right, dispatchers_right};
+ghost use Rattle.check_state.specs.Dispatchers.{DispatcherRoom, head_right, next_right, ring_right, front_right, dispatchers_right};
 
-use super::valid_marks::{marks_valid, outside_valid};
+use super::valid_marks::rest_valid;
 use super::valid_places::places_valid;
-use check_rows::{rows_distinct, twos_distinct};
+use check_rows::{PairRows, Rows};
 use store::limits::MOST_NUMBER;
 use store::offsets::{
     CURSOR_IN, DISPATCHER_COUNT_AT, DISPATCHER_WORDS, DISPATCHER_WORDS_E, DISPATCHERS_AT,
-    DISPATCHERS_AT_E, MARK_DELETE_IN, MARK_IN, MARKS_IN, MARKS_IN_E, MESSAGES_AT, NEXT_IN,
-    RING_IDS_IN, RING_IN, SUBSCRIPTION_IN, TOPIC_WORDS, TOPIC_WORDS_E, TOTAL_IN,
+    DISPATCHERS_AT_E, MARK_DELETE_IN, MESSAGE_WORDS, MESSAGES_AT, NEXT_IN, RING_IDS_IN, RING_IN,
+    SUBSCRIPTION_IN, TOPIC_WORDS, TOPIC_WORDS_E, TOTAL_IN,
 };
 use store::permits::{LEAST_TOTAL, MOST_TOTAL};
 use store::stretch::word;
@@ -64,11 +63,13 @@ fn ring_valid(store: &[u64], at: usize) -> bool
     requires { (at + outside_in ≤ length store.now) × (get_or store.now (at + ring_in) 0 ≤ 32) }
     ensures { result ≡ ring_right store.now at }
 {
-    let n = word(store, at + RING_IN);
-    if !rows_distinct(store, at + RING_IDS_IN, 1, n) {
-        return false;
-    }
-    next_valid(word(store, at + NEXT_IN), n)
+    let ring = Rows {
+        store,
+        first: at + RING_IDS_IN,
+        width: 1,
+        count: word(store, at + RING_IN),
+    };
+    ring.distinct() && next_valid(word(store, at + NEXT_IN), ring.count)
 }
 
 // What does not look into the ledger: head, ring, places.
@@ -85,46 +86,16 @@ fn front_valid(
     requires under { Under stamps.old stamp }
     ensures { Tested stamp stamps.new result (front_right store.now e at entries) }
 {
-    if !head_valid(store, at, entries) {
-        return false;
-    }
-    if !ring_valid(store, at) {
-        return false;
-    }
-    places_valid(store, e, at, stamps, stamp)
+    head_valid(store, at, entries)
+        && ring_valid(store, at)
+        && places_valid(store, e, at, stamps, stamp)
 }
 
-// What does: marks and outside ids.
-fn rest_valid(
-    store: &[u64],
-    e: usize,
-    at: usize,
-    ledger: usize,
-    entries: usize,
-    ascend: bool,
-) -> bool
-    requires room { DispatcherRoom e store.now at }
-    requires ledger { (entries ≤ e) × (ledger + entries * 4 ≤ length store.now) }
-    requires ascend { ascend ≡ true → twos_ascend store.now ledger 4 entries ≡ true }
-    ensures { result ≡ rest_right store.now e at ledger entries }
-{
-    if !marks_valid(
-        store,
-        ledger,
-        entries,
-        at + MARK_IN + MARKS_IN_E * e,
-        word(store, at + MARKS_IN + MARKS_IN_E * e),
-    ) {
-        return false;
-    }
-    outside_valid(store, at, ledger, entries, ascend)
-}
-
-// Dispatcher d. `orders` has a 2 for each topic whose ids are known to ascend.
-fn dispatcher_valid(store: &[u64], e: usize, d: usize, orders: &[u8], stamps: &mut [u8]) -> bool
+// Dispatcher d. `ascend` says of each topic whether its ids are known to ascend.
+fn dispatcher_valid(store: &[u64], e: usize, d: usize, ascend: &[bool], stamps: &mut [u8]) -> bool
     requires canon { CanonStore e store.now }
     requires there { d < length (decode store.now).dispatchers }
-    requires orders { (length orders.now ≡ 9) × Known e store.now orders.now }
+    requires ascend { (length ascend.now ≡ 9) × Known e store.now ascend.now }
     requires stamps { (length stamps.old ≡ 4096) × Under stamps.old (d + 1) }
     ensures { Tested (d + 1) stamps.new result (valid_dispatcher (decode store.now) (dispatcher_now store.now d)) }
 {
@@ -137,49 +108,54 @@ fn dispatcher_valid(store: &[u64], e: usize, d: usize, orders: &[u8], stamps: &m
         return false;
     }
     let t = find_topic(store, e, topic);
+    let rows = Rows {
+        store,
+        first: MESSAGES_AT + t * (TOPIC_WORDS + TOPIC_WORDS_E * e),
+        width: MESSAGE_WORDS,
+        count: entries,
+    };
     rest_valid(
         store,
         e,
         at,
-        MESSAGES_AT + t * (TOPIC_WORDS + TOPIC_WORDS_E * e),
-        entries,
-        orders[t] == 2,
+        &PairRows {
+            rows,
+            ascend: ascend[t],
+        },
     )
 }
 
 // Each of the n dispatchers.
-fn each_valid(store: &[u64], e: usize, n: usize, orders: &[u8], stamps: &mut [u8]) -> bool
+fn each_valid(store: &[u64], e: usize, n: usize, ascend: &[bool], stamps: &mut [u8]) -> bool
     requires canon { CanonStore e store.now }
     requires count { n ≡ length (decode store.now).dispatchers }
-    requires orders { (length orders.now ≡ 9) × Known e store.now orders.now }
+    requires ascend { (length ascend.now ≡ 9) × Known e store.now ascend.now }
     requires stamps { (length stamps.old ≡ 4096) × Under stamps.old 1 }
     ensures { result ≡ all (valid_dispatcher (decode store.now)) (decode store.now).dispatchers }
 {
-    let mut d = 0;
-    while d < n {
-        if !dispatcher_valid(store, e, d, orders, stamps) {
+    for d in 0..n {
+        if !dispatcher_valid(store, e, d, ascend, stamps) {
             return false;
         }
-        d += 1;
     }
     true
 }
 
 // The dispatchers of a store.
-pub(crate) fn dispatchers_valid(store: &[u64], e: usize, orders: &[u8]) -> bool
+pub(crate) fn dispatchers_valid(store: &[u64], e: usize, ascend: &[bool]) -> bool
     requires canon { CanonStore e store.now }
-    requires orders { (length orders.now ≡ 9) × Known e store.now orders.now }
+    requires ascend { (length ascend.now ≡ 9) × Known e store.now ascend.now }
     ensures { result ≡ dispatchers_right (decode store.now) }
 {
-    let n = word(store, DISPATCHER_COUNT_AT + DISPATCHERS_AT_E * e);
-    if !twos_distinct(
+    let rows = Rows {
         store,
-        DISPATCHERS_AT + DISPATCHERS_AT_E * e,
-        DISPATCHER_WORDS + DISPATCHER_WORDS_E * e,
-        n,
-    ) {
+        first: DISPATCHERS_AT + DISPATCHERS_AT_E * e,
+        width: DISPATCHER_WORDS + DISPATCHER_WORDS_E * e,
+        count: word(store, DISPATCHER_COUNT_AT + DISPATCHERS_AT_E * e),
+    };
+    if !rows.pairs_distinct() {
         return false;
     }
     let mut stamps = [0u8; 4096];
-    each_valid(store, e, n, orders, &mut stamps)
+    each_valid(store, e, rows.count, ascend, &mut stamps)
 }

@@ -1,13 +1,14 @@
 -- Topics whose ids ascend are valid ones, and what is known of their order.
 use mathlib.Core.Path.{◌≡◌, refl, sym, ap, ◌∙◌}
-use mathlib.Core.Bool.{true, false, and-eq-true_iff}
+use mathlib.Core.Bool.{Bool, true, false, and-eq-true_iff}
 use mathlib.Core.List.{List}
-use Prim.Native.Nat.{ℕ, ◌+◌, ◌*◌, ◌<◌}
+use Prim.Native.Nat.{ℕ, ◌+◌, ◌*◌, ◌≤◌, ◌<◌}
 use native.Mathlib.Omega.{arith}
 use lib.Dec.{eqb, leb, ltb}
-use lib.ListN.{length, get_or, set, replicate, length-map, get_or-map}
+use lib.ListN.{length, get_or, set, replicate, length-map, get_or-map, get_or-replicate, length-replicate, get_or-eq_default}
 use lib.Seq.{get_or-set_same, get_or-set_other}
 use borrow.Author.Tests.{eqb-true, eqb-false, ltb-true, ltb-false}
+use Rattle.std.proofs.Common.{Some, None}
 use Rattle.bits.specs.Bits.{AreWords}
 use Rattle.rules.specs.Table.{all, distinct}
 use Rattle.rules.specs.State.{Id, same_id, StoredMessage, by_number, ledger_of}
@@ -27,7 +28,6 @@ use Rattle.check_topics.specs.Orders.{batch_right, messages_ascend, ledger_ascen
 use Rattle.check_rows.proofs.Below.{each_same}
 use Rattle.check_rows.proofs.Elements.{all_each}
 use Rattle.topic.proofs.Ledgers.{ledger_at, ledger_none}
-use Rattle.check_rows.proofs.Zeros.{zeros}
 use Rattle.check_rows.proofs.RowLists.{twos_list}
 use Rattle.check_rows.proofs.RowOrder.{ascend_distinct}
 use Rattle.check_topics.proofs.Topics.{ids, messages_valid, message_words}
@@ -100,53 +100,48 @@ module _ {e : ℕ} {ws : List ℕ} (h : CanonStore e ws) (t : ℕ) (k : t < leng
 
 module _ (e : ℕ) (ws : List ℕ) (t : ℕ) where
   -- it is not valid
-  pub order_wrong : false ≡ valid_topic e (topic_nth (decode ws) t) → 0 ≡ topic_order e ws t
+  pub order_wrong : false ≡ valid_topic e (topic_nth (decode ws) t) → None ≡ topic_order e ws t
   unfolding topic_order
   order_wrong f = rw (← f)
 
-  -- it is, and its ids do not ascend
-  pub order_mixed : true ≡ valid_topic e (topic_nth (decode ws) t) → ledger_ascends e ws t ≡ false → 1 ≡ topic_order e ws t
+  -- it is, and its ids do or do not ascend
+  pub order_right : {b : Bool} → true ≡ valid_topic e (topic_nth (decode ws) t) → ledger_ascends e ws t ≡ b → Some b ≡ topic_order e ws t
   unfolding topic_order
-  order_mixed v a = rw (← v, a)
+  order_right v a = rw (← v, a)
 
-  -- they do
-  pub order_ascends : true ≡ valid_topic e (topic_nth (decode ws) t) → ledger_ascends e ws t ≡ true → 2 ≡ topic_order e ws t
+  -- known as nothing it is not valid
+  pub order_none : None ≡ topic_order e ws t → valid_topic e (topic_nth (decode ws) t) ≡ false
   unfolding topic_order
-  order_ascends v a = rw (← v, a)
+  order_none q = by_test (valid_topic e (topic_nth (decode ws) t)) (λ x. let d : None ≡ Some (ledger_ascends e ws t) = rw x at q in absurd (cc)) (λ x. x)
 
-  -- known as 0 it is not valid
-  pub order_none : {v : ℕ} → v ≡ topic_order e ws t → v ≡ 0 → valid_topic e (topic_nth (decode ws) t) ≡ false
+  -- and as something it is, and that says whether its ids ascend
+  pub order_some : {b : Bool} → Some b ≡ topic_order e ws t → (valid_topic e (topic_nth (decode ws) t) ≡ true) × (ledger_ascends e ws t ≡ b)
   unfolding topic_order
-  order_none {v} q z =
+  order_some {b} q =
       by_test (valid_topic e (topic_nth (decode ws) t))
-      (λ x. by_test (ledger_ascends e ws t)
-      (λ y. let n : v ≡ 2 = q ∙ rw (x, y) in absurd (omega arith)) (λ y. let n : v ≡ 1 = q ∙ rw (x, y) in absurd (omega arith)))
-      (λ x. x)
-
-  -- and as something else it is
-  pub order_some : {v : ℕ} → v ≡ topic_order e ws t → (v ≡ 0 → ⊥) → valid_topic e (topic_nth (decode ws) t) ≡ true
-  unfolding topic_order
-  order_some {v} q z = by_test (valid_topic e (topic_nth (decode ws) t)) (λ x. x) (λ x. absurd (z (q ∙ rw x)))
+      (λ x. let d : Some b ≡ Some (ledger_ascends e ws t) = rw x at q in (x, cc))
+      (λ x. let d : Some b ≡ None = rw x at q in absurd (cc))
 
 -- ---- what is known
 
 -- nothing, of no topic
-pub known_nothing : (e : ℕ) (ws : List ℕ) (n : ℕ) → Known e ws (replicate n 0)
-known_nothing e ws n t q = let z = zeros n t in absurd (omega arith)
+pub known_nothing : (e : ℕ) (ws : List ℕ) (n : ℕ) → Known e ws (replicate n false)
+known_nothing e ws n t q =
+    by_test (ltb t n)
+    (λ l. let z = get_or-replicate n t false false (ltb-true t n l) in absurd (cc))
+    (λ l.
+    let k : length (replicate {A = Bool} n false) ≤ t = rw (length-replicate {A = Bool} n false) (ltb-false t n l) in
+    let z = get_or-eq_default (replicate n false) false k in absurd (cc))
 
 -- a topic's order told
-pub known_more : (e : ℕ) (ws orders : List ℕ) (t v : ℕ) → t < length orders → v ≡ topic_order e ws t → Known e ws orders → Known e ws (set orders t v)
-unfolding topic_order
-known_more e ws orders t v l q f j h =
+pub known_more : (e : ℕ) (ws : List ℕ) (ascend : List Bool) (t : ℕ) (b : Bool) → t < length ascend → Some b ≡ topic_order e ws t → Known e ws ascend
+    → Known e ws (set ascend t b)
+known_more e ws ascend t b l q f j h =
     by_test (eqb j t)
     (λ u.
     let s : j ≡ t = eqb-true j t u in
-    let g : v ≡ 2 = sym (get_or-set_same orders t v 0 l) ∙ (rw s at h) in
-    rw s
-    (by_test (valid_topic e (topic_nth (decode ws) t))
-    (λ x. by_test (ledger_ascends e ws t) (λ y. y) (λ y. absurd (let z : v ≡ 1 = q ∙ rw (x, y) in omega arith)))
-    (λ x. absurd (let z : v ≡ 0 = q ∙ rw x in omega arith))))
-    (λ u. f j (sym (get_or-set_other orders t j v 0 (eqb-false j t u)) ∙ h))
+    rw s ((order_some e ws t q).1 ∙ sym (get_or-set_same ascend t b false l) ∙ (rw s at h)))
+    (λ u. f j (sym (get_or-set_other ascend t j b false (eqb-false j t u)) ∙ h))
 
 -- no rows ascend
 none_ascend : (ws : List ℕ) (first : ℕ) → twos_ascend ws first 4 0 ≡ true
@@ -154,17 +149,17 @@ unfolding twos_ascend each_below
 none_ascend ws first = refl
 
 -- a topic known to ascend, by the ledger of its number
-pub known_ledger : {e : ℕ} {ws : List ℕ} → CanonStore e ws → (orders : List ℕ) (topic t n : ℕ) → Known e ws orders
+pub known_ledger : {e : ℕ} {ws : List ℕ} → CanonStore e ws → (ascend : List Bool) (topic t n : ℕ) → Known e ws ascend
     → t ≡ slot by_number topic (decode ws).topics → n ≡ length (ledger_of (decode ws) topic)
-    → eqb (get_or orders t 0) 2 ≡ true → twos_ascend ws (2326 + t * (4 + 4 * e)) 4 n ≡ true
-known_ledger {e} {ws} h orders topic t n f s q u =
+    → get_or ascend t false ≡ true → twos_ascend ws (2326 + t * (4 + 4 * e)) 4 n ≡ true
+known_ledger {e} {ws} h ascend topic t n f s q u =
     by_test (ltb (slot by_number topic (decode ws).topics) (length (decode ws).topics))
     (λ x.
     let l = ltb-true (slot by_number topic (decode ws).topics) (length (decode ws).topics) x in
     let m : n ≡ get_or ws (2325 + t * (4 + 4 * e)) 0 =
     q ∙ ap (λ (a : List StoredMessage). length a) (ledger_at (decode ws) topic l)
     ∙ sym (rw s (order_count h (slot by_number topic (decode ws).topics) l)) in
-    rw m (f t (eqb-true (get_or orders t 0) 2 u)))
+    rw m (f t u))
     (λ x.
     let l = ltb-false (slot by_number topic (decode ws).topics) (length (decode ws).topics) x in
     let m : n ≡ 0 = q ∙ ap (λ (a : List StoredMessage). length a) (ledger_none (decode ws) topic l) in

@@ -1,5 +1,5 @@
 -- The ledgers of topics, tested over words, and which of them are known to ascend by id.
-use Rattle.std.specs.Prelude.{ℕ, ◌+◌, ◌*◌, ◌≡◌, Bool, true, cond, ◌&&◌, List, leb, get_or}
+use Rattle.std.specs.Prelude.{ℕ, ◌+◌, ◌*◌, ◌≡◌, Bool, true, false, cond, ◌&&◌, Option, Some, None, List, leb, get_or}
 use Rattle.rules.specs.Valid.{valid_topic}
 use Rattle.layout.specs.Layout.{decode}
 use Rattle.layout.specs.Fields.{topic_nth}
@@ -18,15 +18,15 @@ messages_ascend ws first n = each_below (batch_right ws first) n && twos_ascend 
 abbrev pub ledger_ascends : ℕ → List ℕ → ℕ → Bool
 ledger_ascends e ws t = twos_ascend ws (2326 + t * (4 + 4 * e)) 4 (get_or ws (2325 + t * (4 + 4 * e)) 0)
 
--- what a topic is known as: 0 if it is not valid, 2 if it is and its ids ascend, else 1
-unfoldable pub topic_order : ℕ → List ℕ → ℕ → ℕ
-topic_order e ws t = cond (valid_topic e (topic_nth (decode ws) t)) (cond (ledger_ascends e ws t) 2 1) 0
+-- whether the ids of the ledger in slot t ascend, if its topic is valid
+unfoldable pub topic_order : ℕ → List ℕ → ℕ → Option Bool
+topic_order e ws t = cond (valid_topic e (topic_nth (decode ws) t)) (Some (ledger_ascends e ws t)) None
 
--- each topic that is known as 2 has ids that ascend
-abbrev pub Known : ℕ → List ℕ → List ℕ → Type 0
-Known e ws orders = (t : ℕ) → get_or orders t 0 ≡ 2 → ledger_ascends e ws t ≡ true
+-- each topic that is known to has ids that ascend
+abbrev pub Known : ℕ → List ℕ → List Bool → Type 0
+Known e ws ascend = (t : ℕ) → get_or ascend t false ≡ true → ledger_ascends e ws t ≡ true
 
 -- what a test that tells the orders of topics answers and leaves
-pub record Ordered (e : ℕ) (ws after : List ℕ) (r right : Bool) : Type 0 where
+pub record Ordered (e : ℕ) (ws : List ℕ) (after : List Bool) (r right : Bool) : Type 0 where
   pub answer : r ≡ right
   pub known : Known e ws after

@@ -27,10 +27,7 @@ fn is_other(store: &[u64], at: usize, ledger: u64, entry: u64) -> bool
     ensures { result ≡ not (same_id (record { ledger = ledger; entry = entry })
         (record { ledger = get_or store.now at 0; entry = get_or store.now (at + 1) 0 })) }
 {
-    if store[at] != ledger {
-        return true;
-    }
-    store[at + ENTRY_IN] != entry
+    store[at] != ledger || store[at + ENTRY_IN] != entry
 }
 
 // Whether none of the first m messages of topic t has an id.
@@ -40,12 +37,10 @@ fn is_new(store: &[u64], e: usize, t: usize, m: usize, ledger: u64, entry: u64) 
         (map (λ (x : StoredMessage). x.id) (take m (topic_now store.now t).messages))) }
 {
     let first = MESSAGES_AT + t * (TOPIC_WORDS + TOPIC_WORDS_E * e);
-    let mut j = 0;
-    while j < m {
+    for j in 0..m {
         if !is_other(store, first + j * MESSAGE_WORDS, ledger, entry) {
             return false;
         }
-        j += 1;
     }
     true
 }
@@ -61,8 +56,7 @@ fn messages_valid(store: &[u64], e: usize, t: usize) -> bool
     let n = word(store, first - 1);
     let mut ledger = 0;
     let mut entry = 0;
-    let mut m = 0;
-    while m < n {
+    for m in 0..n {
         let at = first + m * MESSAGE_WORDS;
         if MOST_BATCH < store[at + BATCH_IN] {
             return false;
@@ -75,7 +69,6 @@ fn messages_valid(store: &[u64], e: usize, t: usize) -> bool
         } else if !is_new(store, e, t, m, x, y) {
             return false;
         }
-        m += 1;
     }
     true
 }
@@ -92,8 +85,7 @@ fn messages_ascend(store: &[u64], first: usize, n: usize) -> bool
     }
     let mut ledger = store[first];
     let mut entry = store[first + ENTRY_IN];
-    let mut m = 1;
-    while m < n {
+    for m in 1..n {
         let at = first + m * MESSAGE_WORDS;
         if MOST_BATCH < store[at + BATCH_IN] {
             return false;
@@ -111,51 +103,44 @@ fn messages_ascend(store: &[u64], first: usize, n: usize) -> bool
             ledger = x;
         }
         entry = y;
-        m += 1;
     }
     true
 }
 
-// Topic t: 0 if it is not valid, 2 if it is and its ids ascend, else 1.
-fn topic_order(store: &[u64], e: usize, t: usize) -> u8
+// Whether the ids of topic t ascend, if it is valid.
+fn topic_order(store: &[u64], e: usize, t: usize) -> Option<bool>
     requires { CanonStore e store.now × (t < length (decode store.now).topics) }
     ensures { result ≡ topic_order e store.now t }
 {
     let at = TOPICS_AT + t * (TOPIC_WORDS + TOPIC_WORDS_E * e);
-    if MOST_NUMBER < store[at] {
-        return 0;
-    }
-    if store[at + MESSAGES_IN] < 1 {
-        return 0;
+    if MOST_NUMBER < store[at] || store[at + MESSAGES_IN] < 1 {
+        return None;
     }
     if messages_ascend(store, at + MESSAGE_IN, word(store, at + MESSAGES_IN)) {
-        return 2;
+        return Some(true);
     }
-    if messages_valid(store, e, t) { 1 } else { 0 }
+    messages_valid(store, e, t).then_some(false)
 }
 
-// Whether the topics are valid and their numbers distinct: each is found at its own slot. What each is
-// known as stands in `orders` then.
-pub fn topics_valid(store: &[u64], e: usize, orders: &mut [u8]) -> bool
+// Whether the topics are valid and their numbers distinct: each is found at its own slot. `ascend` says of
+// each then whether its ids are known to ascend.
+pub fn topics_valid(store: &[u64], e: usize, ascend: &mut [bool]) -> bool
     requires canon { CanonStore e store.now }
-    requires orders { (length orders.old ≡ 9) × Known e store.now orders.old }
-    ensures { Ordered e store.now orders.new result
+    requires ascend { (length ascend.old ≡ 9) × Known e store.now ascend.old }
+    ensures { Ordered e store.now ascend.new result
         (distinct eqb (map (λ (t : Topic). t.number) (decode store.now).topics)
         && all (valid_topic e) (decode store.now).topics) }
 {
     let n = word(store, TOPIC_COUNT_AT);
     let width = TOPIC_WORDS + TOPIC_WORDS_E * e;
-    let mut t = 0;
-    while t < n {
+    for t in 0..n {
         if find_topic(store, e, store[TOPICS_AT + t * width]) < t {
             return false;
         }
-        let order = topic_order(store, e, t);
-        if order == 0 {
+        let Some(known) = topic_order(store, e, t) else {
             return false;
-        }
-        orders[t] = order;
-        t += 1;
+        };
+        ascend[t] = known;
     }
     true
 }

@@ -9,8 +9,9 @@ use Rattle.check_topics.proofs.is_other.Goals as goal
 
 pub returns-then-store-at : goal.returns-then-store-at
 unfolding same_id
-returns-then-store-at c = ap not (fails _ (ne_eqb _ _ (λ q. c.if-store-at.true (sym q))))
+returns-then-store-at c =
+    rw (ne_eqb _ _ c.if-store-at.true) (ap not (fails _ (ne_eqb _ _ (λ q. c.if-store-at.true (sym q)))))
 
-pub returns : goal.returns
+pub returns-else-store-at : goal.returns-else-store-at
 unfolding same_id
-returns c = ap not (passes (eq-eqb _ _ (sym c.if-store-at.false)) (same_comm decides_numbers _ c.args.entry))
+returns-else-store-at c = ap not (passes (eq-eqb _ _ (sym c.if-store-at.false)) (same_comm decides_numbers _ c.args.entry))

@@ -40,8 +40,6 @@ pub loop-m-init : goal.loop-m-init
 unfolding each_below
 loop-m-init c =
     let x = c.args in (
-      omega arith,
-      c.requires.0,
       row_none x.store.now x.first 4,
       second_none x.store.now x.first 4,
       first_size x.store.now x.first ∙ le-leb _ 256 c.if-store-first-gt-MOST_BATCH.false,
@@ -58,7 +56,7 @@ pub returns-then-y-entry : goal.returns-then-y-entry
 returns-then-y-entry c =
     let x = c.args in
     let l = c.loop-m in
-    refused x.store.now x.first x.n l.m l.ledger l.entry l.invariant.0 c.loop-m-test.true l.invariant.2 l.invariant.3
+    refused x.store.now x.first x.n l.m l.ledger l.entry l.auto.m c.loop-m-test.true l.invariant.0 l.invariant.1
     (sym (above_second _ _ _ _ c.if-x-ledger.true) ∙ le-ltb _ _ c.if-y-entry.true)
 
 pub returns-then-x-ledger-2 : goal.returns-then-x-ledger-2
@@ -66,7 +64,7 @@ returns-then-x-ledger-2 c =
     let x = c.args in
     let l = c.loop-m in
     let h = c.if-x-ledger-2.true in
-    refused x.store.now x.first x.n l.m l.ledger l.entry l.invariant.0 c.loop-m-test.true l.invariant.2 l.invariant.3
+    refused x.store.now x.first x.n l.m l.ledger l.entry l.auto.m c.loop-m-test.true l.invariant.0 l.invariant.1
     (sym (above_first _ _ _ _ c.if-x-ledger.false) ∙ le-ltb l.ledger (row x.store.now x.first 4 l.m) (omega arith))
 
 pub loop-m-preserved : goal.loop-m-preserved
@@ -81,14 +79,12 @@ loop-m-preserved c =
       | else-x-ledger+else-x-ledger-2 w ↦
           (sym (above_first _ _ _ _ w.if-x-ledger.false) ∙ lt-ltb l.ledger r (omega (arith, w.if-x-ledger.false, w.if-x-ledger-2.false)), w.ledger-is)
     ] in (
-      omega arith,
-      omega arith,
       rw e above.1,
       rw e,
-      each_turn (batch_right x.store.now x.first) l.m l.invariant.4 (le-leb _ 256 c.if-store-at-gt-MOST_BATCH.false),
+      each_turn (batch_right x.store.now x.first) l.m l.invariant.2 (le-leb _ 256 c.if-store-at-gt-MOST_BATCH.false),
       rw e
-          (ascend_next x.store.now x.first 4 l.m l.invariant.0 l.invariant.5
-          (ascend_turn x.store.now x.first 4 l.m l.ledger l.entry l.invariant.0 l.invariant.2 l.invariant.3 above.0)),
+          (ascend_next x.store.now x.first 4 l.m l.auto.m l.invariant.3
+          (ascend_turn x.store.now x.first 4 l.m l.ledger l.entry l.auto.m l.invariant.0 l.invariant.1 above.0)),
     )
 
 pub returns : goal.returns
@@ -97,5 +93,5 @@ returns c =
     let x = c.args in
     let l = c.loop-m in
     let k = c.loop-m-test.false in
-    passes (sym (each_end (batch_right x.store.now x.first) x.n l.m l.invariant.1 k l.invariant.4))
-    (each_end (two_ascends x.store.now x.first 4) (x.n - 1) (l.m - 1) (omega arith) (omega arith) l.invariant.5)
+    passes (sym (each_end (batch_right x.store.now x.first) x.n l.m (c.loop-m.auto.m-end c.requires.0) k l.invariant.2))
+    (each_end (two_ascends x.store.now x.first 4) (x.n - 1) (l.m - 1) (omega arith) (omega arith) l.invariant.3)

@@ -90,7 +90,7 @@ word-n-requires c =
 
 pub loop-m-init : goal.loop-m-init
 unfolding all
-loop-m-init c = (search rules, passed_start message_steps (topic_nth (decode c.args.store.now) c.args.t).messages, refl)
+loop-m-init c = (passed_start message_steps (topic_nth (decode c.args.store.now) c.args.t).messages, refl)
 
 pub overflow_mul-at : goal.overflow_mul-at
 overflow_mul-at c =
@@ -131,7 +131,7 @@ pub returns-then-store-at-gt-MOST_BATCH : goal.returns-then-store-at-gt-MOST_BAT
 returns-then-store-at-gt-MOST_BATCH c =
     let n = counted c.args.t c.requires.0 c.requires.1 c.word-n.result c.word-n.ensures in
     let l : c.loop-m.m < length (topic_nth (decode c.args.store.now) c.args.t).messages = omega arith in
-    passed_stop message_steps (topic_nth (decode c.args.store.now) c.args.t).messages c.loop-m.m no_message l c.loop-m.invariant.1
+    passed_stop message_steps (topic_nth (decode c.args.store.now) c.args.t).messages c.loop-m.m no_message l c.loop-m.invariant.0
     (sym (fails _ (sym (right c.args.t c.requires.0 c.requires.1 c.loop-m.m l (λ i. (c.type_inv.store i).fits)) ∙ lt-leb _ 256 c.if-store-at-gt-MOST_BATCH.true)))
 
 pub offset_bounds-store-at-in-loop-m : goal.offset_bounds-store-at-in-loop-m
@@ -179,7 +179,7 @@ returns-then-not-is_new c =
     let n = counted c.args.t c.requires.0 c.requires.1 c.word-n.result c.word-n.ensures in
     let l : c.loop-m.m < length (topic_nth (decode c.args.store.now) c.args.t).messages = omega arith in
     let f : not (any (same_id (current c.args.t c.requires.0 c.requires.1 c.loop-m.m l)) (ids (take c.loop-m.m (topic_nth (decode c.args.store.now) c.args.t).messages))) ≡ false = answered_no c.is_new.ensures c.if-not-is_new.true in
-    passed_stop message_steps (topic_nth (decode c.args.store.now) c.args.t).messages c.loop-m.m no_message l c.loop-m.invariant.1
+    passed_stop message_steps (topic_nth (decode c.args.store.now) c.args.t).messages c.loop-m.m no_message l c.loop-m.invariant.0
     (sym (passes (sym (right c.args.t c.requires.0 c.requires.1 c.loop-m.m l (λ i. (c.type_inv.store i).fits)) ∙ le-leb _ 256 c.if-store-at-gt-MOST_BATCH.false)
     (sym (subst (λ (x : Id). not (any (same_id x) (ids (take c.loop-m.m (topic_nth (decode c.args.store.now) c.args.t).messages))) ≡ false) (id c.args.t c.requires.0 c.requires.1 c.loop-m.m l) f))))
 
@@ -194,17 +194,17 @@ loop-m-preserved c =
     let r = sym (right c.args.t c.requires.0 c.requires.1 c.loop-m.m l (λ i. (c.type_inv.store i).fits)) ∙ le-leb _ 256 c.if-store-at-gt-MOST_BATCH.false in
     elim c.if-is_above.branch [
       | then-is_above w ↦
-          let n = next_greater ms m (record { ledger = c.loop-m.ledger; entry = c.loop-m.entry }) now l q c.loop-m.invariant.1 c.loop-m.invariant.2 r
+          let n = next_greater ms m (record { ledger = c.loop-m.ledger; entry = c.loop-m.entry }) now l q c.loop-m.invariant.0 c.loop-m.invariant.1 r
           (sym (c.is_above.ensures ∙ above_after _ _ _ _) ∙ w.if-is_above.true) in
-          (omega arith, n.0, rw (w.ledger-is, w.entry-is) n.1)
+          (n.0, rw (w.ledger-is, w.entry-is) n.1)
       | else-is_above+else-not-is_new w ↦
-          let n = next_new ms m (record { ledger = c.loop-m.ledger; entry = c.loop-m.entry }) now l q c.loop-m.invariant.1 c.loop-m.invariant.2 r
+          let n = next_new ms m (record { ledger = c.loop-m.ledger; entry = c.loop-m.entry }) now l q c.loop-m.invariant.0 c.loop-m.invariant.1 r
           (sym (c.is_above.ensures ∙ above_after _ _ _ _) ∙ w.if-is_above.false) (answered_yes w.is_new.ensures w.if-not-is_new.false) in
-          (omega arith, n.0, rw (w.ledger-is, w.entry-is) n.1)
+          (n.0, rw (w.ledger-is, w.entry-is) n.1)
     ]
 
 pub returns : goal.returns
 returns c =
     let n = counted c.args.t c.requires.0 c.requires.1 c.word-n.result c.word-n.ensures in
     let l : length (topic_nth (decode c.args.store.now) c.args.t).messages ≤ c.loop-m.m = omega arith in
-    passed_end message_steps (topic_nth (decode c.args.store.now) c.args.t).messages c.loop-m.m l c.loop-m.invariant.1
+    passed_end message_steps (topic_nth (decode c.args.store.now) c.args.t).messages c.loop-m.m l c.loop-m.invariant.0

@@ -1,6 +1,5 @@
 -- `check_topics::messages_valid` meets its contract: one pass over the messages. The loop's invariant: those before m are
 -- valid, with ids distinct and none after the greatest.
-use Prim.Native.Nat.{◌-◌, ◌≤◌}
 use lib.ListN.{take}
 use Rattle.layout.specs.Layout.{decode}
 use Rattle.layout.specs.Fields.{topic_nth}
@@ -11,8 +10,5 @@ use Rattle.check_topics.proofs.messages_valid.Given as goal
 
 abbrev pub invariant-loop-m : goal.invariant-loop-m
 invariant-loop-m l =
-    (l.m ≤ l.n) × Passed messages_valid (topic_nth (decode l.store) l.t).messages l.m
+    Passed messages_valid (topic_nth (decode l.store) l.t).messages l.m
     × Bounded (record { ledger = l.ledger; entry = l.entry }) (take l.m (topic_nth (decode l.store) l.t).messages)
-
-abbrev pub decreases-loop-m : goal.decreases-loop-m
-decreases-loop-m l = l.n - l.m

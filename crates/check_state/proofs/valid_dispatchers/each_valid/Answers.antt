@@ -16,13 +16,13 @@ use Rattle.check_state.proofs.valid_dispatchers.each_valid.Goals as goal
 
 pub loop-d-init : goal.loop-d-init
 unfolding each_below
-loop-d-init c = (search rules, c.requires.stamps.0, c.requires.stamps.1, refl)
+loop-d-init c = (c.requires.stamps.0, c.requires.stamps.1, refl)
 
 pub dispatcher_valid-requires : goal.dispatcher_valid-requires
 dispatcher_valid-requires c =
     let n = c.requires.count in
     let t = c.loop-d-test.true in
-    record { canon = c.requires.canon; there = omega arith; orders = c.requires.orders; stamps = (c.loop-d.invariant.1, c.loop-d.invariant.2) }
+    record { canon = c.requires.canon; there = omega arith; ascend = c.requires.ascend; stamps = (c.loop-d.invariant.0, c.loop-d.invariant.1) }
 
 pub returns-then-not-dispatcher_valid : goal.returns-then-not-dispatcher_valid
 returns-then-not-dispatcher_valid c =
@@ -38,10 +38,9 @@ pub loop-d-preserved : goal.loop-d-preserved
 loop-d-preserved c =
     let s = decode c.args.store.now in (
       search rules,
-      search rules,
       c.dispatcher_valid.ensures.others,
       each_turn (λ j. valid_dispatcher s (dispatcher_nth s j)) c.loop-d.d
-          c.loop-d.invariant.3 (answered_yes c.dispatcher_valid.ensures.answer c.if-not-dispatcher_valid.false),
+          c.loop-d.invariant.2 (answered_yes c.dispatcher_valid.ensures.answer c.if-not-dispatcher_valid.false),
     )
 
 pub returns : goal.returns
@@ -49,6 +48,6 @@ returns c =
     let s = decode c.args.store.now in
     let n = c.requires.count in
     let l : length s.dispatchers ≤ c.loop-d.d = let t = c.loop-d-test.false in omega arith in
-    let m : c.loop-d.d ≤ length s.dispatchers = let t = c.loop-d.invariant.0 in omega arith in
-    each_end (λ j. valid_dispatcher s (dispatcher_nth s j)) (length s.dispatchers) c.loop-d.d m l c.loop-d.invariant.3
+    let m : c.loop-d.d ≤ length s.dispatchers = omega arith in
+    each_end (λ j. valid_dispatcher s (dispatcher_nth s j)) (length s.dispatchers) c.loop-d.d m l c.loop-d.invariant.2
     ∙ sym (all_each (valid_dispatcher s) s.dispatchers zero_dispatcher)

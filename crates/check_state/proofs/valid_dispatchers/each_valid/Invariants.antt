@@ -2,7 +2,7 @@
 -- stamp is above d.
 use mathlib.Core.Path.{◌≡◌}
 use mathlib.Core.Bool.{true}
-use Prim.Native.Nat.{◌+◌, ◌-◌, ◌≤◌}
+use Prim.Native.Nat.{◌+◌}
 use lib.ListN.{length}
 use Rattle.rules.specs.Valid.{valid_dispatcher}
 use Rattle.layout.specs.Layout.{decode}
@@ -13,7 +13,4 @@ use Rattle.check_state.proofs.valid_dispatchers.each_valid.Given as goal
 
 abbrev pub invariant-loop-d : goal.invariant-loop-d
 invariant-loop-d l =
-    (l.d ≤ l.n) × (length l.stamps ≡ 4096) × Under l.stamps (l.d + 1) × (each_below (λ j. valid_dispatcher (decode l.store) (dispatcher_nth (decode l.store) j)) l.d ≡ true)
-
-abbrev pub decreases-loop-d : goal.decreases-loop-d
-decreases-loop-d l = l.n - l.d
+    (length l.stamps ≡ 4096) × Under l.stamps (l.d + 1) × (each_below (λ j. valid_dispatcher (decode l.store) (dispatcher_nth (decode l.store) j)) l.d ≡ true)

@@ -1,46 +1,50 @@
 -- `check_state::valid_dispatchers::front_valid` meets its contract: head, ring and places. A head that passed has a cursor below
 -- which every position has a stamp.
+use mathlib.Core.Path.{◌≡◌, sym, ◌∙◌}
+use mathlib.Core.Bool.{true}
 use native.Mathlib.Omega.{arith}
-use Rattle.check_state.specs.Dispatchers.{front_right}
-use Rattle.store.proofs.Tests.{fails, passes, answered_no, answered_yes}
+use Rattle.check_state.specs.Dispatchers.{head_right, front_right}
+use Rattle.store.proofs.Tests.{fails, passes}
 use Rattle.check_state.proofs.Ranges.{head_cursor}
 use Rattle.check_state.proofs.Stamps.{under_more}
 use Rattle.check_state.proofs.valid_dispatchers.front_valid.Goals as goal
+use Rattle.check_state.proofs.valid_dispatchers.front_valid.Goals.{then-head_valid, else-head_valid}
 
-pub returns-then-not-head_valid : goal.returns-then-not-head_valid
-unfolding front_right
-returns-then-not-head_valid c =
-    record {
-      answer = fails _ (answered_no c.head_valid.ensures c.if-not-head_valid.true);
-      others = under_more c.args.stamps.now c.args.stamp
-          c.requires.under;
-    }
-
-pub returns-then-not-ring_valid : goal.returns-then-not-ring_valid
-unfolding front_right
-returns-then-not-ring_valid c =
-    record {
-      answer = passes (answered_yes c.head_valid.ensures c.if-not-head_valid.false)
-          (fails _ (answered_no c.ring_valid.ensures c.if-not-ring_valid.true));
-      others = under_more c.args.stamps.now c.args.stamp
-          c.requires.under;
-    }
-
-pub places_valid-requires : goal.places_valid-requires
-places_valid-requires c =
+pub places_valid-requires-clause-cursor : goal.places_valid-requires-clause-cursor
+places_valid-requires-clause-cursor c =
     let a = c.args in
-    let l = head_cursor a.store.now a.at a.entries (answered_yes c.head_valid.ensures
-    c.if-not-head_valid.false) in
-    record { room = c.requires.room; cursor = omega arith; under = c.requires.under }
+    let head : head_right a.store.now a.at a.entries ≡ true =
+    elim c.if-head_valid.branch [
+      | then-head_valid w ↦ sym c.head_valid.ensures ∙ w.if-head_valid.true
+      | else-head_valid w ↦ absurd (cc)
+    ] in
+    let l = head_cursor a.store.now a.at a.entries head in
+    omega arith
 
-pub returns : goal.returns
+pub returns-then-ring_valid : goal.returns-then-ring_valid
 unfolding front_right
-returns c =
+returns-then-ring_valid c =
     record {
       answer =
-          passes (answered_yes c.head_valid.ensures
-          c.if-not-head_valid.false)
-          (passes (answered_yes c.ring_valid.ensures c.if-not-ring_valid.false)
-          c.places_valid.ensures.answer);
+          elim c.if-head_valid.branch [
+            | then-head_valid w ↦
+                passes (sym c.head_valid.ensures ∙ w.if-head_valid.true)
+                (passes (sym w.ring_valid.ensures ∙ sym w.value-is ∙ c.if-ring_valid.true) c.places_valid.ensures.answer)
+            | else-head_valid w ↦ absurd (cc)
+          ];
       others = c.places_valid.ensures.others;
+    }
+
+pub returns-else-ring_valid : goal.returns-else-ring_valid
+unfolding front_right
+returns-else-ring_valid c =
+    record {
+      answer =
+          c.if-ring_valid.false
+          ∙ elim c.if-head_valid.branch [
+            | then-head_valid w ↦
+                passes (sym c.head_valid.ensures ∙ w.if-head_valid.true) (fails _ (sym w.ring_valid.ensures ∙ sym w.value-is ∙ c.if-ring_valid.false))
+            | else-head_valid w ↦ fails _ (sym c.head_valid.ensures ∙ w.if-head_valid.false)
+          ];
+      others = under_more c.args.stamps.now c.args.stamp c.requires.under;
     }

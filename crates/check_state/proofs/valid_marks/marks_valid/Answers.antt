@@ -1,6 +1,5 @@
 -- `check_state::valid_marks::marks_valid` meets its contract: after the batch size of the next entry was looked at, the run is the
 -- entry's, and its mark joins it.
-use borrow.Author.Rules.{rules}
 use mathlib.Core.Path.{◌≡◌, sym, ◌∙◌}
 use Prim.Native.Nat.{◌+◌, ◌*◌}
 use native.Mathlib.Omega.{arith}
@@ -20,15 +19,15 @@ returns-then-n-entries c = fails _ (ne_eqb _ _ c.if-n-entries.true)
 
 pub loop-i-init : goal.loop-i-init
 unfolding each_below
-loop-i-init c = (search rules, fits_none c.fresh_unacked_bits-bits.result 0 c.fresh_unacked_bits-bits.ensures)
+loop-i-init c = fits_none c.fresh_unacked_bits-bits.result 0 c.fresh_unacked_bits-bits.ensures
 
 pub returns-then-not-mark_fits : goal.returns-then-not-mark_fits
 unfolding marks_right
 returns-then-not-mark_fits c =
     let a = c.args in
     passes (eq-eqb a.n a.entries c.if-n-entries.false)
-    (run_stop a.store.now a.ledger a.first a.n c.loop-i.i c.loop-i.invariant.0
-    (answered_no c.mark_fits.ensures c.if-not-mark_fits.true) c.loop-i.invariant.1)
+    (run_stop a.store.now a.ledger a.first a.n c.loop-i.i (omega arith)
+    (answered_no c.mark_fits.ensures c.if-not-mark_fits.true) c.loop-i.invariant)
 
 pub loop-i-preserved : goal.loop-i-preserved
 loop-i-preserved c =
@@ -41,18 +40,16 @@ loop-i-preserved c =
       | then-next-batch+else-not-mark_fits w ↦ (
         rw (w.count-is, w.bits-is)
             (fits_none w.fresh_unacked_bits-bits-then-next-batch.result now.batch w.fresh_unacked_bits-bits-then-next-batch.ensures
-            ∙ sym (sym c.loop-i.invariant.1 ∙ answered_yes w.mark_fits.ensures w.if-not-mark_fits.false)),
+            ∙ sym (sym c.loop-i.invariant ∙ answered_yes w.mark_fits.ensures w.if-not-mark_fits.false)),
         w.batch-is,
       )
-      | else-next-batch w ↦ (rw (w.batch-is, w.count-is, w.bits-is) c.loop-i.invariant.1, w.batch-is ∙ sym w.if-next-batch.false)
-    ] in (
-      search rules,
-      run_turn a.store.now a.ledger a.first c.loop-i.i now.count now.batch now.bits c.joined-bits.result run.0 run.1 c.joined-bits.ensures,
-    )
+      | else-next-batch w ↦ (rw (w.batch-is, w.count-is, w.bits-is) c.loop-i.invariant, w.batch-is ∙ sym w.if-next-batch.false)
+    ] in
+    run_turn a.store.now a.ledger a.first c.loop-i.i now.count now.batch now.bits c.joined-bits.result run.0 run.1 c.joined-bits.ensures
 
 pub returns : goal.returns
 unfolding marks_right
 returns c =
     let a = c.args in
     let e : c.loop-i.i ≡ a.n = omega arith in
-    passes (eq-eqb a.n a.entries c.if-n-entries.false) (c.mark_fits-2.ensures ∙ (rw e at c.loop-i.invariant.1))
+    passes (eq-eqb a.n a.entries c.if-n-entries.false) (c.mark_fits-2.ensures ∙ (rw e at c.loop-i.invariant))

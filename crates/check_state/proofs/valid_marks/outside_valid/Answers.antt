@@ -1,27 +1,23 @@
--- `check_state::valid_marks::outside_valid` meets its contract: the ids ascend, and then none is in the ledger.
-use borrow.Author.Rules.{rules}
-use native.Mathlib.Omega.{arith}
+-- `check_state::valid_marks::outside_valid` meets its contract: the ids ascend, and none is in the ledger.
+use mathlib.Core.Path.{refl, sym, ◌∙◌}
 use Rattle.check_state.specs.Marks.{outside_right}
-use Rattle.store.proofs.Tests.{fails, passes, answered_no, answered_yes}
+use Rattle.store.proofs.Tests.{fails, passes}
 use Rattle.check_state.proofs.valid_marks.outside_valid.Goals as goal
-
-pub twos_ascend-requires : goal.twos_ascend-requires
-twos_ascend-requires c = let e = c.word-n.ensures in (search rules, omega arith)
-
-pub returns-then-not-twos_ascend : goal.returns-then-not-twos_ascend
-unfolding outside_right
-returns-then-not-twos_ascend c = rw (← c.word-n.ensures) (fails _ (answered_no c.twos_ascend.ensures c.if-not-twos_ascend.true))
 
 pub ids_absent-requires : goal.ids_absent-requires
 ids_absent-requires c =
-    let e = c.word-n.ensures in
     record {
-      room = (omega arith, search rules);
-      ids = answered_yes c.twos_ascend.ensures c.if-not-twos_ascend.false;
-      ascend = c.requires.ascend;
+      width = (refl, c.requires.ledger.1);
+      store = sym c.requires.ledger.0;
+      ids = sym c.pairs_ascend.ensures ∙ c.if-pairs_ascend.true;
     }
 
-pub returns : goal.returns
+pub returns-then-pairs_ascend : goal.returns-then-pairs_ascend
 unfolding outside_right
-returns c =
-    rw (← c.word-n.ensures) (passes (answered_yes c.twos_ascend.ensures c.if-not-twos_ascend.false) c.ids_absent.ensures)
+returns-then-pairs_ascend c =
+    rw (← c.word.ensures) (passes (sym c.pairs_ascend.ensures ∙ c.if-pairs_ascend.true) c.ids_absent.ensures)
+
+pub returns-else-pairs_ascend : goal.returns-else-pairs_ascend
+unfolding outside_right
+returns-else-pairs_ascend c =
+    c.if-pairs_ascend.false ∙ rw (← c.word.ensures) (fails _ (sym c.pairs_ascend.ensures ∙ c.if-pairs_ascend.false))

@@ -2,15 +2,13 @@
 -- the positions before i found them fresh and left the stamps as they are.
 use mathlib.Core.Path.{◌≡◌}
 use mathlib.Core.Bool.{true}
-use Prim.Native.Nat.{◌+◌, ◌-◌, ◌≤◌}
+use Prim.Native.Nat.{◌+◌}
 use lib.ListN.{length}
 use Rattle.check_state.specs.Places.{holders_right, Placed}
 use Rattle.check_state.proofs.valid_places.flight_fresh.Given as goal
 
 abbrev pub invariant-loop-i : goal.invariant-loop-i
 invariant-loop-i l =
-    (l.i ≤ l.n) × (l.cursor ≤ length l.initial.stamps) × (length l.stamps ≡ length l.initial.stamps) × (holders_right l.store l.ring l.count l.first l.i ≡ true)
-    × Placed l.store (l.first + 1) 2 l.i l.cursor l.stamp l.initial.stamps l.stamps true
-
-abbrev pub decreases-loop-i : goal.decreases-loop-i
-decreases-loop-i l = l.n - l.i
+    (length l.stamps ≡ length l.initial.stamps)
+    × (holders_right l.ring.store.now l.ring.first l.ring.count l.flight.first l.i ≡ true)
+    × Placed l.ring.store.now (l.flight.first + 1) 2 l.i l.cursor l.stamp l.initial.stamps l.stamps true

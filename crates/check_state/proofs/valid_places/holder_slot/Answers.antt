@@ -1,24 +1,21 @@
 -- `check_state::valid_places::holder_slot` meets its contract: the guessed slot holds the id, or all are looked at.
-use borrow.Author.Rules.{rules}
-use mathlib.Core.Path.{◌≡◌, sym, ap, ◌∙◌}
-use Prim.Native.Nat.{ℕ, ◌+◌, ◌*◌}
-use native.Mathlib.Omega.{arith}
-use lib.Dec.{ltb}
-use borrow.Author.Tests.{lt-ltb}
-use Rattle.check_rows.proofs.Among.{among_found, first_among}
+use mathlib.Core.Path.{sym, ap, ◌∙◌}
+use Prim.Native.Nat.{ℕ}
+use Rattle.std.proofs.Common.{Option, is_some}
+use Rattle.check_rows.proofs.Among.{among_found, first_among, first_inside}
 use Rattle.check_state.proofs.valid_places.holder_slot.Goals as goal
 
-pub returns-then-store-ring : goal.returns-then-store-ring
-returns-then-store-ring c =
-    let a = c.args in
-    let e : a.ring + a.guess * 1 ≡ a.ring + a.guess = omega arith in
-    lt-ltb a.guess a.count c.if-guess-count.true
-    ∙ sym (among_found a.store.now a.ring 1 a.count a.guess a.id c.if-guess-count.true (rw e c.if-store-ring.true))
+pub returns-then-word-id-clause-there : goal.returns-then-word-id-clause-there
+returns-then-word-id-clause-there c =
+    let r = c.args.ring.now in
+    sym (among_found r.store.now r.first r.width r.count c.args.guess c.args.id c.if-guess-ring.true (sym c.word.ensures ∙ c.if-word-id.true))
 
-pub row_of-requires : goal.row_of-requires
-row_of-requires c = (search rules, omega arith)
+pub returns-clause-there : goal.returns-clause-there
+returns-clause-there c =
+    let r = c.args.ring.now in
+    ap (λ (o : Option ℕ). is_some o) c.row_of.ensures ∙ first_among r.store.now r.first r.width r.count c.args.id
 
-pub returns : goal.returns
-returns c =
-    let a = c.args in
-    ap (λ (k : ℕ). ltb k a.count) c.row_of.ensures ∙ first_among a.store.now a.ring 1 a.count a.id
+pub returns-clause-inside : goal.returns-clause-inside
+returns-clause-inside c =
+    let r = c.args.ring.now in
+    first_inside r.store.now r.first r.width r.count c.args.id c.row_of.result c.row_of.ensures

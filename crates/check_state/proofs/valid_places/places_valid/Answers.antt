@@ -9,8 +9,8 @@ returns-then-not-flight_fresh c =
     let a = c.args in
     record {
       answer =
-          flight_wrong a.store.now a.e a.at c.word-count.ensures c.word-n.ensures refl c.word-cursor.ensures a.stamp c.requires.under
-          c.flight_fresh.ensures (c.if-not-flight_fresh.true);
+          flight_wrong a.store.now a.e a.at c.word.ensures c.word-2.ensures refl c.word-cursor.ensures a.stamp c.requires.under
+          c.flight_fresh.ensures c.if-not-flight_fresh.true;
       others = c.flight_fresh.ensures.others (under_more a.stamps.now a.stamp c.requires.under);
     }
 
@@ -20,8 +20,7 @@ returns c =
     let m = c.word-cursor.ensures in
     record {
       answer =
-          queue_decides a.store.now a.e a.at c.word-count.ensures c.word-n.ensures c.word.ensures m a.stamp c.requires.under
-          c.flight_fresh.ensures (omega arith) (c.if-not-flight_fresh.false) c.places_fresh.ensures;
-      others = c.places_fresh.ensures.others
-          (c.flight_fresh.ensures.others (under_more a.stamps.now a.stamp c.requires.under));
+          queue_decides a.store.now a.e a.at c.word.ensures c.word-2.ensures c.word-3.ensures m a.stamp c.requires.under
+          c.flight_fresh.ensures (omega arith) c.if-not-flight_fresh.false c.places_fresh.ensures;
+      others = c.places_fresh.ensures.others (c.flight_fresh.ensures.others (under_more a.stamps.now a.stamp c.requires.under));
     }
