@@ -12,6 +12,7 @@ use broker::rows::broker_calls;
 use cases_line::{name, word_or_zero};
 use cases_show::{show_outcome, show_records};
 use std::io;
+use trace_kind::Command;
 
 // Makes the row of a line of `n` words and prints what it gave; 255 without the two numbers.
 // What it leaves in the store, it leaves also where a write failed.
@@ -145,15 +146,17 @@ fn next_record(script: &[u64], at: usize) -> usize
 
 // The name of a call of a kind, as kinds are numbered in a script; 0 for any other number.
 fn name_of(kind: u64) -> u64 {
-    match kind {
-        trace_kind::APPEND => name::APPEND,
-        trace_kind::SUBSCRIBE => name::SUBSCRIBE,
-        trace_kind::FLOW => name::FLOW,
-        trace_kind::ACK => name::ACK,
-        trace_kind::SEEK => name::SEEK,
-        trace_kind::REDELIVER => name::REDELIVER,
-        trace_kind::CLOSE => name::CLOSE,
-        trace_kind::PUSH => name::PUSH,
-        _ => 0,
+    let Ok(command) = Command::try_from(kind) else {
+        return 0;
+    };
+    match command {
+        Command::Append => name::APPEND,
+        Command::Subscribe => name::SUBSCRIBE,
+        Command::Flow => name::FLOW,
+        Command::Ack => name::ACK,
+        Command::Seek => name::SEEK,
+        Command::Redeliver => name::REDELIVER,
+        Command::Close => name::CLOSE,
+        Command::Push => name::PUSH,
     }
 }

@@ -3,14 +3,13 @@ use Prim.Native.Nat.{ℕ, ◌+◌, ◌-◌, ◌≤◌}
 use mathlib.Core.Path.{◌≡◌, subst}
 use mathlib.Core.List.{List}
 use native.Mathlib.Omega.{arith}
+use Rattle.std.proofs.Common.{Option, None, Some}
 use lib.ListN.{length, take, drop, length-drop}
 use lib.Seq.{length-take-le}
 use Rattle.trace_lines.specs.Told.{lines_bytes}
 use Rattle.trace_step.specs.declared.Did.TheVariants as done
 use Rattle.trace_step.specs.Stepped.{Within}
 use Rattle.player.specs.declared.place.Place as place
-use Rattle.player.specs.declared.place.Turn as declared
-use Rattle.player.specs.declared.place.Turn.TheVariants as variants
 use Rattle.player.specs.Places.{held_bytes, out_bytes, Placed, GoesOn, WentOn}
 
 -- the length of a part
@@ -33,17 +32,17 @@ pub kept : (n filled written : ℕ) → n ≡ out_bytes → filled + lines_bytes
 kept n filled written e h w = omega arith
 
 -- after a step the player goes on
-pub goes_on : (from to before after : ℕ) (r : declared.Turn) → from ≤ to → to ≤ held_bytes → after ≤ before + 1
-    → WentOn from to after r → GoesOn before r
+pub goes_on : (next : place.Place) (before : ℕ) (r : Option place.Place) → next.from ≤ next.to → next.to ≤ held_bytes → next.number ≤ before + 1
+    → WentOn next r → GoesOn before r
 unfolding WentOn GoesOn
-goes_on from to before after (variants.On p) h g k w =
+goes_on next before (Some p) h g k w =
     let a = w.0 in
     let b = w.1 in
     let c = w.2 in (record { order = omega arith; inside = omega arith; space = w.3 }, omega arith)
-goes_on from to before after variants.Over h g k w = tt
+goes_on next before None h g k w = tt
 
 -- the place of a turn that goes on
-pub next_place : {r : declared.Turn} {p : place.Place} (number : ℕ) → GoesOn number r → r ≡ variants.On p
+pub next_place : {r : Option place.Place} {p : place.Place} (number : ℕ) → GoesOn number r → r ≡ Some p
     → Placed p × (p.number ≤ number + 1)
 unfolding GoesOn
 next_place number h e = subst (GoesOn number) e h

@@ -12,11 +12,7 @@ pub(crate) fn make_room(held: &mut [u8], from: usize, to: usize) -> usize
     if to < held.len() {
         return from;
     }
-    let mut i = 0;
-    while from + i < to {
-        held[i] = held[from + i];
-        i += 1;
-    }
+    held.copy_within(from..to, 0);
     0
 }
 

@@ -12,7 +12,7 @@ ghost use Rattle.layout.specs.Layout.{spells};
 ghost use Rattle.player.specs.Places.{held_bytes, out_bytes, Placed, WentOn, GoesOn};
 
 use crate::input::{make_room, read_more};
-use crate::place::{Place, Turn};
+use crate::place::Place;
 use std::io::Read;
 use store::offsets::{NEEDED_WORDS, NEEDED_WORDS_E};
 use store::open::open;
@@ -39,7 +39,7 @@ fn main(rt: HostRuntime) {
     play(&rt, &mut store);
 }
 
-// Plays the input to its end. The turns are counted down from a number that no input reaches, since a proved loop has to end.
+// Plays the input to its end, in fewer turns than any input has bytes, since a proved loop has to end.
 fn play(rt: &(impl Input + Print), store: &mut [u64])
     requires { spells store.old ≡ true }
 {
@@ -52,17 +52,15 @@ fn play(rt: &(impl Input + Print), store: &mut [u64])
         number: 0,
         filled: 0,
     };
-    let mut turns = 18446744073709551615u64;
-    while turns > 0 {
-        let Turn::On(next) = turn(rt, &mut input, store, &mut held, &mut out, place) else {
+    for turns in 0..u64::MAX {
+        let Some(next) = turn(rt, &mut input, store, &mut held, &mut out, place) else {
             return;
         };
         place = next;
-        turns -= 1;
     }
 }
 
-// One step, or the next block where what is held is cut off.
+// One step, or the next block where what is held is cut off; none once the player is done.
 fn turn(
     rt: &impl Print,
     input: &mut impl Read,
@@ -70,49 +68,47 @@ fn turn(
     held: &mut [u8],
     out: &mut [u8],
     place: Place,
-) -> Turn
+) -> Option<Place>
     requires { (spells store.old ≡ true) × (length held.old ≡ held_bytes) × (length out.old ≡ out_bytes)
         × Placed place × (place.number + 1 < 2 ^ 64) }
     ensures { (spells store.new ≡ true) × GoesOn place.number result }
 {
-    let from = place.from;
-    let to = place.to;
-    let number = place.number;
-    let filled = place.filled;
+    let Place {
+        from,
+        to,
+        number,
+        filled,
+    } = place;
     let did = step(store, number, &held[from..to], &mut out[filled..]);
     match did {
-        Did::Went(size, written) => went(rt, out, from + size, to, number + 1, filled + written),
-        Did::Waits => wait(rt, input, held, out, from, to, number, filled),
+        Did::Went(size, written) => {
+            let next = Place {
+                from: from + size,
+                to,
+                number: number + 1,
+                filled: filled + written,
+            };
+            went(rt, out, next)
+        }
+        Did::Waits => wait(rt, input, held, out, place),
         Did::Bad(written) => {
             let end = filled + written;
             let _ = rt.write_all(&out[..end]);
-            Turn::Over
+            None
         }
     }
 }
 
 // After a step: where the lines of another might not find room, all are printed.
-fn went(rt: &impl Print, out: &[u8], from: usize, to: usize, number: u64, filled: usize) -> Turn
-    requires { (length out.now ≡ out_bytes) × (filled ≤ out_bytes) }
-    ensures { WentOn from to number result }
+fn went(rt: &impl Print, out: &[u8], place: Place) -> Option<Place>
+    requires { (length out.now ≡ out_bytes) × (place.filled ≤ out_bytes) }
+    ensures { WentOn place result }
 {
-    if out.len() - filled < LINES_BYTES {
-        if rt.write_all(&out[..filled]).is_err() {
-            return Turn::Over;
-        }
-        return Turn::On(Place {
-            from: from,
-            to: to,
-            number: number,
-            filled: 0,
-        });
+    if out.len() - place.filled < LINES_BYTES {
+        rt.write_all(&out[..place.filled]).ok()?;
+        return Some(Place { filled: 0, ..place });
     }
-    Turn::On(Place {
-        from: from,
-        to: to,
-        number: number,
-        filled: filled,
-    })
+    Some(place)
 }
 
 // What is held is cut off: all lines are printed before more is read. At the end of the input the last line may be bad.
@@ -121,30 +117,24 @@ fn wait(
     input: &mut impl Read,
     held: &mut [u8],
     out: &mut [u8],
-    from: usize,
-    to: usize,
-    number: u64,
-    filled: usize,
-) -> Turn
-    requires { (length held.old ≡ held_bytes) × (length out.old ≡ out_bytes) × (from ≤ to) × (to ≤ held_bytes)
-        × (filled ≤ out_bytes) }
-    ensures { GoesOn number result }
+    place: Place,
+) -> Option<Place>
+    requires { (length held.old ≡ held_bytes) × (length out.old ≡ out_bytes) × Placed place }
+    ensures { GoesOn place.number result }
 {
-    if rt.write_all(&out[..filled]).is_err() {
-        return Turn::Over;
-    }
-    let start = make_room(held, from, to);
-    let end = start + (to - from);
+    rt.write_all(&out[..place.filled]).ok()?;
+    let start = make_room(held, place.from, place.to);
+    let end = start + (place.to - place.from);
     let got = read_more(input, held, end);
     if got == 0 {
-        let written = finish(number, &held[start..end], out);
+        let written = finish(place.number, &held[start..end], out);
         let _ = rt.write_all(&out[..written]);
-        return Turn::Over;
+        return None;
     }
-    Turn::On(Place {
+    Some(Place {
         from: start,
         to: end + got,
-        number: number,
+        number: place.number,
         filled: 0,
     })
 }

@@ -2,17 +2,10 @@
 
 // The bytes held, from a place to a place; the number of the record at their front, 0 for the header; and how many bytes of
 // text are not printed yet.
-#[derive(Clone, Copy)]
+#[derive(Clone, Copy, Debug, PartialEq, Eq)]
 pub(crate) struct Place {
     pub(crate) from: usize,
     pub(crate) to: usize,
     pub(crate) number: u64,
     pub(crate) filled: usize,
-}
-
-// The player goes on from a place, or is done.
-#[derive(Clone, Copy)]
-pub(crate) enum Turn {
-    On(Place),
-    Over,
 }

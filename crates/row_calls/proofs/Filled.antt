@@ -1,7 +1,7 @@
 -- How much of its list a call filled: as many words as its answer says, for the records of a push that was done.
-use Prim.Native.Nat.{ℕ, ◌^◌, ◌<◌}
-use mathlib.Core.Path.{◌≡◌, sym, ap, ◌∙◌}
-use mathlib.Core.Bool.{Bool, true, false, cond}
+use Prim.Native.Nat.{ℕ, ◌*◌, ◌^◌, ◌<◌}
+use mathlib.Core.Path.{◌≡◌, refl, sym, ap, ◌∙◌}
+use mathlib.Core.Bool.{Bool, true, false, cond, ◌&&◌}
 use mathlib.Core.List.{List}
 use native.Mathlib.Omega.{arith}
 use lib.Dec.{eqb, leb}
@@ -12,7 +12,7 @@ use Rattle.rules.specs.Outcome.Outcome.{short, done}
 use Rattle.rules.specs.Outcome.Value.{dispatches}
 use Rattle.rules.specs.Push.{push, push_pending}
 use Rattle.rules.specs.Valid.{Valid}
-use Rattle.rules.specs.Calls.{Call, rule, answer_word, number_in}
+use Rattle.rules.specs.Calls.{Call, rule, answer_word, number_in, value_in}
 use Rattle.rules.specs.Book.{records_of}
 use Rattle.rules.specs.Demand.{is_done}
 use Rattle.rules.proofs.Answers.{Numbered, by_push, number_done, value_made, flats_length}
@@ -22,6 +22,7 @@ use Rattle.trace.specs.Calls.{PUSH, kind_of}
 use Rattle.trace.proofs.Calls.{push_kind}
 use Rattle.row.specs.Row.{with_room}
 use Rattle.row.proofs.Given.{same_call, none_made}
+use Rattle.told.specs.Told.{dispatches_told}
 use Rattle.row_calls.specs.Rows.{words_filled}
 
 -- a push
@@ -34,8 +35,17 @@ push_filled l t few true =
     rw (z, value_made l t few) (omega arith)
 push_filled l t few false = rw (number_done (short (length l)) tt)
 
+-- the words of so many dispatches
+pub of_dispatches : (kind word : ℕ) → dispatches_told kind word * 13 ≡ words_filled kind word
+unfolding dispatches_told words_filled
+of_dispatches kind word = go (eqb kind PUSH && eqb (number_in word) 0)
+  where
+    go : (t : Bool) → cond t (value_in word) 0 * 13 ≡ cond t (value_in word * 13) 0
+    go true = refl
+    go false = refl
+
 -- a call of another kind
-pub none_filled : (kind answered : ℕ) → eqb kind PUSH ≡ false → words_filled kind answered ≡ 0
+none_filled : (kind answered : ℕ) → eqb kind PUSH ≡ false → words_filled kind answered ≡ 0
 unfolding words_filled
 none_filled kind answered k = rw k
 

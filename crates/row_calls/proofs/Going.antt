@@ -1,11 +1,13 @@
 -- The calls of a row on the way: what was done so far, and the row of the calls that are left on what it left, make the whole
 -- row. A call more keeps it, and at the end all of it is done.
-use Prim.Native.Nat.{ℕ, ◌+◌, ◌-◌, ◌/◌, ◌^◌, ◌≤◌, ◌<◌}
+use Prim.Native.Nat.{ℕ, ◌+◌, ◌/◌, ◌^◌, ◌≤◌, ◌<◌}
 use mathlib.Core.Path.{◌≡◌, refl, sym, ap, ◌∙◌, subst}
-use mathlib.Core.Bool.{true}
-use mathlib.Core.List.{List, [], ◌++◌, append_assoc}
+use mathlib.Core.Bool.{Bool, true, false}
+use mathlib.Core.List.{List, [], ◌∷◌, ◌++◌, append_assoc}
 use mathlib.Core.Option.{Option, some}
 use native.Mathlib.Omega.{arith}
+use lib.Dec.{ltb}
+use borrow.Author.Tests.{ltb-true, ltb-false}
 use lib.ListN.{length, get_or, set, take, drop, length-append, length-drop, length-set, drop_of_length-le}
 use lib.Seq.{drop_at, drop-drop, get_or-drop, length-take-le}
 use Rattle.words.specs.Act.{lay, store}
@@ -44,6 +46,7 @@ pub record Going (script ws₀ answers₀ list₀ ws answers list : List ℕ) (a
   pub spelt : spells ws ≡ true
   pub inside : from ≤ length list
   pub enough : call + length calls ≤ length answers
+  pub many : call + length calls ≡ length (all_calls script)
   pub short : length list < 2 ^ 64
   pub as_many_words : length ws ≡ length ws₀
   pub as_many_answers : length answers ≡ length answers₀
@@ -69,6 +72,7 @@ starts_going script ws answers list r small =
       spelt = r.spelt;
       inside = omega arith;
       enough = omega arith;
+      many = let k = ap length same in omega arith;
       short = small;
       as_many_words = refl;
       as_many_answers = refl;
@@ -77,6 +81,24 @@ starts_going script ws answers list r small =
       each = ap (λ (l : List Call). (lay (row_answers (decode ws) (given (decode ws) list l))).run 0 answers) (sym same);
       records = ap (λ (l : List Call). (lay (row_records (decode ws) (given (decode ws) list l))).run 0 list) (sym same);
     }
+
+-- a script of no words has none
+no_calls : {l : List Call} → some l ≡ some [] → l ≡ []
+no_calls e = cc
+
+-- where a call is left, words of the script are
+pub some_left : {script ws₀ answers₀ list₀ ws answers list : List ℕ} {at call from : ℕ} → Going script ws₀ answers₀ list₀ ws answers list at call from
+    → call < length (all_calls script) → at < length script
+some_left {script} {at = at} {call = call} g h = go (ltb at (length script)) refl
+  where
+    go : (t : Bool) → ltb at (length script) ≡ t → at < length script
+    go true e = ltb-true at (length script) e
+    go false e =
+        let over : length script ≤ at = ltb-false at (length script) e in
+        let none_left = no_calls (sym g.left ∙ ap script_calls (drop_of_length-le script over) ∙ script_empty) in
+        let l = ap length none_left in
+        let m = g.many in
+        absurd (omega arith)
 
 -- ---- one call
 
@@ -219,6 +241,7 @@ module _ {script ws₀ answers₀ list₀ ws answers list : List ℕ} {at call f
         spelt = spells_after ws as_made g.spelt first_fits;
         inside = omega arith;
         enough = omega arith;
+        many = let k = g.many in omega arith;
         short = omega arith;
         as_many_words = length_after ws as_made g.spelt ∙ g.as_many_words;
         as_many_answers = same ∙ g.as_many_answers;
@@ -236,17 +259,19 @@ module _ {script ws₀ answers₀ list₀ ws answers list : List ℕ} {at call f
 
   -- what was made there is that call
   pub was_made : {ws' list' : List ℕ} {a : ℕ}
-      → (a ≡ answered ws (call_at script at rest))
-      × ((ws' ≡ words_made ws (call_at script at rest)) × (list' ≡ take from list ++ list_made ws rest (call_at script at rest)))
-      → (a ≡ answer ws as_made) × ((ws' ≡ after ws as_made) × (list' ≡ take from list ++ list_after rest (outcome ws as_made)))
+      → record {
+        answer : a ≡ answered ws (call_at script at rest);
+        words : ws' ≡ words_made ws (call_at script at rest);
+        records : list' ≡ take from list ++ list_made ws rest (call_at script at rest);
+      }
+      → record { answer : a ≡ answer ws as_made; words : ws' ≡ after ws as_made; records : list' ≡ take from list ++ list_after rest (outcome ws as_made) }
   unfolding answered answer_of made words_made list_made
-  was_made e = (
-    e.0 ∙ ap (answered ws) is_made,
-    (
-      e.1.0 ∙ ap (words_made ws) is_made,
-      e.1.1 ∙ ap (λ (o : Option Call). take from list ++ list_made ws rest o) is_made,
-    ),
-  )
+  was_made e =
+      record {
+        answer = e.answer ∙ ap (answered ws) is_made;
+        words = e.words ∙ ap (words_made ws) is_made;
+        records = e.records ∙ ap (λ (o : Option Call). take from list ++ list_made ws rest o) is_made;
+      }
 
   -- with the numbers as the code has them
   pub goes_on : {ws' answers' list' : List ℕ} {a at' from' : ℕ} → ws' ≡ after ws as_made → a ≡ answer ws as_made → answers' ≡ set answers call a
@@ -263,11 +288,11 @@ module _ {script ws₀ answers₀ list₀ ws answers list : List ℕ} {at call f
 
 -- no call is left, so all are made
 pub all_made : {script ws answers list ws' answers' list' : List ℕ} {at call from : ℕ} → Going script ws answers list ws' answers' list' at call from
-    → length script ≤ at → length (all_calls script) ≤ length answers → MadeAll ws answers list (all_calls script) ws' answers' list'
+    → length (all_calls script) ≤ call → length (all_calls script) ≤ length answers → MadeAll ws answers list (all_calls script) ws' answers' list'
 unfolding run given row_answers row_records with_records
 all_made {script} {ws} {answers} {list} {ws'} {answers'} {list'} {at} {call} {from} g e n =
-    let over : drop at script ≡ [] = drop_of_length-le script e in
-    let none_left : g.calls ≡ [] = is_none (sym g.left ∙ ap script_calls over ∙ script_empty) in
+    let m = g.many in
+    let none_left : g.calls ≡ [] = none_of g.calls (omega arith) in
     let a = answers_many (decode ws) (given (decode ws) list (all_calls script)) in
     let b = as_many (decode ws) list (all_calls script) in
     let c = records_within (decode ws) list (all_calls script) in
@@ -283,5 +308,6 @@ all_made {script} {ws} {answers} {list} {ws'} {answers'} {list'} {at} {call} {fr
           ∙ g.records ∙ lay_front _ list (omega arith);
     }
   where
-    is_none : {l : List Call} → some l ≡ some [] → l ≡ []
-    is_none q = cc
+    none_of : (l : List Call) → length l ≡ 0 → l ≡ []
+    none_of [] h = refl
+    none_of (x ∷ l) h = absurd (omega arith)

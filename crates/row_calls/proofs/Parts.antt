@@ -23,7 +23,7 @@ module _ (script : List ℕ) (at : ℕ) where
   abbrev its : Record
   its = call_record (drop at script)
 
-  abbrev words : List ℕ
+  abbrev pub words : List ℕ
   words = take (at + FRONT_WORDS + get_or script (at + 1) 0 - (at + FRONT_WORDS)) (drop (at + FRONT_WORDS) script)
 
   -- kind and words are the record's

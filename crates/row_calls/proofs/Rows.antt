@@ -8,6 +8,9 @@ use mathlib.Core.Option.{Option, none, some}
 use native.Mathlib.Omega.{arith}
 use lib.ListN.{length}
 use borrow.Author.Tests.{le-leb, lt-leb}
+use Rattle.std.proofs.Common.{Ok, Err}
+use Rattle.refusal.specs.declared.Refusal.{Refusal}
+use Rattle.refusal.specs.declared.Refusal.TheVariants.{NoCall}
 use Rattle.rules.specs.Table.{or_else}
 use Rattle.rules.specs.Calls.{Call}
 use Rattle.layout.specs.Layout.{decode, spells}
@@ -16,7 +19,6 @@ use Rattle.trace.specs.Calls.{NO_CALL}
 use Rattle.row.specs.Script.{script_calls}
 use Rattle.row.specs.Row.{ANSWERS_SHORT, Row, given, row_answers, row_records, row_within, row_of, row, row_answer, row_calls, RowLeft}
 use Rattle.row.specs.Row.Row.{refused_row, made_row}
-use Rattle.row_script.specs.declared.Counted.TheVariants as Counted
 use Rattle.row_script.specs.Counted.{counted}
 use Rattle.row_calls.specs.Rows.{Ready, MadeAll}
 
@@ -29,23 +31,28 @@ pub record HasCalls (script : List ℕ) (n : ℕ) : Type 0 where
   pub many : n ≡ length calls
 
 -- where they were counted
-pub has_calls : (script : List ℕ) (n : ℕ) → Counted.Calls n ≡ counted 0 (script_calls script) → HasCalls script n
+pub has_calls : (script : List ℕ) (n : ℕ) → Ok n ≡ counted 0 (script_calls script) → HasCalls script n
 unfolding counted
 has_calls script n e = go (script_calls script) refl e
   where
-    go : (o : Option (List Call)) → script_calls script ≡ o → Counted.Calls n ≡ counted 0 o → HasCalls script n
+    go : (o : Option (List Call)) → script_calls script ≡ o → Ok n ≡ counted 0 o → HasCalls script n
     go none q f = absurd (let z : ◌≡◌ {A = ℕ} 0 1 = cc in omega arith)
     go (some calls) q f =
         let m : n ≡ 0 + length calls = cc in
         record { calls = calls; are = q; many = omega arith }
 
+-- they are so many
+pub row_many : (script : List ℕ) (n : ℕ) → HasCalls script n → n ≡ length (or_else (script_calls script) [])
+unfolding or_else
+row_many script n c = c.many ∙ ap length (sym (ap (λ (o : Option (List Call)). or_else o []) c.are))
+
 -- it is bad
-pub has_none : (script : List ℕ) → Counted.Bad ≡ counted 0 (script_calls script) → script_calls script ≡ none
+pub has_none : (script : List ℕ) {e : Refusal} → Err e ≡ counted 0 (script_calls script) → (script_calls script ≡ none) × (e ≡ NoCall)
 unfolding counted
-has_none script e = go (script_calls script) e
+has_none script {e} is = go (script_calls script) is
   where
-    go : (o : Option (List Call)) → Counted.Bad ≡ counted 0 o → o ≡ none
-    go none f = refl
+    go : (o : Option (List Call)) → Err e ≡ counted 0 o → (o ≡ none) × (e ≡ NoCall)
+    go none f = (refl, cc)
     go (some calls) f = absurd (let z : ◌≡◌ {A = ℕ} 0 1 = cc in omega arith)
 
 -- ---- the row

@@ -13,52 +13,51 @@ ghost use Rattle.row.specs.Row.{RowLeft};
 ghost use Rattle.row_calls.specs.Rows.{words_filled, CallThere, call_at, Ready, MadeAll};
 
 use record::RECORD_WORDS;
-use refusal::{Answer, NUMBERS, Refusal, word_of};
-use row_script::{Counted, FRONT_WORDS, count_calls};
+use refusal::{Answer, Refusal, word_of};
+use row_script::{FRONT_WORDS, count_calls};
+use told::dispatches;
 use trace_call::answer_call;
-use trace_kind::PUSH;
+use trace_kind::Command;
 
 // How many words of its list a call filled, by its kind and its answer.
-fn words_filled(kind: u64, answer: u64) -> usize
-    ensures { result ≡ words_filled kind answer }
+fn words_filled(kind: u64, answer: Answer) -> usize
+    ensures { result ≡ words_filled kind (word_of answer) }
 {
-    if kind != PUSH {
-        return 0;
-    }
-    if answer % NUMBERS != 0 {
-        return 0;
-    }
-    (answer / NUMBERS) as usize * RECORD_WORDS
+    dispatches(kind, answer) as usize * RECORD_WORDS
 }
 
 // Makes the call that stands at a place of a script; a push is given what is left of the list from a place on.
-fn call_at(store: &mut [u64], script: &[u64], at: usize, list: &mut [u64], from: usize) -> u64
+fn call_at(store: &mut [u64], script: &[u64], at: usize, list: &mut [u64], from: usize) -> Answer
     requires { (spells store.old ≡ true) × CallThere script.now at × (from ≤ length list.old) }
-    ensures answer { result ≡ answered store.old (call_at script.now at (drop from list.old)) }
+    ensures answer { word_of result ≡ answered store.old (call_at script.now at (drop from list.old)) }
     ensures words { store.new ≡ words_made store.old (call_at script.now at (drop from list.old)) }
     ensures records { list.new ≡ take from list.old ++ list_made store.old (drop from list.old)
         (call_at script.now at (drop from list.old)) }
 {
-    let kind = script[at];
+    let command = Command::try_from(script[at]).unwrap();
     let begin = at + FRONT_WORDS;
     let end = begin + script[at + 1] as usize;
-    word_of(answer_call(store, kind, &script[begin..end], &mut list[from..]))
+    answer_call(store, command, &script[begin..end], &mut list[from..])
 }
 
-// Makes the calls of a script, each of which is one, and writes their answers; each push is given what is left of the list.
-fn make_calls(store: &mut [u64], script: &[u64], answers: &mut [u64], list: &mut [u64])
-    requires { Ready store.old script.now answers.old }
+// Makes the calls of a script, so many and each of them one, and writes their answers; each push is given what is left of the list.
+fn make_calls(
+    store: &mut [u64],
+    script: &[u64],
+    calls: usize,
+    answers: &mut [u64],
+    list: &mut [u64],
+)
+    requires { Ready store.old script.now answers.old × (calls ≡ length (or_else (script_calls script.now) [])) }
     ensures { MadeAll store.old answers.old list.old (or_else (script_calls script.now) [])
         store.new answers.new list.new }
 {
-    let mut at: usize = 0;
-    let mut call: usize = 0;
-    let mut from: usize = 0;
-    while at < script.len() {
+    let mut at = 0;
+    let mut from = 0;
+    for call in 0..calls {
         let answer = call_at(store, script, at, list, from);
-        answers[call] = answer;
+        answers[call] = word_of(answer);
         from += words_filled(script[at], answer);
-        call += 1;
         at += FRONT_WORDS + script[at + 1] as usize;
     }
 }
@@ -70,15 +69,10 @@ pub fn make_row(store: &mut [u64], script: &[u64], answers: &mut [u64], list: &m
     ensures { RowLeft store.old script.now answers.old list.old
         (word_of result) store.new answers.new list.new }
 {
-    let counted = count_calls(script);
-    match counted {
-        Counted::Calls(calls) => {
-            if answers.len() < calls {
-                return Err(Refusal::AnswersShort(calls as u64));
-            }
-            make_calls(store, script, answers, list);
-            Ok(calls as u64)
-        }
-        Counted::Bad => Err(Refusal::NoCall),
+    let calls = count_calls(script)?;
+    if answers.len() < calls {
+        return Err(Refusal::AnswersShort(calls as u64));
     }
+    make_calls(store, script, calls, answers, list);
+    Ok(calls as u64)
 }

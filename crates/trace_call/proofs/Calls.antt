@@ -20,7 +20,7 @@ use Rattle.layout.specs.Calls.{outcome, answer, after, with_records, made_words,
 use Rattle.layout.proofs.Calls.{outcome_is}
 use Rattle.trace.specs.Calls.{PUSH, call_of, kind_of}
 use Rattle.trace.proofs.Calls.{IfCall, call_kind, push_kind}
-use Rattle.trace_call.specs.declared.Made.TheVariants as variants
+use Rattle.std.proofs.Common.{None, Some}
 use Rattle.trace_call.specs.Made.{made, answer_of, answered, words_made, list_made}
 
 -- ---- the words of a kind
@@ -31,10 +31,16 @@ rest_part ws = let l = length-drop 1 ws in take_all (length ws - 1) (drop 1 ws) 
 
 -- ---- what is made
 
+-- the answer of what is a call
+the_answer : (ws : List ℕ) (o : Option Call) {r : ℕ} → is_some o ≡ true → r ≡ answered ws o → Some r ≡ made ws o
+unfolding is_some answered answer_of made
+the_answer ws none h e = absurd (false≢true h)
+the_answer ws (some x) h e = ap Some e
+
 module _ (ws : List ℕ) {o : Option Call} where
   -- a call: its answer, and the words after it
-  pub is_answered : {x : Call} {r : ℕ} {us : List ℕ} → o ≡ some x → (r ≡ answer ws x) × (us ≡ after ws x)
-      → (r ≡ answered ws o) × (us ≡ words_made ws o)
+  pub is_answered : {x : Call} {r : ℕ} {us : List ℕ} → o ≡ some x → record { answer : r ≡ answer ws x; words : us ≡ after ws x }
+      → record { answer : r ≡ answered ws o; words : us ≡ words_made ws o }
   unfolding answered answer_of made words_made
   is_answered e h = rw e h
 
@@ -47,15 +53,15 @@ module _ (ws : List ℕ) {o : Option Call} where
     list_is_answered e h = rw e h
 
     -- no call: no answer, and every word stays
-    pub not_made : o ≡ none → (variants.NoCall ≡ made ws o) × ((ws ≡ words_made ws o) × (list ≡ list_made ws list o))
+    pub not_made : o ≡ none → record { answer : None ≡ made ws o; words : ws ≡ words_made ws o; records : list ≡ list_made ws list o }
     unfolding made words_made list_made
-    not_made e = rw e (refl, (refl, refl))
+    not_made e = rw e (record { answer = refl; words = refl; records = refl })
 
 -- what was answered was made
-pub is_made : (ws : List ℕ) (o : Option Call) {r : ℕ} → is_some o ≡ true → r ≡ answered ws o → variants.Answer r ≡ made ws o
-unfolding is_some answered answer_of made
-is_made ws none h e = absurd (false≢true h)
-is_made ws (some x) h e = ap variants.Answer e
+pub is_made : (ws list : List ℕ) (o : Option Call) → is_some o ≡ true → {r : ℕ} {us ls : List ℕ}
+    → record { answer : r ≡ answered ws o; words : us ≡ words_made ws o; records : ls ≡ list_made ws list o }
+    → record { answer : Some r ≡ made ws o; words : us ≡ words_made ws o; records : ls ≡ list_made ws list o }
+is_made ws list o h e = record { answer = the_answer ws o h e.answer; words = e.words; records = e.records }
 
 -- ---- only a push changes the list
 

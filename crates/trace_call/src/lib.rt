@@ -3,14 +3,15 @@
 // every call leaves it so.
 #![tactic(auto)]
 
-ghost use Rattle.std.specs.Prelude.{◌≡◌, true, false, ◌/◌, eqb, length};
+ghost use Rattle.std.specs.Prelude.{◌≡◌, true, ◌/◌, length};
 ghost use Rattle.std.proofs.Math.Option.{bind};
 ghost use Rattle.rules.specs.Table.{is_some};
 ghost use Rattle.layout.specs.Layout.{spells};
 ghost use Rattle.refusal.specs.Words.{word_of};
-ghost use Rattle.trace.specs.Calls.{PUSH as Push_kind, call_of, that_fits, append_from, subscribe_from, flow_from, ack_from, seek_from};
+ghost use Rattle.trace.specs.Calls.{call_of, that_fits, append_from, subscribe_from, flow_from, ack_from, seek_from};
 ghost use Rattle.trace.specs.Calls.{redeliver_from, close_from, push_from};
-ghost use Rattle.trace_call.specs.Made.{made, answered, words_made, list_made};
+ghost use Rattle.trace_kind.specs.Commands.{number_of};
+ghost use Rattle.trace_call.specs.Made.{words_told, made, answered, words_made, list_made};
 
 use ack::ack;
 use append::append;
@@ -18,74 +19,51 @@ use close::close;
 use flow::flow;
 use push::push;
 use redeliver::redeliver;
-use refusal::{Answer, word_of};
+use refusal::Answer;
 use seek::command::{Seek, Target};
 use seek::seek;
 use subscribe::command::{Kind, Subscribe};
 use subscribe::subscribe;
 use trace_form::is_call;
-use trace_kind::{ACK, APPEND, FLOW, PUSH, REDELIVER, SEEK, SUBSCRIBE};
+use trace_kind::Command;
 
-// What became of a kind and its words: the answer of their call, or they are none.
-#[derive(Clone, Copy)]
-pub enum Made {
-    Answer(u64),
-    NoCall,
-}
-
-// Makes the call of a kind and its words, if they are one; a push fills the list.
-pub fn make_call(store: &mut [u64], kind: u64, words: &[u64], list: &mut [u64]) -> Made
+// Makes the call of a kind and its words, if they are one, and answers as its export does; a push fills the list.
+pub fn make_call(store: &mut [u64], kind: u64, words: &[u64], list: &mut [u64]) -> Option<Answer>
     requires { spells store.old ≡ true }
-    ensures answer { result ≡ made store.old (call_of (length list.old / 13) kind words.now) }
+    ensures answer { words_told result ≡ made store.old (call_of (length list.old / 13) kind words.now) }
     ensures words { store.new ≡ words_made store.old (call_of (length list.old / 13) kind words.now) }
     ensures records { list.new ≡ list_made store.old list.old
         (call_of (length list.old / 13) kind words.now) }
 {
+    let Ok(command) = Command::try_from(kind) else {
+        return None;
+    };
     if !is_call(kind, words) {
-        return Made::NoCall;
+        return None;
     }
-    Made::Answer(word_of(answer_call(store, kind, words, list)))
+    Some(answer_call(store, command, words, list))
 }
 
-// Makes the call that a kind and its words are, and answers as its export does; a push fills the list.
-pub fn answer_call(store: &mut [u64], kind: u64, words: &[u64], list: &mut [u64]) -> Answer
-    requires { (spells store.old ≡ true) × (is_some (call_of 0 kind words.now) ≡ true) }
-    ensures answer { word_of result ≡ answered store.old (call_of (length list.old / 13) kind words.now) }
-    ensures words { store.new ≡ words_made store.old (call_of (length list.old / 13) kind words.now) }
+// Makes the call that a command and its words are, and answers as its export does; a push fills the list.
+pub fn answer_call(store: &mut [u64], command: Command, words: &[u64], list: &mut [u64]) -> Answer
+    requires { (spells store.old ≡ true) × (is_some (call_of 0 (number_of command) words.now) ≡ true) }
+    ensures answer { word_of result ≡ answered store.old
+        (call_of (length list.old / 13) (number_of command) words.now) }
+    ensures words { store.new ≡ words_made store.old
+        (call_of (length list.old / 13) (number_of command) words.now) }
     ensures records { list.new ≡ list_made store.old list.old
-        (call_of (length list.old / 13) kind words.now) }
+        (call_of (length list.old / 13) (number_of command) words.now) }
 {
-    if kind == PUSH {
-        return make_push(store, words, list);
+    match command {
+        Command::Append => make_append(store, words),
+        Command::Subscribe => make_subscribe(store, words),
+        Command::Flow => make_flow(store, words),
+        Command::Ack => make_ack(store, words),
+        Command::Seek => make_seek(store, words),
+        Command::Redeliver => make_redeliver(store, words),
+        Command::Close => make_close(store, words),
+        Command::Push => make_push(store, words, list),
     }
-    make_command(store, kind, words)
-}
-
-// Any kind but a push. Words that are a call and of none of these six kinds are a close.
-fn make_command(store: &mut [u64], kind: u64, words: &[u64]) -> Answer
-    requires { (spells store.old ≡ true) × (is_some (call_of 0 kind words.now) ≡ true) × (eqb kind Push_kind ≡ false) }
-    ensures answer { word_of result ≡ answered store.old (call_of 0 kind words.now) }
-    ensures words { store.new ≡ words_made store.old (call_of 0 kind words.now) }
-{
-    if kind == FLOW {
-        return make_flow(store, words);
-    }
-    if kind == ACK {
-        return make_ack(store, words);
-    }
-    if kind == APPEND {
-        return make_append(store, words);
-    }
-    if kind == SUBSCRIBE {
-        return make_subscribe(store, words);
-    }
-    if kind == REDELIVER {
-        return make_redeliver(store, words);
-    }
-    if kind == SEEK {
-        return make_seek(store, words);
-    }
-    make_close(store, words)
 }
 
 // An append: topic, ledger, entry, handle, batch size.

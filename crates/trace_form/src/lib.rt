@@ -7,7 +7,7 @@ ghost use Rattle.std.proofs.Math.Option.{bind};
 ghost use Rattle.rules.specs.Table.{is_some};
 ghost use Rattle.trace.specs.Calls.{call_of, that_fits, append_from, subscribe_from, flow_from, seek_from};
 
-use trace_kind::{ACK, APPEND, CLOSE, FLOW, MOST_8, MOST_32, PUSH, REDELIVER, SEEK, SUBSCRIBE};
+use trace_kind::{Command, MOST_8, MOST_32};
 
 // An append: topic, ledger, entry, handle, batch size.
 fn is_append(words: &[u64]) -> bool
@@ -71,29 +71,17 @@ fn is_seek(words: &[u64]) -> bool
 pub fn is_call(kind: u64, words: &[u64]) -> bool
     ensures { result ≡ is_some (call_of 0 kind words.now) }
 {
-    if kind == FLOW {
-        return is_flow(words);
+    let Ok(command) = Command::try_from(kind) else {
+        return false;
+    };
+    match command {
+        Command::Append => is_append(words),
+        Command::Subscribe => is_subscribe(words),
+        Command::Flow => is_flow(words),
+        Command::Ack => words.len() != 0,
+        Command::Seek => is_seek(words),
+        Command::Redeliver => words.len() != 0,
+        Command::Close => words.len() == 1,
+        Command::Push => words.len() == 0,
     }
-    if kind == ACK {
-        return words.len() != 0;
-    }
-    if kind == PUSH {
-        return words.len() == 0;
-    }
-    if kind == APPEND {
-        return is_append(words);
-    }
-    if kind == SUBSCRIBE {
-        return is_subscribe(words);
-    }
-    if kind == REDELIVER {
-        return words.len() != 0;
-    }
-    if kind == SEEK {
-        return is_seek(words);
-    }
-    if kind == CLOSE {
-        return words.len() == 1;
-    }
-    false
 }

@@ -9,7 +9,8 @@ use Rattle.rules.specs.Calls.{number_in}
 use Rattle.decimal.specs.Decimal.{decimal, integer}
 use Rattle.trace.specs.Text.{BLANK, NEWLINE, number_and, PLUS_AND_BLANK, dispatch_line, dispatch_lines, outcome_line, BAD_AND_BLANK}
 use Rattle.trace.specs.Played.{ROOM}
-use Rattle.trace_lines.specs.Told.{lines_bytes, permits_text, dispatches_told, text_told}
+use Rattle.told.specs.Told.{dispatches_told}
+use Rattle.trace_lines.specs.Told.{lines_bytes, permits_text, text_told}
 
 -- digits, and a character after them
 pub number_wrote : {before now : List ℕ} {at end : ℕ} (number mark : ℕ) → Wrote 20 before at (decimal number) now end
@@ -53,7 +54,6 @@ dispatch_wrote list from v w x y z =
 
 -- Of some records i are written, and the lines of the others, laid from here on, finish the lines of all.
 pub record Lines (before : List ℕ) (at : ℕ) (list : List ℕ) (count : ℕ) (now : List ℕ) (here i : ℕ) : Type 0 where
-  pub inside : i ≤ count
   pub near : here ≤ at + 87 * i
   pub rest :
       Left before at (dispatch_lines (records_read count list)) now here
@@ -63,7 +63,7 @@ pub record Lines (before : List ℕ) (at : ℕ) (list : List ℕ) (count : ℕ) 
 pub lines_start : (before : List ℕ) (at : ℕ) (list : List ℕ) (count : ℕ) → Lines before at list count before at 0
 lines_start before at list count =
     let e : count - 0 ≡ count = omega arith in
-    record { inside = omega arith; near = omega arith; rest = rw e (left_start before at (dispatch_lines (records_read count list))) }
+    record { near = omega arith; rest = rw e (left_start before at (dispatch_lines (records_read count list))) }
 
 -- the lines of records from one on
 lines_first : (n : ℕ) (list : List ℕ) → dispatch_lines (records_read (suc n) list) ≡ dispatch_line (record_read list) ++ dispatch_lines (records_read n (drop 13 list))
@@ -78,25 +78,24 @@ lines_on {list = list} {count = count} {i = i} p h w =
     let f : 13 * i + 13 ≡ 13 * (i + 1) = omega arith in
     let g : drop 13 (drop (13 * i) list) ≡ drop (13 * (i + 1)) list = drop-drop 13 (13 * i) list ∙ ap (λ (k : ℕ). drop k list) f in
     record {
-      inside = omega arith;
       near = omega arith;
       rest = rw (← g) (left_on (rw (e, lines_first (count - (i + 1)) (drop (13 * i) list)) at p.rest) w);
     }
 
 -- all of them
-pub lines_end : {before list now : List ℕ} {at count here i : ℕ} → Lines before at list count now here i → count ≤ i
+pub lines_end : {before list now : List ℕ} {at count here i : ℕ} → Lines before at list count now here i → i ≡ count
     → Wrote (87 * count) before at (dispatch_lines (records_read count list)) now here
 unfolding dispatch_lines records_read
 lines_end {list = list} {count = count} {i = i} p h =
     let e : count - i ≡ 0 = omega arith in
     let l = rw e at p.rest in
-    left_end (87 * count) (omega (arith, l.ends, p.near, p.inside)) l
+    left_end (87 * count) (omega (arith, l.ends, p.near)) l
 
 -- ---- all lines of a call
 
 -- the line of the record, and then those of its dispatches
-pub outcome_wrote : {a b c : List ℕ} {next end : ℕ} (number kind answer made : ℕ) (list : List ℕ) → made ≡ dispatches_told kind answer → made ≤ ROOM
-    → Wrote 84 a 0 (outcome_line number kind (answer % 256) made) b next
+pub outcome_wrote : {a b c : List ℕ} {next end : ℕ} (number kind answer code made : ℕ) (list : List ℕ) → code ≡ number_in answer
+    → made ≡ dispatches_told kind answer → made ≤ ROOM → Wrote 84 a 0 (outcome_line number kind code made) b next
     → Wrote (87 * made) b next (dispatch_lines (records_read made list)) c end → Wrote lines_bytes a 0 (text_told number kind answer list) c end
-unfolding text_told number_in
-outcome_wrote number kind answer made list e few v w = rw (← e) (wrote_within (omega arith) (and_then v w))
+unfolding text_told
+outcome_wrote number kind answer code made list d e few v w = rw (← d, ← e) (wrote_within (omega arith) (and_then v w))

@@ -1,12 +1,12 @@
 -- What is printed of an answer and of the words of a push's list, as a caller has them.
-use Rattle.std.specs.Prelude.{ℕ, ◌+◌, ◌*◌, ◌%◌, ◌^◌, cond, ◌&&◌, List, [], ◌∷◌, ◌++◌, ◌==◌}
+use Rattle.std.specs.Prelude.{ℕ, ◌+◌, ◌*◌, ◌%◌, ◌^◌, List, [], ◌∷◌, ◌++◌}
 use Rattle.rules.specs.Permits.{reading}
 use Rattle.rules.specs.Push.{records_read}
-use Rattle.rules.specs.Calls.{number_in, value_in}
+use Rattle.rules.specs.Calls.{number_in}
 use Rattle.decimal.specs.Decimal.{integer}
-use Rattle.trace.specs.Calls.{PUSH}
 use Rattle.trace.specs.Text.{NEWLINE, dispatch_lines, outcome_line}
 use Rattle.trace.specs.Played.{ROOM}
+use Rattle.told.specs.Told.{dispatches_told}
 
 -- the bytes that the lines of a record take at most: its own, and those of as many dispatches as a push's list holds
 abbrev pub lines_bytes : ℕ
@@ -15,10 +15,6 @@ lines_bytes = 84 + ROOM * 87
 -- permits in two's complement, as the end of a line
 unfoldable pub permits_text : ℕ → List ℕ
 permits_text w = integer (reading ((w + 2 ^ 62) % 2 ^ 64)) ++ NEWLINE ∷ []
-
--- how many dispatches an answer tells of: those of a push that is done
-unfoldable pub dispatches_told : ℕ → ℕ → ℕ
-dispatches_told kind answer = cond (kind == PUSH && number_in answer == 0) (value_in answer) 0
 
 -- all lines
 unfoldable pub text_told : ℕ → ℕ → ℕ → List ℕ → List ℕ

@@ -8,13 +8,16 @@ ghost use Rattle.words.specs.Wrote.{Wrote};
 ghost use Rattle.rules.specs.Push.{record_read, records_read};
 ghost use Rattle.trace.specs.Text.{number_and, PLUS_AND_BLANK, dispatch_line, dispatch_lines, outcome_line, BAD_AND_BLANK, bad_line};
 ghost use Rattle.trace.specs.Played.{ROOM};
-ghost use Rattle.trace_lines.specs.Told.{lines_bytes, permits_text, dispatches_told, text_told};
+ghost use Rattle.refusal.specs.Words.{word_of};
+ghost use Rattle.told.specs.Told.{dispatches_told};
+ghost use Rattle.trace_lines.specs.Told.{lines_bytes, permits_text, text_told};
 
 use decimal::{write_decimal, write_difference};
 use record::RECORD_WORDS;
+use refusal::Answer;
 use std::num::wrapping_add_u64;
 use store::permits::ZERO_PERMITS;
-use trace_kind::PUSH;
+use told::{dispatches, number_of};
 
 // The characters.
 const PLUS: u8 = b'+';
@@ -37,9 +40,6 @@ const LEDGER: usize = 1;
 const ENTRY: usize = 2;
 
 const PERMITS: usize = 12;
-
-// An answer is its value times this, plus the refusal's number.
-const NUMBERS: u64 = 256;
 
 // Writes a number and a character after it.
 fn write_number(buffer: &mut [u8], at: usize, number: u64, mark: u8) -> usize
@@ -101,35 +101,26 @@ fn write_dispatches(buffer: &mut [u8], at: usize, list: &[u64], count: usize) ->
     ensures { Wrote (87 * count) buffer.old at (dispatch_lines (records_read count list.now)) buffer.new result }
 {
     let mut here = at;
-    let mut i = 0;
-    while i < count {
+    for i in 0..count {
         here = write_dispatch(buffer, here, list, RECORD_WORDS * i);
-        i += 1;
     }
     here
 }
 
-// How many dispatches an answer tells of: a push that is done answers their number.
-fn dispatches(kind: u64, answer: u64) -> u64
-    ensures { result ≡ dispatches_told kind answer }
-{
-    if kind != PUSH {
-        return 0;
-    }
-    if answer % NUMBERS != 0 {
-        return 0;
-    }
-    answer / NUMBERS
-}
-
 // Writes all lines of a record that is a call, at the start of a buffer: of its answer, and of what a push left in its list.
-pub fn write_outcome(buffer: &mut [u8], number: u64, kind: u64, answer: u64, list: &[u64]) -> usize
-    requires { (lines_bytes ≤ length buffer.old) × (dispatches_told kind answer ≤ ROOM)
-        × (13 * dispatches_told kind answer ≤ length list.now) }
-    ensures { Wrote lines_bytes buffer.old 0 (text_told number kind answer list.now) buffer.new result }
+pub fn write_outcome(
+    buffer: &mut [u8],
+    number: u64,
+    kind: u64,
+    answer: Answer,
+    list: &[u64],
+) -> usize
+    requires { (lines_bytes ≤ length buffer.old) × (dispatches_told kind (word_of answer) ≤ ROOM)
+        × (13 * dispatches_told kind (word_of answer) ≤ length list.now) }
+    ensures { Wrote lines_bytes buffer.old 0 (text_told number kind (word_of answer) list.now) buffer.new result }
 {
     let made = dispatches(kind, answer);
-    let end = write_line(buffer, number, kind, answer % NUMBERS, made);
+    let end = write_line(buffer, number, kind, number_of(answer), made);
     write_dispatches(buffer, end, list, made as usize)
 }
 

@@ -1,59 +1,50 @@
--- A number read byte by byte, high byte first: what the loop of `number_at` turns on. And bytes are told by their number.
-use Prim.Native.Nat.{ℕ, suc, ◌+◌, ◌-◌, ◌*◌, ◌^◌, ◌≤◌, ◌<◌}
-use mathlib.Core.Path.{◌≡◌, refl, subst}
+-- A number read byte by byte, high byte first: what the loop of `number` turns on. And bytes are told by their number.
+use Prim.Native.Nat.{ℕ, suc, ◌+◌, ◌*◌, ◌^◌, ◌≤◌, ◌<◌}
+use mathlib.Core.Path.{◌≡◌, refl}
 use mathlib.Core.Bool.{true}
 use mathlib.Core.List.{List, [], ◌∷◌}
 use native.Mathlib.Nat.{pow-suc, pow-le-pow_right}
 use native.Mathlib.Omega.{arith}
-use lib.ListN.{length, get_or, take, drop}
+use lib.ListN.{length, get_or, take, drop, drop_of_length-le}
 use lib.Seq.{drop-cons}
 use borrow.Author.Tests.{eq-eqb}
 use Rattle.words.specs.Words.{starts}
 use Rattle.words.specs.Codec.{All}
 use Rattle.trace.specs.Format.{number_from, number}
 
--- Of the bytes of a number some are left: the number so far, carried on over them, is the number of all.
-pub record Partly (bytes : List ℕ) (at width n left : ℕ) : Type 0 where
-  pub inside : left ≤ width
-  pub small : n < 256 ^ (width - left)
-  pub rest : number_from n (take left (drop (at + width - left) bytes)) ≡ number (take width (drop at bytes))
+-- Of the bytes of a number i are read: the number so far, carried on over the others, is the number of all.
+pub record Partly (bytes : List ℕ) (n i : ℕ) : Type 0 where
+  pub small : n < 256 ^ i
+  pub rest : number_from n (drop i bytes) ≡ number bytes
 
--- all are left at first
-pub partly_start : (bytes : List ℕ) (at width : ℕ) → Partly bytes at width 0 width
+-- none at first
+pub partly_start : (bytes : List ℕ) → Partly bytes 0 0
 unfolding number
-partly_start bytes at width =
-    let e : at + width - width ≡ at = omega arith in
-    let f : width - width ≡ 0 = omega arith in
-    record { inside = omega arith; small = rw f (omega arith); rest = rw e }
+partly_start bytes = record { small = omega arith; rest = refl }
 
-module _ {bytes : List ℕ} {at width n left : ℕ} (p : Partly bytes at width n left) where
+module _ {bytes : List ℕ} {n i : ℕ} (p : Partly bytes n i) where
   -- a number before its last byte leaves room for one more
-  pub room : 0 < left → width ≤ 8 → n < 2 ^ 56
+  pub room : i < length bytes → length bytes ≤ 8 → n < 2 ^ 56
   room h g =
-      let e : width - left ≤ 7 = omega arith in
+      let e : i ≤ 7 = omega arith in
+      let s = p.small in
       omega (arith, pow-le-pow_right {n = 256} (omega arith) e)
 
   -- one byte more
-  pub partly_on : {b : ℕ} → 0 < left → at + width ≤ length bytes → b ≡ get_or bytes (at + width - left) 0 → b < 256
-      → Partly bytes at width (n * 256 + b) (left - 1)
+  pub partly_on : {b : ℕ} → i < length bytes → b ≡ get_or bytes i 0 → b < 256 → Partly bytes (n * 256 + b) (i + 1)
   unfolding number_from
-  partly_on {b} h g is l =
-      let e : left ≡ suc (left - 1) = omega arith in
-      let f : width - (left - 1) ≡ suc (width - left) = omega arith in
-      let there : at + width - (left - 1) ≡ suc (at + width - left) = omega arith in
-      let r = subst (λ (k : ℕ). number_from n (take k (drop (at + width - left) bytes)) ≡ number (take width (drop at bytes))) e p.rest in
+  partly_on {b} h is l =
+      let f : i + 1 ≡ suc i = omega arith in
+      let s = p.small in
       record {
-        inside = omega arith;
         small = rw (f, pow-suc) (omega arith);
-        rest = rw (there, is) (rw (drop-cons bytes (at + width - left) 0 (omega arith)) at r);
+        rest = rw (f, is) (rw (drop-cons bytes i 0 h) at p.rest);
       }
 
--- none is left at the end
-pub partly_end : {bytes : List ℕ} {at width n left : ℕ} → Partly bytes at width n left → left ≤ 0 → n ≡ number (take width (drop at bytes))
+-- all at the end
+pub partly_end : {bytes : List ℕ} {n i : ℕ} → Partly bytes n i → length bytes ≤ i → n ≡ number bytes
 unfolding number_from
-partly_end {left = left} p h =
-    let e : left ≡ 0 = omega arith in
-    rw e at p.rest
+partly_end {bytes} {n} {i} p h = rw (drop_of_length-le bytes h) at p.rest
 
 -- ---- the bytes of a number
 

@@ -2,7 +2,7 @@
 // the words of a record that is whole. Nothing is taken out before it is known to be there.
 #![tactic(auto)]
 
-ghost use Rattle.std.specs.Prelude.{◌≡◌, ◌+◌, ◌≤◌, length, take, drop};
+ghost use Rattle.std.specs.Prelude.{◌≡◌, ◌≤◌, length};
 ghost use Rattle.words.specs.Wrote.{Wrote};
 ghost use Rattle.trace.specs.Format.{MOST_WORDS as most_words, number, header_reach, record_reach, record_in};
 ghost use Rattle.trace.specs.Format.Reach.{ends};
@@ -10,7 +10,7 @@ ghost use Rattle.trace_read.specs.Reached.{reached};
 
 // How far something reaches from the front of some bytes: to a place in them; it is cut off, there are too few to tell; or it
 // is wrong, whatever follows.
-#[derive(Clone, Copy)]
+#[derive(Clone, Copy, Debug, PartialEq, Eq)]
 pub enum Reach {
     Ends(usize),
     CutOff,
@@ -25,8 +25,6 @@ const HEADER_BYTES: usize = 5;
 // The front of a record: the kind in one byte and the count of words in two.
 const COUNT_AT: usize = 1;
 
-const COUNT_BYTES: usize = 2;
-
 const FRONT_BYTES: usize = 3;
 
 // The bytes of a word; the most words of a record, and the bytes of such a record.
@@ -36,23 +34,14 @@ pub const MOST_WORDS: usize = 1217;
 
 pub const MOST_BYTES: usize = FRONT_BYTES + WORD_BYTES * MOST_WORDS;
 
-// A byte as a number.
-fn wide(b: u8) -> u64
-    ensures { result ≡ b }
-{
-    b as u64
-}
-
-// The number in some bytes from a place on, at most eight of them.
-fn number_at(bytes: &[u8], at: usize, width: usize) -> u64
-    requires { (width ≤ 8) × (at + width ≤ length bytes.now) }
-    ensures { result ≡ number (take width (drop at bytes.now)) }
+// The number in some bytes, at most eight of them.
+fn number(bytes: &[u8]) -> u64
+    requires { length bytes.now ≤ 8 }
+    ensures { result ≡ number bytes.now }
 {
     let mut n = 0;
-    let mut left = width;
-    while 0 < left {
-        n = n * 256 + wide(bytes[at + width - left]);
-        left -= 1;
+    for byte in bytes {
+        n = n * 256 + u64::from(*byte);
     }
     n
 }
@@ -64,7 +53,7 @@ pub fn header_reach(bytes: &[u8]) -> Reach
     if bytes.len() < HEADER_BYTES {
         return Reach::CutOff;
     }
-    if number_at(bytes, 0, HEADER_BYTES) != HEADER {
+    if number(&bytes[..HEADER_BYTES]) != HEADER {
         return Reach::Wrong;
     }
     Reach::Ends(HEADER_BYTES)
@@ -77,7 +66,7 @@ pub fn record_reach(bytes: &[u8]) -> Reach
     if bytes.len() < FRONT_BYTES {
         return Reach::CutOff;
     }
-    let n = number_at(bytes, COUNT_AT, COUNT_BYTES) as usize;
+    let n = number(&bytes[COUNT_AT..FRONT_BYTES]) as usize;
     if MOST_WORDS < n {
         return Reach::Wrong;
     }
@@ -93,7 +82,7 @@ pub fn kind_of(bytes: &[u8]) -> u64
     requires { record_reach bytes.now ≡ ends (length bytes.now) }
     ensures { result ≡ (record_in bytes.now).kind }
 {
-    wide(bytes[0])
+    u64::from(bytes[0])
 }
 
 // Puts the words of a record at the start of `words`, and answers how many they are.
@@ -101,12 +90,10 @@ pub fn read_words(bytes: &[u8], words: &mut [u64]) -> usize
     requires { (record_reach bytes.now ≡ ends (length bytes.now)) × (most_words ≤ length words.old) }
     ensures { Wrote most_words words.old 0 (record_in bytes.now).words words.new result }
 {
-    let mut at = FRONT_BYTES;
-    let mut n = 0;
-    while at < bytes.len() {
-        words[n] = number_at(bytes, at, WORD_BYTES);
-        at += WORD_BYTES;
-        n += 1;
+    let count = (bytes.len() - FRONT_BYTES) / WORD_BYTES;
+    for n in 0..count {
+        let at = FRONT_BYTES + WORD_BYTES * n;
+        words[n] = number(&bytes[at..at + WORD_BYTES]);
     }
-    n
+    count
 }

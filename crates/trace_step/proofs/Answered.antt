@@ -24,7 +24,8 @@ use Rattle.layout.specs.Calls.{with_records, made_words, list_after}
 use Rattle.trace.specs.Calls.{PUSH, kind_of, room_is}
 use Rattle.trace.specs.Text.{refusal, made, dispatch_lines, outcome_line, outcome_text}
 use Rattle.trace.specs.Played.{ROOM}
-use Rattle.trace_lines.specs.Told.{dispatches_told, text_told}
+use Rattle.told.specs.Told.{dispatches_told}
+use Rattle.trace_lines.specs.Told.{text_told}
 
 -- the number in an answer is the refusal's
 refusal_told : (o : Outcome) → Numbered o → number_in (answer_word o) ≡ refusal o

@@ -22,9 +22,10 @@ use Rattle.trace.specs.Text.{outcome_text, bad_line}
 use Rattle.trace.specs.Played.{ROOM, record_call}
 use Rattle.trace.proofs.Calls.{if_call, call_kind, call_room}
 use Rattle.trace.proofs.Format.{taken_record}
-use Rattle.trace_call.specs.declared.Made.TheVariants as variants
+use Rattle.std.proofs.Common.{None, Some}
 use Rattle.trace_call.specs.Made.{made, words_made, list_made}
-use Rattle.trace_lines.specs.Told.{lines_bytes, dispatches_told, text_told}
+use Rattle.told.specs.Told.{dispatches_told}
+use Rattle.trace_lines.specs.Told.{lines_bytes, text_told}
 use Rattle.trace_step.specs.declared.Did.TheVariants as did
 use Rattle.trace_step.specs.Stepped.{Stepped}
 use Rattle.trace_step.proofs.Answered.{Answered, answered}
@@ -52,13 +53,13 @@ pub record IsCall (ws : List ℕ) (o : Option Call) (a : ℕ) : Type 0 where
   pub answers : a ≡ answer ws call
 
 -- where a call was made
-told_call : (ws : List ℕ) (o : Option Call) (a : ℕ) → variants.Answer a ≡ made ws o → IsCall ws o a
+told_call : (ws : List ℕ) (o : Option Call) (a : ℕ) → Some a ≡ made ws o → IsCall ws o a
 unfolding made
 told_call ws none a e = absurd (let z : ◌≡◌ {A = ℕ} 0 1 = cc in omega arith)
 told_call ws (some x) a e = record { call = x; is = refl; answers = cc }
 
 -- where there was none
-told_none : (ws : List ℕ) (o : Option Call) → variants.NoCall ≡ made ws o → o ≡ none
+told_none : (ws : List ℕ) (o : Option Call) → None ≡ made ws o → o ≡ none
 unfolding made
 told_none ws none e = refl
 told_none ws (some x) e = absurd (let z : ◌≡◌ {A = ℕ} 0 1 = cc in omega arith)
@@ -72,7 +73,7 @@ record_room : (r : Record) (x : Call) → record_call r ≡ some x → room_is R
 unfolding record_call
 record_room r x e = if_call (λ (y : Call). room_is ROOM y ≡ true) _ x (call_room ROOM r.kind r.words) e
 
-module _ (ws : List ℕ) (h : spells ws ≡ true) (r : Record) (kind a : ℕ) (k : kind ≡ r.kind) (e : variants.Answer a ≡ made ws (record_call r)) where
+module _ (ws : List ℕ) (h : spells ws ≡ true) (r : Record) (kind a : ℕ) (k : kind ≡ r.kind) (e : Some a ≡ made ws (record_call r)) where
   -- the call
   pub the_call : IsCall ws (record_call r) a
   the_call = told_call ws (record_call r) a e
@@ -116,7 +117,7 @@ module _ (ws : List ℕ) (number : ℕ) (held out : List ℕ) (h : spells ws ≡
   alone = record_in (take size held)
 
   -- a call was made
-  pub played_call : {n a kind : ℕ} {ws' list' out' : List ℕ} (list : List ℕ) → kind ≡ alone.kind → variants.Answer a ≡ made ws (record_call alone)
+  pub played_call : {n a kind : ℕ} {ws' list' out' : List ℕ} (list : List ℕ) → kind ≡ alone.kind → Some a ≡ made ws (record_call alone)
       → ws' ≡ words_made ws (record_call alone) → list' ≡ list_made ws list (record_call alone)
       → Wrote lines_bytes out 0 (text_told number kind a list') out' n → Stepped ws number held out (did.Went size n) ws' out'
   unfolding words_made
@@ -127,7 +128,7 @@ module _ (ws : List ℕ) (number : ℕ) (held out : List ℕ) (h : spells ws ≡
       (subst (λ (t : List ℕ). Wrote lines_bytes out 0 t out' n) (text_made ws h alone kind a k m number list list' l) w)
 
   -- none was
-  pub played_none : {most n : ℕ} {ws' out' : List ℕ} → variants.NoCall ≡ made ws (record_call alone)
+  pub played_none : {most n : ℕ} {ws' out' : List ℕ} → None ≡ made ws (record_call alone)
       → ws' ≡ words_made ws (record_call alone) → most ≤ lines_bytes → Wrote most out 0 (bad_line number) out' n
       → Stepped ws number held out (did.Bad n) ws' out'
   unfolding words_made

@@ -10,12 +10,13 @@ ghost use Rattle.trace.specs.Format.{record_reach, record_in};
 ghost use Rattle.trace.specs.Format.Reach.{ends};
 ghost use Rattle.trace.specs.Played.{ROOM, record_call};
 ghost use Rattle.trace.specs.Steps.{reach, end_text};
-ghost use Rattle.trace_call.specs.Made.{made, words_made, list_made};
+ghost use Rattle.trace_call.specs.Made.{words_told, made, words_made, list_made};
 ghost use Rattle.trace_lines.specs.Told.{lines_bytes};
 ghost use Rattle.trace_step.specs.Stepped.{player_after, step_answer, Within, step_call, Stepped, HeaderStepped};
 
 use record::RECORD_WORDS;
-use trace_call::{Made, make_call};
+use refusal::Answer;
+use trace_call::make_call;
 use trace_lines::{write_bad, write_outcome};
 use trace_read::{MOST_WORDS, Reach, header_reach, kind_of, read_words, record_reach};
 
@@ -31,10 +32,10 @@ pub enum Did {
 // The words of a push's list, which holds 32 records.
 const LIST_WORDS: usize = 32 * RECORD_WORDS;
 
-// Makes the call of a record.
-fn make_record(store: &mut [u64], bytes: &[u8], list: &mut [u64]) -> Made
+// Makes the call of a record, if it is one.
+fn make_record(store: &mut [u64], bytes: &[u8], list: &mut [u64]) -> Option<Answer>
     requires { (spells store.old ≡ true) × (record_reach bytes.now ≡ ends (length bytes.now)) × (length list.old ≡ ROOM * 13) }
-    ensures answer { result ≡ made store.old (record_call (record_in bytes.now)) }
+    ensures answer { words_told result ≡ made store.old (record_call (record_in bytes.now)) }
     ensures words { store.new ≡ words_made store.old (record_call (record_in bytes.now)) }
     ensures records { list.new ≡ list_made store.old list.old (record_call (record_in bytes.now)) }
 {
@@ -53,11 +54,11 @@ fn play_record(store: &mut [u64], number: u64, held: &[u8], size: usize, out: &m
     let mut list = [0u64; LIST_WORDS];
     let made = make_record(store, &held[..size], &mut list);
     match made {
-        Made::Answer(answer) => {
+        Some(answer) => {
             let written = write_outcome(out, number, kind, answer, &list);
             Did::Went(size, written)
         }
-        Made::NoCall => {
+        None => {
             let written = write_bad(out, number);
             Did::Bad(written)
         }

@@ -6,14 +6,14 @@ use Rattle.std.proofs.Math.Seq.{length-take-le}
 use borrow.Author.Rules.{rules}
 use Rattle.player.proofs.turn.Goals as goal
 
-pub overflow_add-from : goal.overflow_add-from
-overflow_add-from g c =
+pub overflow_add-next : goal.overflow_add-next
+overflow_add-next g c =
     let p = c.requires.3 in
     let w = went_within _ _ _ p.order (omega (arith, c.requires.1, p.inside)) c.in-Went.ensures.within in
     record { fits = omega (arith, w.0, p.order, p.inside) }
 
-pub overflow_add-filled : goal.overflow_add-filled
-overflow_add-filled g c =
+pub overflow_add-next-in-Went-2 : goal.overflow_add-next-in-Went-2
+overflow_add-next-in-Went-2 g c =
     let p = c.requires.3 in
     let w = went_within _ _ _ p.order (omega (arith, c.requires.1, p.inside)) c.in-Went.ensures.within in
     record { fits = omega (arith, w.1, p.space) }
@@ -42,7 +42,7 @@ pub returns-in-Went : goal.returns-in-Went
 returns-in-Went g c =
     let p = c.requires.3 in
     let w = went_within _ _ _ p.order (omega (arith, c.requires.1, p.inside)) c.in-Went.ensures.within in
-    (c.step-did.ensures.spelt, goes_on _ _ _ _ _ (omega (arith, w.0, p.order)) p.inside (search rules) c.went.ensures)
+    (c.step-did.ensures.spelt, goes_on _ _ _ (omega (arith, w.0, p.order)) p.inside (search rules) c.went.ensures)
 
 pub returns-in-Bad : goal.returns-in-Bad
 unfolding GoesOn

@@ -3,9 +3,9 @@ use Rattle.std.proofs.Common.{arith}
 use Rattle.player.specs.Places.{GoesOn}
 use Rattle.player.proofs.wait.Goals as goal
 
-pub returns-then-is_err : goal.returns-then-is_err
+pub returns-in_err-ok : goal.returns-in_err-ok
 unfolding GoesOn
-returns-then-is_err g c = tt
+returns-in_err-ok g c = rw c.from_residual.ensures tt
 
 pub returns-then-got-eq0 : goal.returns-then-got-eq0
 unfolding GoesOn

@@ -3,13 +3,13 @@ use Rattle.std.proofs.Common.{refl, arith}
 use Rattle.player.specs.Places.{WentOn}
 use Rattle.player.proofs.went.Goals as goal
 
-pub returns-then-is_err : goal.returns-then-is_err
+pub returns-in_err-ok : goal.returns-in_err-ok
 unfolding WentOn
-returns-then-is_err g c = tt
+returns-in_err-ok g c = rw c.from_residual.ensures tt
 
-pub returns-then-out-filled-lt-LINES_BYTES : goal.returns-then-out-filled-lt-LINES_BYTES
+pub returns-then-out-place-lt-LINES_BYTES : goal.returns-then-out-place-lt-LINES_BYTES
 unfolding WentOn
-returns-then-out-filled-lt-LINES_BYTES g c = (refl, refl, refl, omega arith)
+returns-then-out-place-lt-LINES_BYTES g c = (refl, refl, refl, omega arith)
 
 pub returns : goal.returns
 unfolding WentOn

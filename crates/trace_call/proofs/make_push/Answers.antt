@@ -1,7 +1,6 @@
 -- `trace_call::make_push` meets its contract: no words are a push.
 use native.Mathlib.Omega.{arith}
 use lib.ListN.{length}
-use borrow.Author.Rules.{rules}
 use Rattle.layout.proofs.Slices.{word, few_records}
 use Rattle.trace.proofs.Forms.{push_of_any}
 use Rattle.trace_call.proofs.Calls.{list_is_answered}

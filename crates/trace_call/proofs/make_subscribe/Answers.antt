@@ -1,5 +1,5 @@
 -- `trace_call::make_subscribe` meets its contract: four words, of which the last two are bytes, are a subscribe, and the second says its kind.
-use mathlib.Core.Path.{◌≡◌, sym, ◌∙◌}
+use mathlib.Core.Path.{◌≡◌}
 use mathlib.Core.Bool.{true}
 use mathlib.Core.List.{List}
 use mathlib.Core.Option.{bind, some}
@@ -46,7 +46,4 @@ pub overflow_cast-command-2 : goal.overflow_cast-command-2
 overflow_cast-command-2 c = omega (arith, (subscribe_words _ c.requires.1).subscription)
 
 pub returns : goal.returns
-returns c =
-    let r = c.subscribe.ensures in
-    let a = is_answered c.args.store.now (of_word c.args.words.now _ c.requires.1 c.from.ensures) (r.answer, r.words) in
-    record { answer = a.0; words = a.1 }
+returns c = is_answered c.args.store.now (of_word c.args.words.now _ c.requires.1 c.from.ensures) c.subscribe.ensures

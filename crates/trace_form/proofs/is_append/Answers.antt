@@ -17,5 +17,5 @@ returns-then-words-gt-MOST_8 c = none_is (too_wide _ _ (append_wide _ _ c.if-wor
 pub returns : goal.returns
 unfolding append_from
 returns c =
-    let w = c.shared_slice_known-1.given in
+    let w = c.type_inv.words in
     some_is (is_call (eq-eqb _ 5 c.if-words-ne5.false) (append_fits _ _ c.if-words-gt-MOST_8.false (w 1).fits (w 2).fits (w 3).fits (w 4).fits))

@@ -1,44 +1,40 @@
--- `trace_form::is_call` meets its contract: each kind has its own test, and no other kind is a call.
-use borrow.Author.Tests.{ne_eqb}
-use Rattle.trace.specs.Calls.{PUSH, call_from, call_of}
-use Rattle.trace.proofs.Calls.{no_kind}
+-- `trace_form::is_call` meets its contract: each command has its own test, and what is read as none is no call.
+use Rattle.trace.specs.Calls.{call_from, call_of}
+use Rattle.trace_kind.proofs.Commands.{read_as, no_call}
 use Rattle.trace_form.proofs.Tested.{none_is, is_ack, is_redeliver, is_close, is_push_of_none}
 use Rattle.trace_form.proofs.is_call.Goals as goal
 
-pub returns-then-kind-eq-FLOW : goal.returns-then-kind-eq-FLOW
-unfolding call_of call_from
-returns-then-kind-eq-FLOW c = rw c.if-kind-eq-FLOW.true c.is_flow.ensures
+pub returns-in_default : goal.returns-in_default
+returns-in_default c = none_is (no_call 0 _ _ c.try_from.ensures c.in_default.is)
 
-pub returns-then-kind-eq-ACK : goal.returns-then-kind-eq-ACK
+pub returns-in-Append : goal.returns-in-Append
 unfolding call_of call_from
-returns-then-kind-eq-ACK c = rw c.if-kind-eq-ACK.true (is_ack _ (λ k. (c.shared_slice_known-1.given k).fits))
+returns-in-Append c = rw (read_as c.args.kind _ c.try_from.ensures c.in-Ok.is c.in-Append.is) c.is_append.ensures
 
-pub returns-then-kind-eq-PUSH : goal.returns-then-kind-eq-PUSH
+pub returns-in-Subscribe : goal.returns-in-Subscribe
 unfolding call_of call_from
-returns-then-kind-eq-PUSH c = rw c.if-kind-eq-PUSH.true (is_push_of_none _ (λ k. (c.shared_slice_known-1.given k).fits))
+returns-in-Subscribe c = rw (read_as c.args.kind _ c.try_from.ensures c.in-Ok.is c.in-Subscribe.is) c.is_subscribe.ensures
 
-pub returns-then-kind-eq-APPEND : goal.returns-then-kind-eq-APPEND
+pub returns-in-Flow : goal.returns-in-Flow
 unfolding call_of call_from
-returns-then-kind-eq-APPEND c = rw c.if-kind-eq-APPEND.true c.is_append.ensures
+returns-in-Flow c = rw (read_as c.args.kind _ c.try_from.ensures c.in-Ok.is c.in-Flow.is) c.is_flow.ensures
 
-pub returns-then-kind-eq-SUBSCRIBE : goal.returns-then-kind-eq-SUBSCRIBE
+pub returns-in-Ack : goal.returns-in-Ack
 unfolding call_of call_from
-returns-then-kind-eq-SUBSCRIBE c = rw c.if-kind-eq-SUBSCRIBE.true c.is_subscribe.ensures
+returns-in-Ack c = rw (read_as c.args.kind _ c.try_from.ensures c.in-Ok.is c.in-Ack.is) (is_ack _ (λ k. (c.type_inv.words k).fits))
 
-pub returns-then-kind-eq-REDELIVER : goal.returns-then-kind-eq-REDELIVER
+pub returns-in-Seek : goal.returns-in-Seek
 unfolding call_of call_from
-returns-then-kind-eq-REDELIVER c = rw c.if-kind-eq-REDELIVER.true (is_redeliver _ (λ k. (c.shared_slice_known-1.given k).fits))
+returns-in-Seek c = rw (read_as c.args.kind _ c.try_from.ensures c.in-Ok.is c.in-Seek.is) c.is_seek.ensures
 
-pub returns-then-kind-eq-SEEK : goal.returns-then-kind-eq-SEEK
+pub returns-in-Redeliver : goal.returns-in-Redeliver
 unfolding call_of call_from
-returns-then-kind-eq-SEEK c = rw c.if-kind-eq-SEEK.true c.is_seek.ensures
+returns-in-Redeliver c = rw (read_as c.args.kind _ c.try_from.ensures c.in-Ok.is c.in-Redeliver.is) (is_redeliver _ (λ k. (c.type_inv.words k).fits))
 
-pub returns-then-kind-eq-CLOSE : goal.returns-then-kind-eq-CLOSE
+pub returns-in-Close : goal.returns-in-Close
 unfolding call_of call_from
-returns-then-kind-eq-CLOSE c = rw c.if-kind-eq-CLOSE.true (is_close _ (λ k. (c.shared_slice_known-1.given k).fits))
+returns-in-Close c = rw (read_as c.args.kind _ c.try_from.ensures c.in-Ok.is c.in-Close.is) (is_close _ (λ k. (c.type_inv.words k).fits))
 
-pub returns : goal.returns
-returns c =
-    none_is
-    (no_kind 0 _ _ c.if-kind-eq-APPEND.false c.if-kind-eq-SUBSCRIBE.false c.if-kind-eq-FLOW.false c.if-kind-eq-ACK.false c.if-kind-eq-SEEK.false c.if-kind-eq-REDELIVER.false c.if-kind-eq-CLOSE.false
-    (ne_eqb _ PUSH c.if-kind-eq-PUSH.false))
+pub returns-in-Push : goal.returns-in-Push
+unfolding call_of call_from
+returns-in-Push c = rw (read_as c.args.kind _ c.try_from.ensures c.in-Ok.is c.in-Push.is) (is_push_of_none _ (λ k. (c.type_inv.words k).fits))

@@ -17,4 +17,4 @@ returns-then-words-gt-MOST_32 c = none_is (too_wide _ _ (grant_wide _ _ c.if-wor
 pub returns : goal.returns
 unfolding flow_from
 returns c =
-    some_is (is_call (eq-eqb _ 2 c.if-words-ne2.false) (flow_fits _ _ (c.shared_slice_known-1.given 0).fits c.if-words-gt-MOST_32.false))
+    some_is (is_call (eq-eqb _ 2 c.if-words-ne2.false) (flow_fits _ _ (c.type_inv.words 0).fits c.if-words-gt-MOST_32.false))

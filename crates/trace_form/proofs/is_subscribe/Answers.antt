@@ -27,4 +27,4 @@ unfolding subscribe_from
 returns c =
     some_is
     (is_call (rw (c.if-words-ne4.false, le-leb _ 1 c.if-words-gt1.false))
-    (subscribe_fits _ _ _ (c.shared_slice_known-3-1.given 0).fits c.if-words-gt-MOST_8.false c.if-words-gt-MOST_8-2.false))
+    (subscribe_fits _ _ _ (c.type_inv.words 0).fits c.if-words-gt-MOST_8.false c.if-words-gt-MOST_8-2.false))

@@ -1,5 +1,4 @@
 -- `trace_lines::write_bad` meets its contract: the word, and then the number.
-use Rattle.std.proofs.Common.{rules}
 use Rattle.words.proofs.Writers.{and_then}
 use Rattle.trace.specs.Text.{bad_line}
 use Rattle.trace_lines.proofs.write_bad.Goals as goal

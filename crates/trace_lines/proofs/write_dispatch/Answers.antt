@@ -1,5 +1,4 @@
 -- `trace_lines::write_dispatch` meets its contract: five parts one after the other.
-use Rattle.std.proofs.Common.{rules}
 use Rattle.trace_lines.proofs.Lines.{dispatch_wrote}
 use Rattle.trace_lines.proofs.write_dispatch.Goals as goal
 

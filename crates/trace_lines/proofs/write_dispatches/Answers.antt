@@ -1,6 +1,6 @@
--- `trace_lines::write_dispatches` meets its contract. The loop's invariant: the lines of the records from i on finish the lines of all.
-use Rattle.std.proofs.Common.{◌-◌, rules}
-use Rattle.trace_lines.proofs.Lines.{Lines, lines_start, lines_on, lines_end}
+-- `trace_lines::write_dispatches` meets its contract: each turn writes one line more, and at the end all are written.
+use Rattle.std.proofs.Common.{rules}
+use Rattle.trace_lines.proofs.Lines.{lines_start, lines_on, lines_end}
 use Rattle.trace_lines.proofs.write_dispatches.Goals as goal
 
 pub loop-i-init : goal.loop-i-init

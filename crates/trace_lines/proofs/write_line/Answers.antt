@@ -1,5 +1,4 @@
 -- `trace_lines::write_line` meets its contract: four numbers one after the other.
-use Rattle.std.proofs.Common.{rules}
 use Rattle.words.proofs.Writers.{and_then}
 use Rattle.trace.specs.Text.{outcome_line}
 use Rattle.trace_lines.proofs.write_line.Goals as goal

@@ -1,5 +1,4 @@
 -- `trace_lines::write_number` meets its contract: the digits, and then the character.
-use Rattle.std.proofs.Common.{rules}
 use Rattle.trace_lines.proofs.Lines.{number_wrote}
 use Rattle.trace_lines.proofs.write_number.Goals as goal
 

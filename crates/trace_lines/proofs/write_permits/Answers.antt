@@ -1,5 +1,4 @@
 -- `trace_lines::write_permits` meets its contract: the integer, and the end of the line.
-use Rattle.std.proofs.Common.{rules}
 use Rattle.trace_lines.proofs.Lines.{permits_wrote}
 use Rattle.trace_lines.proofs.write_permits.Goals as goal
 

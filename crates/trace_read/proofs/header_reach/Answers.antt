@@ -8,10 +8,10 @@ use Rattle.trace_read.proofs.header_reach.Goals as goal
 pub returns-then-bytes-lt-HEADER_BYTES : goal.returns-then-bytes-lt-HEADER_BYTES
 returns-then-bytes-lt-HEADER_BYTES c = header_short _ (search rules)
 
-pub returns-then-number_at-ne-HEADER : goal.returns-then-number_at-ne-HEADER
+pub returns-then-number-ne-HEADER : goal.returns-then-number-ne-HEADER
 unfolding header number_bytes number_from number
-returns-then-number_at-ne-HEADER c = header_wrong _ (search rules) (λ e. c.if-number_at-ne-HEADER.true (c.number_at.ensures ∙ e))
+returns-then-number-ne-HEADER c = header_wrong _ (search rules) (λ e. c.if-number-ne-HEADER.true (c.number.ensures ∙ e))
 
 pub returns : goal.returns
 unfolding header number_bytes number_from number
-returns c = header_ends _ (search rules) (λ i. (c.shared_slice_known-1.given i).fits) (search rules)
+returns c = header_ends _ (search rules) (λ i. (c.type_inv.bytes i).fits) (search rules)

@@ -9,4 +9,4 @@ bounds-bytes-0 c = omega (arith, whole _ _ c.requires)
 
 pub returns : goal.returns
 unfolding record_in
-returns c = c.wide.ensures
+returns c = c.from.ensures

@@ -1,8 +1,9 @@
 -- `trace_step::play_record` meets its contract: its call is made, and its lines are written.
 use borrow.Author.Rules.{rules}
 use native.Mathlib.Omega.{arith}
-use mathlib.Core.Path.{refl, sym, ◌∙◌}
+use mathlib.Core.Path.{refl, sym, ap, ◌∙◌}
 use Rattle.trace.proofs.Format.{taken_length, taken_reach}
+use Rattle.trace_call.specs.Made.{words_told}
 use Rattle.trace_step.proofs.Records.{few_told, played_call, played_none}
 use Rattle.trace_step.proofs.play_record.Goals as goal
 
@@ -21,17 +22,17 @@ make_record-made-requires c = let p = c.requires in (p.0, taken_reach _ _ p.2, r
 pub write_outcome-written-requires : goal.write_outcome-written-requires
 write_outcome-written-requires c =
     let p = c.requires in
-    let few = few_told _ p.0 _ _ _ c.kind_of-kind.ensures (sym c.in-Answer.is ∙ c.make_record-made.ensures.answer) in
+    let few = few_told _ p.0 _ _ _ c.kind_of-kind.ensures (sym (ap words_told c.in-Some.is) ∙ c.make_record-made.ensures.answer) in
     (search rules, few, omega (arith, few))
 
-pub returns-in-Answer : goal.returns-in-Answer
-returns-in-Answer c =
+pub returns-in-Some : goal.returns-in-Some
+returns-in-Some c =
     let p = c.requires in
-    played_call _ _ _ _ p.0 p.1 _ p.2 _ c.kind_of-kind.ensures (sym c.in-Answer.is ∙ c.make_record-made.ensures.answer)
+    played_call _ _ _ _ p.0 p.1 _ p.2 _ c.kind_of-kind.ensures (sym (ap words_told c.in-Some.is) ∙ c.make_record-made.ensures.answer)
     c.make_record-made.ensures.words c.make_record-made.ensures.records c.write_outcome-written.ensures
 
-pub returns-in-NoCall : goal.returns-in-NoCall
-returns-in-NoCall c =
+pub returns-in-None : goal.returns-in-None
+returns-in-None c =
     let p = c.requires in
-    played_none _ _ _ _ p.0 p.1 _ p.2 (sym c.in-NoCall.is ∙ c.make_record-made.ensures.answer)
+    played_none _ _ _ _ p.0 p.1 _ p.2 (sym (ap words_told c.in-None.is) ∙ c.make_record-made.ensures.answer)
     c.make_record-made.ensures.words (omega arith) c.write_bad-written.ensures

@@ -1,0 +1,69 @@
+-- The number in the word of an answer is 0 exactly where it is done.
+use Rattle.std.proofs.Common.{◌≡◌, ℕ, Bool, true, ◌&&◌, cond, ◌+◌, ◌*◌, ◌/◌, ◌%◌, ◌^◌, ◌<◌, false, Result, Ok, Err, arith, refl, eq-eqb, ne_eqb}
+use lib.Dec.{eqb}
+use Rattle.rules.specs.Calls.{number_in, value_in}
+use Rattle.trace.specs.Calls.{PUSH}
+use Rattle.refusal.specs.Words.{valued, refusal_word, word_of}
+use Rattle.refusal.specs.declared.Refusal.{Refusal}
+use Rattle.refusal.specs.declared.Refusal.TheVariants.{NoState, BadEntries, StoreShort, NotLive, TopicsFull, EntriesFull, IdTaken, BadBatch, PermitsRange, BadList, IdsFull, ConsumersFull, DispatchersFull, RingFull, ListShort, NoCall, AnswersShort}
+use Rattle.told.specs.Told.{dispatches_told}
+
+-- of a value
+value_number : (v : ℕ) → number_in (valued v) ≡ 0
+unfolding number_in
+value_number v = let m : ℕ = v % 2 ^ 56 in let e : m * 256 % 256 ≡ 0 = omega arith in e
+
+-- of a refusal
+refused_number : (r : Refusal) → refusal_word r % 256 ≡ 0 → ⊥
+refused_number NoState e = omega arith
+refused_number BadEntries e = omega arith
+refused_number StoreShort e = omega arith
+refused_number NotLive e = omega arith
+refused_number TopicsFull e = omega arith
+refused_number EntriesFull e = omega arith
+refused_number IdTaken e = omega arith
+refused_number BadBatch e = omega arith
+refused_number PermitsRange e = omega arith
+refused_number BadList e = omega arith
+refused_number IdsFull e = omega arith
+refused_number ConsumersFull e = omega arith
+refused_number DispatchersFull e = omega arith
+refused_number RingFull e = omega arith
+refused_number (ListShort n) e = let m : ℕ = n % 2 ^ 56 in let f : (m * 256 + 15) % 256 ≡ 15 = omega arith in omega arith
+refused_number NoCall e = omega arith
+refused_number (AnswersShort n) e = let m : ℕ = n % 2 ^ 56 in let f : (m * 256 + 64) % 256 ≡ 64 = omega arith in omega arith
+
+refusal_number : (r : Refusal) → eqb (number_in (refusal_word r)) 0 ≡ false
+unfolding number_in
+refusal_number r = ne_eqb (refusal_word r % 256) 0 (refused_number r)
+
+-- ---- dispatches
+
+-- another kind tells of none
+pub other_told : (kind word : ℕ) → (kind ≡ PUSH → ⊥) → 0 ≡ dispatches_told kind word
+unfolding dispatches_told
+other_told kind word h = rw (ne_eqb kind PUSH h)
+
+-- a push that is done tells its value
+pub done_told : {a : Result ℕ Refusal} {v : ℕ} (kind : ℕ) → a ≡ Ok v → kind ≡ PUSH → value_in (word_of a) ≡ dispatches_told kind (word_of a)
+unfolding dispatches_told
+done_told {v = v} kind is k = rw (is, eq-eqb kind PUSH k, value_number v)
+
+-- one that is refused tells of none
+pub refused_told : {a : Result ℕ Refusal} {r : Refusal} (kind : ℕ) → a ≡ Err r → 0 ≡ dispatches_told kind (word_of a)
+unfolding dispatches_told
+refused_told {r = r} kind is = rw (is, refusal_number r) (go (eqb kind PUSH))
+  where
+    go : (t : Bool) → 0 ≡ cond (t && false) (value_in (refusal_word r)) 0
+    go true = refl
+    go false = refl
+
+-- so many at most
+pub few_told : (kind : ℕ) (a : Result ℕ Refusal) → dispatches_told kind (word_of a) < 2 ^ 56
+unfolding dispatches_told value_in
+few_told kind (Ok v) = go (eqb kind PUSH && eqb (number_in (valued v)) 0)
+  where
+    go : (t : Bool) → cond t (valued v / 256) 0 < 2 ^ 56
+    go true = let m : ℕ = v % 2 ^ 56 in let l : m < 2 ^ 56 = omega arith in let e : m * 256 / 256 ≡ m = omega arith in omega arith
+    go false = omega arith
+few_told kind (Err r) = let e = refused_told {a = Err r} {r = r} kind refl in omega arith
