@@ -1,6 +1,6 @@
 -- A BaseCommand: where the message of its type stands, and what a reader of some types answers at each of its ways out.
 use Prim.Native.Nat.{ℕ, ◌-◌, ◌^◌, ◌<◌, ◌≤◌}
-use mathlib.Core.Path.{◌≡◌, ◌∙◌}
+use mathlib.Core.Path.{◌≡◌, sym, ◌∙◌}
 use mathlib.Core.Bool.{Bool, true, false}
 use mathlib.Core.List.{List}
 use mathlib.Core.Option.{Option, none, some, map, bind}
@@ -104,6 +104,15 @@ told_untyped m e = from_none (base_of m) (type_of m) e
 pub placed_message : (m : List ℕ) (type : ℕ) → type < 2 ^ 32 → placed m type ≡ answered place_of (message_of m type)
 unfolding placed
 placed_message m type h = rw (lt-ltb type (2 ^ 32) h)
+
+-- where the message that was found stands
+pub message_stands : (m : List ℕ) (b : Base) (p : Place) → Some b ≡ answered (base_of m) (type_of m) → b.kind < 2 ^ 32 → b.message ≡ Some p
+    → Placed m b.kind p.start p.next
+message_stands m b p e low s = told_place m b.kind p (sym s ∙ (told_base m b e).1 ∙ placed_message m b.kind low)
+
+-- it lies inside
+pub stands_inside : {m : List ℕ} {type start next : ℕ} → Placed m type start next → (start ≤ next) × (next ≤ length m)
+stands_inside p = let l = p.inside in (omega (arith, p.starts, p.ends), omega (arith, p.ends))
 
 -- ---- what a reader of some types answers
 

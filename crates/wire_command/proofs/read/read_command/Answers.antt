@@ -4,7 +4,7 @@ use mathlib.Core.Path.{sym, ap, ◌∙◌}
 use native.Mathlib.Omega.{arith}
 use Rattle.std.proofs.lemmas.Result.{err_from_is_err_and}
 use Rattle.wire_fields.specs.declared.unread.Unread.TheVariants.{Malformed}
-use Rattle.wire_fields.proofs.Bases.{told_place, told_no_place, told_base, told_untyped, placed_message}
+use Rattle.wire_fields.proofs.Bases.{told_no_place, told_base, told_untyped, placed_message, message_stands, stands_inside}
 use Rattle.wire.specs.Commands.Reading.{refused}
 use Rattle.wire_command.proofs.Answers.{refused_done, same_done, too_short, untyped, other_type, no_message, message_decides, typed, untyped_number}
 use Rattle.wire_command.proofs.read.read_command.Goals as goal
@@ -42,31 +42,28 @@ returns-in_default-message c =
 
 pub slice_bounds-read_content-count : goal.slice_bounds-read_content-count
 slice_bounds-read_content-count c =
-    let b = told_base c.args.bytes.now _ c.in-Some.ensures in
     let t = typed _ _ c.in_ok-kind.ensures in
-    let p = told_place _ _ _ (sym c.in-Some-message.is ∙ b.1 ∙ placed_message _ _ t.low) in
-    omega (arith, p.starts, p.ends, p.inside.0)
+    let s = stands_inside (message_stands _ _ _ c.in-Some.ensures t.low c.in-Some-message.is) in
+    omega (arith, s.0, s.1)
 
 pub slice_bounds-read_content-start : goal.slice_bounds-read_content-start
 slice_bounds-read_content-start c =
-    let b = told_base c.args.bytes.now _ c.in-Some.ensures in
     let t = typed _ _ c.in_ok-kind.ensures in
-    let p = told_place _ _ _ (sym c.in-Some-message.is ∙ b.1 ∙ placed_message _ _ t.low) in
-    omega (arith, p.starts, p.ends, p.inside.0)
+    let s = stands_inside (message_stands _ _ _ c.in-Some.ensures t.low c.in-Some-message.is) in
+    omega (arith, s.0, s.1)
 
 pub slice_bounds-read_content-end : goal.slice_bounds-read_content-end
 slice_bounds-read_content-end c =
-    let b = told_base c.args.bytes.now _ c.in-Some.ensures in
     let t = typed _ _ c.in_ok-kind.ensures in
-    let p = told_place _ _ _ (sym c.in-Some-message.is ∙ b.1 ∙ placed_message _ _ t.low) in
-    omega (arith, p.starts, p.ends, p.inside.1)
+    let s = stands_inside (message_stands _ _ _ c.in-Some.ensures t.low c.in-Some-message.is) in
+    omega (arith, s.0, s.1)
 
 pub returns : goal.returns
 returns c =
     let a = c.args in
     let b = told_base a.bytes.now _ c.in-Some.ensures in
     let t = typed _ _ c.in_ok-kind.ensures in
-    let p = told_place _ _ _ (sym c.in-Some-message.is ∙ b.1 ∙ placed_message _ _ t.low) in
+    let p = message_stands _ _ _ c.in-Some.ensures t.low c.in-Some-message.is in
     let e = message_decides a.list.now a.bytes.now (omega arith) b.0 t.taken p in
     let r = c.read_content.ensures in
     let d = same_done a.command.now a.list.now (rw t.is at e) (record { answer = r.answer; written = r.words; laid = r.ids }) in

@@ -5,7 +5,7 @@ use mathlib.Core.Option.{some}
 use native.Mathlib.Omega.{arith}
 use Rattle.wire.specs.Message.{MESSAGE}
 use Rattle.wire_fields.specs.Selected.{placed}
-use Rattle.wire_fields.proofs.Bases.{told_place, told_no_place, told_base, told_untyped, placed_message}
+use Rattle.wire_fields.proofs.Bases.{told_no_place, told_base, told_untyped, placed_message, message_stands, stands_inside}
 use Rattle.wire_message.proofs.Records.{not_typed, other_type, no_message, message_read}
 use Rattle.wire_message.proofs.message.read_message.Goals as goal
 
@@ -33,35 +33,25 @@ returns-in_default-message c =
 
 pub slice_bounds-fill_record-count : goal.slice_bounds-fill_record-count
 slice_bounds-fill_record-count c =
-    let a = c.args in
-    let b = told_base a.bytes.now _ c.in-Some.ensures in
-    let p = b.1 ∙ ap (placed a.bytes.now) c.if-base-ne-MESSAGE.false ∙ placed_message a.bytes.now MESSAGE (omega arith) in
-    let s = told_place _ _ _ (sym c.in-Some-message.is ∙ p) in
-    omega (arith, s.starts, s.ends, s.inside.0)
+    let s = stands_inside (message_stands _ _ _ c.in-Some.ensures (omega (arith, c.if-base-ne-MESSAGE.false)) c.in-Some-message.is) in
+    omega (arith, s.0, s.1)
 
 pub slice_bounds-fill_record-start : goal.slice_bounds-fill_record-start
 slice_bounds-fill_record-start c =
-    let a = c.args in
-    let b = told_base a.bytes.now _ c.in-Some.ensures in
-    let p = b.1 ∙ ap (placed a.bytes.now) c.if-base-ne-MESSAGE.false ∙ placed_message a.bytes.now MESSAGE (omega arith) in
-    let s = told_place _ _ _ (sym c.in-Some-message.is ∙ p) in
-    omega (arith, s.starts, s.ends, s.inside.0)
+    let s = stands_inside (message_stands _ _ _ c.in-Some.ensures (omega (arith, c.if-base-ne-MESSAGE.false)) c.in-Some-message.is) in
+    omega (arith, s.0, s.1)
 
 pub slice_bounds-fill_record-end : goal.slice_bounds-fill_record-end
 slice_bounds-fill_record-end c =
-    let a = c.args in
-    let b = told_base a.bytes.now _ c.in-Some.ensures in
-    let p = b.1 ∙ ap (placed a.bytes.now) c.if-base-ne-MESSAGE.false ∙ placed_message a.bytes.now MESSAGE (omega arith) in
-    let s = told_place _ _ _ (sym c.in-Some-message.is ∙ p) in
-    omega (arith, s.ends, s.inside.1)
+    let s = stands_inside (message_stands _ _ _ c.in-Some.ensures (omega (arith, c.if-base-ne-MESSAGE.false)) c.in-Some-message.is) in
+    omega (arith, s.0, s.1)
 
 pub returns : goal.returns
 returns c =
     let a = c.args in
     let k = c.if-base-ne-MESSAGE.false in
     let b = told_base a.bytes.now _ c.in-Some.ensures in
-    let p = b.1 ∙ ap (placed a.bytes.now) k ∙ placed_message a.bytes.now MESSAGE (omega arith) in
-    let s = told_place _ _ _ (sym c.in-Some-message.is ∙ p) in
+    let s = rw k at (message_stands _ _ _ c.in-Some.ensures (omega (arith, k)) c.in-Some-message.is) in
     let r = c.fill_record.ensures in
     let d = message_read a.bytes.now a.record.now (b.0 ∙ ap some k) s.is (rw (s.starts, s.ends) (record { answer = r.answer; written = r.words })) in
     record { answer = d.answer; words = d.written }
