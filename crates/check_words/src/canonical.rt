@@ -1,13 +1,13 @@
 // Whether words are spelt as the layout has them: counts within their lists' room, flags 0 or 1,
 // and every word past a count or reserved 0. Each function tests one record or table, and equals
 // `canonical` of its codec. Nothing here asks whether the state is a valid one.
-ghost use Rattle.std.specs.Prelude.{◌≡◌, ◌+◌, ◌*◌, ◌≤◌, length, drop};
+ghost use Rattle.std.specs.Prelude.{◌≡◌, ℕ, Bool, ◌+◌, ◌*◌, ◌≤◌, ◌<◌, length, drop};
 ghost use Rattle.words.specs.Codec.{upto};
 ghost use Rattle.words.specs.Store.{canonical};
 ghost use Rattle.layout.specs.Records.{consumer_codec, topic_codec, dispatcher_codec, mark_codec};
 ghost use Rattle.layout.specs.Layout.{body_codec};
 ghost use Rattle.layout.specs.Offsets.{consumer_count_at, consumer_words, topic_count_at, topic_words, dispatcher_count_at, dispatcher_words, reserved_at, needed_words};
-ghost use Rattle.check_words.specs.Canonical.{list_canonical, lists_canonical};
+ghost use Rattle.check_words.specs.Canonical.{list_canonical, table_canonical, lists_canonical};
 
 use store::limits::{
     MOST_CONSUMERS, MOST_DISPATCHERS, MOST_NACKED, MOST_OUTSIDE, MOST_RING_IDS, MOST_TOPICS,
@@ -35,6 +35,30 @@ fn list_canonical(store: &[u64], at: usize, most: usize, width: usize) -> bool
     is_blank(store, first + n * width, first + most * width)
 }
 
+// A table: a list in whose slots not any words may stand. Each slot that it counts passes a test.
+fn table_canonical<F: Fn(usize) -> bool>(
+    store: &[u64],
+    at: usize,
+    most: usize,
+    width: usize,
+    slot: F,
+) -> bool
+    requires room { at + 1 + most * width ≤ length store.now }
+    requires slots { (i : ℕ) → i < most → F.pre slot i }
+    ensures { (right : ℕ → Bool) → ((i : ℕ) (r : Bool) → i < most → F.post slot i r → r ≡ right i)
+        → result ≡ table_canonical store.now at most width right }
+{
+    if !list_canonical(store, at, most, width) {
+        return false;
+    }
+    for i in 0..word(store, at) {
+        if !slot(i) {
+            return false;
+        }
+    }
+    true
+}
+
 // A consumer: its kind is a flag, its nacked list is in order, the reserved word is 0.
 fn consumer_canonical(store: &[u64], at: usize) -> bool
     requires { at + consumer_words ≤ length store.now }
@@ -54,18 +78,13 @@ fn consumers_canonical(store: &[u64]) -> bool
     requires { topic_count_at ≤ length store.now }
     ensures { result ≡ canonical (upto consumer_codec 32) (drop consumer_count_at store.now) }
 {
-    let n = word(store, CONSUMER_COUNT_AT);
-    if MOST_CONSUMERS < n {
-        return false;
-    }
-    let mut i = 0;
-    while i < n {
-        if !consumer_canonical(store, CONSUMERS_AT + i * CONSUMER_WORDS) {
-            return false;
-        }
-        i += 1;
-    }
-    is_blank(store, CONSUMERS_AT + n * CONSUMER_WORDS, TOPIC_COUNT_AT)
+    table_canonical(
+        store,
+        CONSUMER_COUNT_AT,
+        MOST_CONSUMERS,
+        CONSUMER_WORDS,
+        |i| { consumer_canonical(store, CONSUMERS_AT + i * CONSUMER_WORDS) },
+    )
 }
 
 // A topic: the reserved words are 0, its messages are in order.
@@ -84,23 +103,10 @@ fn topics_canonical(store: &[u64], e: usize) -> bool
     requires { (e ≤ 4096) × (dispatcher_count_at e ≤ length store.now) }
     ensures { result ≡ canonical (upto (topic_codec e) 8) (drop topic_count_at store.now) }
 {
-    let n = word(store, TOPIC_COUNT_AT);
-    if MOST_TOPICS < n {
-        return false;
-    }
     let width = TOPIC_WORDS + TOPIC_WORDS_E * e;
-    let mut i = 0;
-    while i < n {
-        if !topic_canonical(store, e, TOPICS_AT + i * width) {
-            return false;
-        }
-        i += 1;
-    }
-    is_blank(
-        store,
-        TOPICS_AT + n * width,
-        DISPATCHER_COUNT_AT + DISPATCHERS_AT_E * e,
-    )
+    table_canonical(store, TOPIC_COUNT_AT, MOST_TOPICS, width, |i| {
+        topic_canonical(store, e, TOPICS_AT + i * width)
+    })
 }
 
 // A dispatcher's marks: each complete word is a flag, the slots past the count are 0.
@@ -108,19 +114,13 @@ fn marks_canonical(store: &[u64], e: usize, at: usize) -> bool
     requires { at + 1 + e * 6 ≤ length store.now }
     ensures { result ≡ canonical (upto mark_codec e) (drop at store.now) }
 {
-    let n = word(store, at);
-    if e < n {
-        return false;
-    }
-    let first = at + 1;
-    let mut i = 0;
-    while i < n {
-        if 1 < store[first + i * MARK_WORDS] {
-            return false;
-        }
-        i += 1;
-    }
-    is_blank(store, first + n * MARK_WORDS, first + e * MARK_WORDS)
+    table_canonical(
+        store,
+        at,
+        e,
+        MARK_WORDS,
+        |i| store[at + 1 + i * MARK_WORDS] <= 1,
+    )
 }
 
 // A dispatcher's four lists of plain words: ring, outside ids, queue, entries in flight.
@@ -160,20 +160,10 @@ fn dispatchers_canonical(store: &[u64], e: usize) -> bool
     ensures { result ≡ canonical (upto (dispatcher_codec e) 8) (drop (dispatcher_count_at e) store.now) }
 {
     let count = DISPATCHER_COUNT_AT + DISPATCHERS_AT_E * e;
-    let n = word(store, count);
-    if MOST_DISPATCHERS < n {
-        return false;
-    }
-    let first = count + 1;
     let width = DISPATCHER_WORDS + DISPATCHER_WORDS_E * e;
-    let mut i = 0;
-    while i < n {
-        if !dispatcher_canonical(store, e, first + i * width) {
-            return false;
-        }
-        i += 1;
-    }
-    is_blank(store, first + n * width, RESERVED_AT + RESERVED_AT_E * e)
+    table_canonical(store, count, MOST_DISPATCHERS, width, |i| {
+        dispatcher_canonical(store, e, count + 1 + i * width)
+    })
 }
 
 // The body of a store of `e` entries: its tables are in order, the reserved words are 0.
