@@ -8,7 +8,7 @@ ghost use Rattle.push_turn.specs.Turns.{local_from, turn_of, numbers_of, fixed_n
 use super::choice::choose;
 use super::price::price;
 use dispatcher::queue::{queue_count, queued};
-use head::{Head, dispatch_from};
+use head::Head;
 use store::permits::ZERO_PERMITS;
 
 // One dispatch: the consumer's slot, the entry's position, its cost, the consumer's permits after it.
@@ -68,7 +68,7 @@ fn hand_over(
         price: cost,
         permits: left,
     };
-    Turn::Move(step, dispatch_from(head, next, cursor, cost), taken)
+    Turn::Move(step, head.dispatched(next, cursor, cost), taken)
 }
 
 // The next entry goes to the consumer in slot `c`, and next moves whether there is one or not.
@@ -123,7 +123,7 @@ fn take_entry(
             taken,
         );
     }
-    Turn::Stop(dispatch_from(head, next, cursor, 0), taken)
+    Turn::Stop(head.dispatched(next, cursor, 0), taken)
 }
 
 // One turn of dispatcher `d`, whose ring is `ring`, on the numbers `permits`, `head` and `taken`.

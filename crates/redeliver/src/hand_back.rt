@@ -10,7 +10,7 @@ ghost use Rattle.layout.specs.Placed.{DispatcherIn};
 ghost use Rattle.groups.specs.Walk.{Fits, Stands, group_at, groups_from};
 ghost use Rattle.redeliver.specs.Back.{handed};
 
-use dispatcher::flight::{find_hold, flight_count, remove_flight};
+use dispatcher::flight::{find_hold, remove_flight};
 use dispatcher::marks::raise_count;
 use dispatcher::queue::append_queue;
 use groups::walk::group_end;
@@ -34,8 +34,7 @@ fn hand_back(store: &mut [u64], e: usize, d: usize, topic: u64, id: u64, list: &
         (λ x. redeliver_id (ledger_of (decode store.old) topic) id x (group_at list.now at).id) }
 {
     let k = position_here(store, e, topic, list, at);
-    let j = find_hold(store, e, d, id, k);
-    if j < flight_count(store, e, d) {
+    if let Some(j) = find_hold(store, e, d, id, k) {
         hand_back_held(store, e, d, j, k);
     }
 }

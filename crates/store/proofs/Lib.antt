@@ -1,6 +1,7 @@
 pub mod Blank
 pub mod Clear
 pub mod Finding
+pub mod Founds
 pub mod Inside
 pub mod Moving
 pub mod Opened

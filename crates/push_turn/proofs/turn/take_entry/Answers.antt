@@ -58,7 +58,7 @@ returns c =
     let u = c.if-cursor-n.false in
     let m = c.requires.0.ledger_length in
     record {
-      turn = ap (λ (h : numbers.Head). stop (local_from a.permits.now h a.taken)) c.dispatch_from.ensures
+      turn = ap (λ (h : numbers.Head). stop (local_from a.permits.now h a.taken)) c.dispatched.ensures
           ∙ entry_none (fixed_of (decode a.store.now) (dispatcher_nth (decode a.store.now) a.d)) (local_from a.permits.now a.head a.taken) a.next a.c (omega arith) (omega arith);
-      mark_delete = ap (λ (h : numbers.Head). h.mark_delete) c.dispatch_from.ensures;
+      mark_delete = ap (λ (h : numbers.Head). h.mark_delete) c.dispatched.ensures;
     }
