@@ -22,8 +22,8 @@ ghost use Rattle.consumer.specs.Live.{Live};
 ghost use Rattle.ack.specs.Ackable.{Ackable, OutsideFits};
 
 use ack_id::ack_all;
-use consumer::fields::{dispatcher_of, is_shared, topic};
-use consumer::lookup::{Lookup, find_consumer};
+use consumer::fields::{is_shared, shared_dispatcher, topic};
+use consumer::lookup::find_consumer;
 use dispatcher::completion::{advance_mark_delete, drop_complete};
 use dispatcher::numbers::mark_delete;
 use groups::list::Groups;
@@ -39,7 +39,7 @@ pub fn ack(store: &mut [u64], consumer: u64, list: &[u64]) -> Answer
     ensures words { store.new ≡ after store.old (Ack consumer list.now) }
 {
     let e = entries(store);
-    let Lookup::Live(i) = find_consumer(store, e, consumer) else {
+    let Some(i) = find_consumer(store, e, consumer) else {
         return Err(Refusal::NotLive);
     };
     let Some(groups) = Groups::of(list) else {
@@ -66,7 +66,7 @@ fn ack_shared(store: &mut [u64], e: usize, i: usize, consumer: u64, groups: Grou
     ensures answer { word_of result ≡ answer store.old (Ack consumer groups.entry.list.now) }
     ensures words { store.new ≡ after store.old (Ack consumer groups.entry.list.now) }
 {
-    let d = dispatcher_of(store, e, i);
+    let d = shared_dispatcher(store, e, i);
     let number = topic(store, e, i);
     if passes_64(store, e, d, number, groups) {
         return Err(Refusal::IdsFull);

@@ -32,8 +32,7 @@ pub(crate) fn is_outside(store: &[u64], e: usize, d: usize, ledger: u64, entry: 
     requires { DispatcherIn e store.now d }
     ensures { result ≡ is_outside (id_of ledger entry) (dispatcher_now store.now d) }
 {
-    let j = find_outside(store, e, d, ledger, entry);
-    j < outside_count(store, e, d)
+    find_outside(store, e, d, ledger, entry).is_some()
 }
 
 // Whether some group of those that are left has the id of `group`.

@@ -13,7 +13,7 @@ ghost use Rattle.append.specs.Entries.{gained, TakesEntry, Takes};
 
 use dispatcher::marks::{complete_mark, mark_count, raise_marks};
 use dispatcher::numbers;
-use dispatcher::outside::{find_outside, outside_count, remove_outside};
+use dispatcher::outside::{find_outside, remove_outside};
 use dispatcher::table::dispatcher_count;
 
 // Every dispatcher of the topic gains the mark of the new entry.
@@ -44,10 +44,9 @@ fn gain_entry(store: &mut [u64], e: usize, d: usize, ledger: u64, entry: u64)
     ensures { store.new ≡ dispatcher_changed store.old d (gained (id_of ledger entry)) }
 {
     let k = mark_count(store, e, d);
-    let n = outside_count(store, e, d);
-    let j = find_outside(store, e, d, ledger, entry);
+    let found = find_outside(store, e, d, ledger, entry);
     raise_marks(store, e, d, k);
-    if j < n {
+    if let Some(j) = found {
         complete_mark(store, e, d, k);
         remove_outside(store, e, d, j);
     }

@@ -9,8 +9,8 @@ ghost use Rattle.layout.specs.Layout.{decode, spells};
 ghost use Rattle.layout.specs.Fields.{consumer_now, dispatcher_now};
 ghost use Rattle.layout.specs.Placed.{ConsumerIn, DispatcherIn};
 
-use consumer::fields::{is_shared, permits, subscription, topic};
-use consumer::lookup::{Lookup, find_consumer};
+use consumer::fields::{is_shared, pair, permits};
+use consumer::lookup::find_consumer;
 use dispatcher::ring::{ring_count, ring_id};
 use dispatcher::table::is_of_pair;
 use store::permits::ZERO_PERMITS;
@@ -23,7 +23,7 @@ fn is_under(store: &[u64], e: usize, d: usize, i: usize) -> bool
     if !is_shared(store, e, i) {
         return false;
     }
-    is_of_pair(store, e, d, topic(store, e, i), subscription(store, e, i))
+    is_of_pair(store, e, d, pair(store, e, i))
 }
 
 // A sum with the permits of the consumer `id` added, if it is live under dispatcher `d`.
@@ -31,7 +31,7 @@ fn add_permits(store: &[u64], e: usize, d: usize, id: u64, sum: u64) -> u64
     requires { DispatcherIn e store.now d × (spells store.now ≡ true) × (2 ^ 61 ≤ sum) × (sum ≤ 2 ^ 63) }
     ensures { result ≡ add_permits (dispatcher_now store.now d).pair sum (consumer_of (decode store.now) id) }
 {
-    let Lookup::Live(i) = find_consumer(store, e, id) else {
+    let Some(i) = find_consumer(store, e, id) else {
         return sum;
     };
     if !is_under(store, e, d, i) {

@@ -18,13 +18,14 @@ use ack::ack;
 use append::append;
 use check_state::spells;
 use close::close;
+use command_parts::{Kind, Target};
 use flow::flow;
 use push::push;
 use redeliver::redeliver;
 use refusal::{Refusal, word_of};
-use seek::command::{Seek, Target};
+use seek::command::Seek;
 use seek::seek;
-use subscribe::command::{Kind, Subscribe};
+use subscribe::command::Subscribe;
 use subscribe::subscribe;
 
 // Opens a store for `entries` entries per topic; the two switches are off at 0, else on.

@@ -10,7 +10,7 @@ ghost use Rattle.layout.specs.Canon.{CanonStore};
 ghost use Rattle.layout.specs.Fields.{consumer_now};
 ghost use Rattle.check_state.specs.ValidConsumers.{numbers_valid, nacked_valid, places_valid, attached_valid};
 
-use dispatcher::table::in_ring;
+use dispatcher::table::{Pair, in_ring};
 use store::limits::MOST_NUMBER;
 use store::offsets::{
     CONSUMER_COUNT_AT, CONSUMER_CURSOR_IN, CONSUMER_SUBSCRIPTION_IN, CONSUMER_TOPIC_IN,
@@ -77,13 +77,11 @@ fn attached_valid(store: &[u64], e: usize, i: usize) -> bool
     if store[at + KIND_IN] == 0 {
         return true;
     }
-    in_ring(
-        store,
-        e,
-        store[at + CONSUMER_TOPIC_IN],
-        store[at + CONSUMER_SUBSCRIPTION_IN],
-        store[at],
-    )
+    let pair = Pair {
+        topic: store[at + CONSUMER_TOPIC_IN],
+        subscription: store[at + CONSUMER_SUBSCRIPTION_IN],
+    };
+    in_ring(store, e, pair, store[at])
 }
 
 // Whether consumer i is valid.

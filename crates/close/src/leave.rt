@@ -25,7 +25,7 @@ fn leave_ring(store: &mut [u64], e: usize, d: usize, id: u64)
     requires { DispatcherIn e store.old d × MemberOf id (dispatcher_now store.old d) }
     ensures { store.new ≡ dispatcher_changed store.old d (out_of_ring id) }
 {
-    let j = find_ring(store, e, d, id);
+    let j = find_ring(store, e, d, id).unwrap();
     let to = next_of(next(store, e, d), ring_count(store, e, d) - 1);
     remove_ring(store, e, d, j);
     set_next(store, e, d, to);

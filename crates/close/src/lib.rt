@@ -17,8 +17,8 @@ ghost use Rattle.refusal.specs.Words.{word_of};
 ghost use Rattle.store.specs.Find.{slot};
 ghost use Rattle.consumer.specs.Live.{Live};
 
-use consumer::fields::{dispatcher_of, is_shared, permits};
-use consumer::lookup::{Lookup, find_consumer};
+use consumer::fields::{is_shared, permits, shared_dispatcher};
+use consumer::lookup::find_consumer;
 use consumer::table::remove_consumer;
 use dispatcher::total::total_available_permits;
 use leave::leave;
@@ -70,7 +70,7 @@ fn close_shared(store: &mut [u64], e: usize, i: usize, id: u64) -> Answer
     ensures answer { word_of result ≡ answer store.old (Close id) }
     ensures words { store.new ≡ after store.old (Close id) }
 {
-    let d = dispatcher_of(store, e, i);
+    let d = shared_dispatcher(store, e, i);
     let total = total_without(store, e, i, d);
     if in_range(total) {
         leave(store, e, d, id, total);
@@ -100,7 +100,7 @@ pub fn close(store: &mut [u64], consumer: u64) -> Answer
     ensures words { store.new ≡ after store.old (Close consumer) }
 {
     let e = entries(store);
-    let Lookup::Live(i) = find_consumer(store, e, consumer) else {
+    let Some(i) = find_consumer(store, e, consumer) else {
         return Ok(0);
     };
     close_live(store, e, i, consumer)

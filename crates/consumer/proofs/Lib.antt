@@ -1,5 +1,5 @@
 pub mod Found
-pub mod Looked
+pub mod Lists
 pub mod Lookups
 pub mod Making
 pub mod NackedWords

@@ -1,12 +1,12 @@
 -- A consumer made word by word.
-use mathlib.Core.Path.{◌≡◌, refl, ap, ◌∙◌}
+use mathlib.Core.Path.{◌≡◌, ap, ◌∙◌}
 use mathlib.Core.List.{List, []}
-use Prim.Native.Nat.{ℕ, zero, suc, ◌+◌, ◌≤◌}
+use Prim.Native.Nat.{ℕ, ◌+◌, ◌≤◌}
 use native.Mathlib.Omega.{arith}
 use lib.ListN.{set}
 use Rattle.words.specs.Codec.{bit}
 use Rattle.rules.specs.Permits.{zero_permits}
-use Rattle.rules.specs.State.{Consumer}
+use Rattle.rules.specs.State.{Kind, Consumer}
 use Rattle.rules.specs.Commands.{new_consumer, with_permits, with_reading}
 use Rattle.layout.specs.Records.{flag_of}
 use Rattle.layout.specs.Layout.{decode, put}
@@ -17,14 +17,6 @@ use Rattle.layout.specs.Fields.{consumer_nth, consumer_now, put_consumer_at, set
 use Rattle.layout.proofs.Sets as sets
 use Rattle.layout.proofs.Store.{canon_entries}
 use Rattle.operation_laws.proofs.Frame.{consumer_twice, consumer_still_in}
-use Rattle.consumer.specs.Made.{kind_at}
-
--- a kind's word
-kind_word : (n : ℕ) → n ≤ 1 → n ≡ bit (flag_of (kind_at n))
-unfolding kind_at
-kind_word zero h = refl
-kind_word (suc zero) h = refl
-kind_word (suc (suc n)) h = let none : ⊥ = omega arith in absurd none
 
 -- ---- a consumer
 
@@ -41,25 +33,25 @@ module _ {e : ℕ} {ws : List ℕ} (i : ℕ) (h : ConsumerIn e ws i) where
       (f (consumer_still_in ws (decode ws) i c h.canon.shaped (canon_entries h.canon) k w h.there))
 
   -- its six words
-  pub made_consumer : {us : List ℕ} (id kind topic subscription : ℕ) → kind ≤ 1
+  pub made_consumer : {us : List ℕ} (id n topic subscription : ℕ) (kind : Kind) → n ≡ bit (flag_of kind)
       → Has us (with_reading (consumer_nth (decode ws) i) (consumer_nth (decode ws) i).cursor [])
-      → Has (set (set (set (set (set (set us (consumer_at i) id) (consumer_at i + 1) topic) (consumer_at i + 2) subscription) (consumer_at i + 3) kind) (consumer_at i + 4) zero_permits) (consumer_at i + 5) 0)
-      (new_consumer id (kind_at kind) (record { topic = topic; subscription = subscription }))
+      → Has (set (set (set (set (set (set us (consumer_at i) id) (consumer_at i + 1) topic) (consumer_at i + 2) subscription) (consumer_at i + 3) n) (consumer_at i + 4) zero_permits) (consumer_at i + 5) 0)
+      (new_consumer id kind (record { topic = topic; subscription = subscription }))
   unfolding with_reading with_id with_pair of_topic of_subscription with_kind with_permits new_consumer
-  made_consumer {us} id kind topic subscription k w =
+  made_consumer {us} id n topic subscription kind k w =
       let c0 = with_reading (consumer_nth (decode ws) i) (consumer_nth (decode ws) i).cursor [] in
       let c1 = with_id c0 id in
       let c2 = with_pair c1 (of_topic c1.pair topic) in
       let c3 = with_pair c2 (of_subscription c2.pair subscription) in
-      let c4 = with_kind c3 (kind_at kind) in
+      let c4 = with_kind c3 kind in
       let c5 = with_permits c4 zero_permits in
       let short : 0 ≤ 64 = omega arith in
       let w1 = then c0 (λ (c : Consumer). with_id c id) short w (λ x. sets.write_consumer_id x.canon i x.there id) in
       let w2 = then c1 (λ (c : Consumer). with_pair c (of_topic c.pair topic)) short w1 (λ x. sets.write_consumer_topic x.canon i x.there topic) in
       let w3 = then c2 (λ (c : Consumer). with_pair c (of_subscription c.pair subscription)) short w2 (λ x. sets.write_consumer_subscription x.canon i x.there subscription) in
-      let w4 : Has (set (set (set (set us (consumer_at i) id) (consumer_at i + 1) topic) (consumer_at i + 2) subscription) (consumer_at i + 3) kind) c4 =
-      then c3 (λ (c : Consumer). with_kind c (kind_at kind)) short w3
-      (λ x. ap (set (set (set (set us (consumer_at i) id) (consumer_at i + 1) topic) (consumer_at i + 2) subscription) (consumer_at i + 3)) (kind_word kind k) ∙ sets.write_consumer_kind x.canon i x.there (kind_at kind)) in
+      let w4 : Has (set (set (set (set us (consumer_at i) id) (consumer_at i + 1) topic) (consumer_at i + 2) subscription) (consumer_at i + 3) n) c4 =
+      then c3 (λ (c : Consumer). with_kind c kind) short w3
+      (λ x. ap (set (set (set (set us (consumer_at i) id) (consumer_at i + 1) topic) (consumer_at i + 2) subscription) (consumer_at i + 3)) k ∙ sets.write_consumer_kind x.canon i x.there kind) in
       let w5 = then c4 (λ (c : Consumer). with_permits c zero_permits) short w4 (λ x. sets.write_consumer_permits x.canon i x.there zero_permits) in
       then c5 (λ (c : Consumer). with_reading c 0 c.nacked) short w5 (λ x. sets.write_consumer_cursor x.canon i x.there 0)
 

@@ -1,3 +1,3 @@
+pub mod Lists
 pub mod Live
 pub mod Lookup
-pub mod Made

@@ -1,14 +1,17 @@
 // A live consumer in a store, by its slot: what operations read and write of it.
-ghost use Rattle.std.specs.Prelude.{◌≡◌};
+ghost use Rattle.std.specs.Prelude.{◌≡◌, ◌<◌, length};
 ghost use Rattle.rules.specs.State.{by_pair};
+ghost use Rattle.rules.specs.State.Kind.{shared};
 ghost use Rattle.rules.specs.Commands.{with_permits, with_reading};
 ghost use Rattle.layout.specs.Records.{flag_of};
 ghost use Rattle.layout.specs.Layout.{decode};
-ghost use Rattle.layout.specs.Fields.{consumer_now, consumer_changed};
+ghost use Rattle.layout.specs.Fields.{pair_of, consumer_now, consumer_changed};
 ghost use Rattle.layout.specs.Placed.{ConsumerIn};
 ghost use Rattle.store.specs.Find.{slot};
+ghost use Rattle.store.specs.Found.{found};
+ghost use Rattle.consumer.specs.Live.{Live};
 
-use dispatcher::table::find_dispatcher;
+use dispatcher::table::{Pair, find_dispatcher};
 use store::offsets::{
     CONSUMER_CURSOR_IN, CONSUMER_SUBSCRIPTION_IN, CONSUMER_TOPIC_IN, KIND_IN, PERMITS_IN,
     consumer_at,
@@ -42,13 +45,16 @@ pub fn topic(store: &[u64], e: usize, i: usize) -> u64
     store[at + CONSUMER_TOPIC_IN]
 }
 
-// The subscription of consumer `i`.
-pub fn subscription(store: &[u64], e: usize, i: usize) -> u64
+// The pair of consumer `i`.
+pub fn pair(store: &[u64], e: usize, i: usize) -> Pair
     requires { ConsumerIn e store.now i }
-    ensures { result ≡ (consumer_now store.now i).pair.subscription }
+    ensures { pair_of result.topic result.subscription ≡ (consumer_now store.now i).pair }
 {
     let at = consumer_at(i);
-    store[at + CONSUMER_SUBSCRIPTION_IN]
+    Pair {
+        topic: store[at + CONSUMER_TOPIC_IN],
+        subscription: store[at + CONSUMER_SUBSCRIPTION_IN],
+    }
 }
 
 // Whether consumer `i` is a shared one.
@@ -70,11 +76,20 @@ pub fn cursor(store: &[u64], e: usize, i: usize) -> usize
 }
 
 // The slot of the dispatcher of consumer `i`.
-pub fn dispatcher_of(store: &[u64], e: usize, i: usize) -> usize
+pub fn dispatcher_of(store: &[u64], e: usize, i: usize) -> Option<usize>
     requires { ConsumerIn e store.now i }
-    ensures { result ≡ slot by_pair (consumer_now store.now i).pair (decode store.now).dispatchers }
+    ensures { result ≡ found by_pair (consumer_now store.now i).pair (decode store.now).dispatchers }
 {
-    find_dispatcher(store, e, topic(store, e, i), subscription(store, e, i))
+    find_dispatcher(store, e, pair(store, e, i))
+}
+
+// The slot of the dispatcher of the live shared consumer `i`, which has one.
+pub fn shared_dispatcher(store: &[u64], e: usize, i: usize) -> usize
+    requires { Live e store.now i × ((consumer_now store.now i).kind ≡ shared) }
+    ensures { (result ≡ slot by_pair (consumer_now store.now i).pair (decode store.now).dispatchers)
+        × (result < length (decode store.now).dispatchers) }
+{
+    dispatcher_of(store, e, i).unwrap()
 }
 
 // Consumer `i` gets other permits.

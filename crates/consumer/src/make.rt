@@ -1,11 +1,13 @@
 // A consumer as a subscribe makes it, written word by word.
-ghost use Rattle.std.specs.Prelude.{◌≡◌, ◌≤◌};
+ghost use Rattle.std.specs.Prelude.{◌≡◌};
 ghost use Rattle.rules.specs.Commands.{new_consumer};
 ghost use Rattle.layout.specs.Fields.{pair_of, put_consumer_at};
 ghost use Rattle.layout.specs.Placed.{ConsumerIn};
-ghost use Rattle.consumer.specs.Made.{kind_at};
+ghost use Rattle.command_parts.specs.Parts.{kind_of};
 
 use super::nacked::clear_nacked;
+use command_parts::Kind;
+use dispatcher::table::Pair;
 use store::offsets::{
     CONSUMER_CURSOR_IN, CONSUMER_SUBSCRIPTION_IN, CONSUMER_TOPIC_IN, KIND_IN, PERMITS_IN,
     consumer_at,
@@ -13,24 +15,17 @@ use store::offsets::{
 use store::permits::ZERO_PERMITS;
 
 // Consumer `i` becomes a new one.
-pub fn make_consumer(
-    store: &mut [u64],
-    e: usize,
-    i: usize,
-    id: u64,
-    kind: u64,
-    topic: u64,
-    subscription: u64,
-)
-    requires { ConsumerIn e store.old i × (kind ≤ 1) }
-    ensures { store.new ≡ put_consumer_at store.old i (new_consumer id (kind_at kind) (pair_of topic subscription)) }
+pub fn make_consumer(store: &mut [u64], e: usize, i: usize, id: u64, kind: Kind, pair: Pair)
+    requires { ConsumerIn e store.old i }
+    ensures { store.new ≡ put_consumer_at store.old i (new_consumer id (kind_of kind) (pair_of pair.topic pair.subscription)) }
 {
+    let word = kind.number();
     clear_nacked(store, e, i);
     let at = consumer_at(i);
     store[at] = id;
-    store[at + CONSUMER_TOPIC_IN] = topic;
-    store[at + CONSUMER_SUBSCRIPTION_IN] = subscription;
-    store[at + KIND_IN] = kind;
+    store[at + CONSUMER_TOPIC_IN] = pair.topic;
+    store[at + CONSUMER_SUBSCRIPTION_IN] = pair.subscription;
+    store[at + KIND_IN] = word;
     store[at + PERMITS_IN] = ZERO_PERMITS;
     store[at + CONSUMER_CURSOR_IN] = 0;
 }

@@ -3,18 +3,31 @@ ghost use Rattle.std.specs.Prelude.{◌≡◌, [], ◌++◌, ◌∷◌, ◌≤�
 ghost use Rattle.rules.specs.Commands.{with_reading};
 ghost use Rattle.layout.specs.Fields.{consumer_now, consumer_changed};
 ghost use Rattle.layout.specs.Placed.{ConsumerIn};
+ghost use Rattle.consumer.specs.Lists.{nacked_list};
 
-use store::movers::close_gap;
+use store::counted::Counted;
 use store::offsets::{NACKED_IN, NACKED_LIST_IN, consumer_at};
-use store::stretch::{clear_words, word};
+use store::stretch::word;
+
+// The nacked positions of consumer `i`, as a list in a store.
+fn nacked_list(i: usize) -> Counted
+    requires { i ≤ 32 }
+    ensures { result ≡ nacked_list i }
+{
+    let at = consumer_at(i);
+    Counted {
+        count_at: at + NACKED_IN,
+        first: at + NACKED_LIST_IN,
+        width: 1,
+    }
+}
 
 // The number of nacked entries of consumer `i`.
 pub fn nacked_count(store: &[u64], e: usize, i: usize) -> usize
     requires { ConsumerIn e store.now i }
     ensures { result ≡ length (consumer_now store.now i).nacked }
 {
-    let at = consumer_at(i);
-    word(store, at + NACKED_IN)
+    nacked_list(i).count(store)
 }
 
 // Nacked position `j` of consumer `i`.
@@ -31,10 +44,7 @@ pub fn append_nacked(store: &mut [u64], e: usize, i: usize, k: usize)
     requires { ConsumerIn e store.old i × (length (consumer_now store.old i).nacked < 64) }
     ensures { store.new ≡ consumer_changed store.old i (λ x. with_reading x x.cursor (x.nacked ++ k ∷ [])) }
 {
-    let at = consumer_at(i);
-    let n = word(store, at + NACKED_IN);
-    store[at + NACKED_LIST_IN + n] = k as u64;
-    store[at + NACKED_IN] = (n + 1) as u64;
+    nacked_list(i).push(store, k as u64);
 }
 
 // The first `n` nacked positions of consumer `i` are taken out.
@@ -42,10 +52,7 @@ pub fn drop_nacked(store: &mut [u64], e: usize, i: usize, n: usize)
     requires { ConsumerIn e store.old i × (n ≤ length (consumer_now store.old i).nacked) }
     ensures { store.new ≡ consumer_changed store.old i (λ x. with_reading x x.cursor (drop n x.nacked)) }
 {
-    let at = consumer_at(i);
-    let count = word(store, at + NACKED_IN);
-    close_gap(store, at + NACKED_LIST_IN, n, count - n);
-    store[at + NACKED_IN] = (count - n) as u64;
+    nacked_list(i).drop_first(store, n);
 }
 
 // The nacked entries of consumer `i` are cleared.
@@ -53,8 +60,5 @@ pub fn clear_nacked(store: &mut [u64], e: usize, i: usize)
     requires { ConsumerIn e store.old i }
     ensures { store.new ≡ consumer_changed store.old i (λ x. with_reading x x.cursor []) }
 {
-    let at = consumer_at(i);
-    let n = word(store, at + NACKED_IN);
-    clear_words(store, at + NACKED_LIST_IN, at + NACKED_LIST_IN + n);
-    store[at + NACKED_IN] = 0;
+    nacked_list(i).cut(store, 0);
 }

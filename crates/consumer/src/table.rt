@@ -7,16 +7,25 @@ ghost use Rattle.layout.specs.Fields.{zero_consumer, state_changed};
 ghost use Rattle.layout.specs.Placed.{ConsumerIn};
 ghost use Rattle.operation_laws.specs.Place.{place};
 
-use store::movers::{close_gap, open_gap};
-use store::offsets::{CONSUMER_COUNT_AT, CONSUMER_WORDS, CONSUMERS_AT, consumer_at};
-use store::stretch::word;
+use super::fields::consumer_id;
+use search::first_row;
+use store::counted::Counted;
+use store::movers::open_gap;
+use store::offsets::{CONSUMER_COUNT_AT, CONSUMER_WORDS, CONSUMERS_AT};
+
+// The consumers, as a list in a store.
+const CONSUMERS: Counted = Counted {
+    count_at: CONSUMER_COUNT_AT,
+    first: CONSUMERS_AT,
+    width: CONSUMER_WORDS,
+};
 
 // The number of consumers.
 pub fn consumer_count(store: &[u64], e: usize) -> usize
     requires { CanonStore e store.now }
     ensures { result ≡ length (decode store.now).consumers }
 {
-    word(store, CONSUMER_COUNT_AT)
+    CONSUMERS.count(store)
 }
 
 // How many consumers stand before the first whose id is above `id`.
@@ -25,14 +34,7 @@ pub fn place_of(store: &[u64], e: usize, id: u64) -> usize
     ensures { result ≡ place id (decode store.now).consumers }
 {
     let n = consumer_count(store, e);
-    let mut i = 0;
-    while i < n {
-        if id < store[CONSUMERS_AT + i * CONSUMER_WORDS] {
-            return i;
-        }
-        i += 1;
-    }
-    i
+    first_row(n, |i| id < consumer_id(store, e, i)).unwrap_or(n)
 }
 
 // The table of `n` consumers, which has room, gains a blank one at `i`.
@@ -52,8 +54,5 @@ pub fn remove_consumer(store: &mut [u64], e: usize, i: usize)
     ensures { store.new ≡ state_changed store.old
         (λ s. with_consumers s (take i s.consumers ++ drop (i + 1) s.consumers)) }
 {
-    let n = consumer_count(store, e);
-    let at = consumer_at(i);
-    close_gap(store, at, CONSUMER_WORDS, (n - (i + 1)) * CONSUMER_WORDS);
-    store[CONSUMER_COUNT_AT] = (n - 1) as u64;
+    CONSUMERS.remove(store, i);
 }

@@ -56,14 +56,6 @@ advanced_there d h r k p q e = rw (e, q, p)
 abbrev pub stays_for : ℕ → Dispatcher → Held → Bool
 stays_for id d h = not (eqb id h.holder && complete_at d h.position)
 
--- another holder's stays
-pub stays_other : (t b : Bool) → t ≡ false → true ≡ not (t && b)
-stays_other t b e = rw e
-
--- the consumer's own stays if it is not complete
-pub stays_own : (t b r : Bool) → t ≡ true → r ≡ b → not r ≡ not (t && b)
-stays_own t b r e f = rw (e, f)
-
 -- the store while what is in flight is thinned: the places before j are looked at, and w entries stayed
 pub record Dropping (e d id : ℕ) (ws us : List ℕ) (j w : ℕ) : Type 0 where
   pub flight : List Held

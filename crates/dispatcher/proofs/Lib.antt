@@ -1,6 +1,7 @@
 pub mod Completing
 pub mod Gaps
 pub mod Keeping
+pub mod Lists
 pub mod Loads
 pub mod Making
 pub mod Places

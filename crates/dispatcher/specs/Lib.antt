@@ -1,5 +1,6 @@
 pub mod Completion
 pub mod Held
+pub mod Lists
 pub mod Outside
 pub mod Returned
 pub mod Values

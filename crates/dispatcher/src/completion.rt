@@ -10,7 +10,6 @@ ghost use Rattle.dispatcher.specs.Held.{held_now};
 use super::flight::{flight_count, keep_flight, load_held, save_held};
 use super::marks::{is_complete, mark_count};
 use super::numbers::{load_head, save_head};
-use head::advance_from;
 
 // Whether entry `j` in flight of dispatcher `d` stays when `id` drops its complete entries.
 fn stays(store: &[u64], e: usize, d: usize, id: u64, j: usize) -> bool
@@ -20,10 +19,7 @@ fn stays(store: &[u64], e: usize, d: usize, id: u64, j: usize) -> bool
         && complete_at (dispatcher_now store.now d) (held_now store.now d j).position) }
 {
     let h = load_held(store, e, d, j);
-    if h.holder == id {
-        return !is_complete(store, e, d, h.position);
-    }
-    true
+    h.holder != id || !is_complete(store, e, d, h.position)
 }
 
 // The consumer `id` drops its complete entries of dispatcher `d`; no other holder does. Those that
@@ -33,15 +29,13 @@ pub fn drop_complete(store: &mut [u64], e: usize, d: usize, id: u64)
     ensures { store.new ≡ dispatcher_changed store.old d (drop_complete id) }
 {
     let n = flight_count(store, e, d);
-    let mut j = 0;
     let mut kept = 0;
-    while j < n {
+    for j in 0..n {
         if stays(store, e, d, id, j) {
             let h = load_held(store, e, d, j);
             save_held(store, e, d, kept, h);
             kept += 1;
         }
-        j += 1;
     }
     keep_flight(store, e, d, kept);
 }
@@ -52,14 +46,12 @@ fn first_incomplete(store: &[u64], e: usize, d: usize, from: usize) -> usize
     ensures { result ≡ from + leading_complete (drop from (dispatcher_now store.now d).marks) }
 {
     let n = mark_count(store, e, d);
-    let mut k = from;
-    while k < n {
+    for k in from..n {
         if !is_complete(store, e, d, k) {
             return k;
         }
-        k += 1;
     }
-    k
+    from.max(n)
 }
 
 // The mark-delete of dispatcher `d` goes forward while the entry there is complete.
@@ -69,5 +61,5 @@ pub fn advance_mark_delete(store: &mut [u64], e: usize, d: usize)
 {
     let head = load_head(store, e, d);
     let k = first_incomplete(store, e, d, head.mark_delete);
-    save_head(store, e, d, advance_from(head, k));
+    save_head(store, e, d, head.advanced(k));
 }

@@ -1,59 +1,58 @@
 // The entries of a dispatcher that its consumers hold, in dispatch order. Each has two words, its
 // holder and its position.
 ghost use Rattle.std.specs.Prelude.{◌≡◌, ◌++◌, ◌∷◌, [], ◌+◌, ◌≤◌, ◌<◌, length, set, take, drop};
-ghost use Rattle.rules.specs.Dispatcher.{with_places, is_hold};
+ghost use Rattle.rules.specs.Dispatcher.{with_places};
 ghost use Rattle.layout.specs.Fields.{dispatcher_now, dispatcher_changed};
 ghost use Rattle.layout.specs.Placed.{DispatcherIn};
-ghost use Rattle.store.specs.Find.{slot};
-ghost use Rattle.dispatcher.specs.Held.{held_of, held_at, held_now, by_hold};
+ghost use Rattle.store.specs.Found.{found};
+ghost use Rattle.dispatcher.specs.Held.{held_of, held_now, by_hold};
+ghost use Rattle.dispatcher.specs.Lists.{flight_list};
 
-use store::movers::close_gap;
+use search::first_row;
+use store::counted::Counted;
 use store::offsets::{FLIGHT_IN, HELD_IN, HELD_WORDS, POSITION_IN, dispatcher_at};
-use store::stretch::{clear_words, word};
+use store::stretch::word;
+
+// What is in flight of dispatcher `d`, as a list in a store.
+fn flight_list(e: usize, d: usize) -> Counted
+    requires { (e ≤ 4096) × (d ≤ 8) }
+    ensures { result ≡ flight_list e d }
+{
+    let at = dispatcher_at(e, d);
+    Counted {
+        count_at: at + FLIGHT_IN + e,
+        first: at + HELD_IN + e,
+        width: HELD_WORDS,
+    }
+}
 
 // The number of entries in flight of dispatcher `d`.
 pub fn flight_count(store: &[u64], e: usize, d: usize) -> usize
     requires { DispatcherIn e store.now d }
     ensures { result ≡ length (dispatcher_now store.now d).in_flight }
 {
-    let at = dispatcher_at(e, d);
-    word(store, at + FLIGHT_IN + e)
+    flight_list(e, d).count(store)
 }
 
 // An entry in flight by value.
-#[derive(Clone, Copy)]
+#[derive(Clone, Copy, PartialEq, Eq)]
 pub struct Held {
     pub holder: u64,
     pub position: usize,
 }
 
-// Whether the entry in flight at an offset is `id`'s hold on position `k`.
-fn same_hold(store: &[u64], at: usize, id: u64, k: usize) -> bool
-    requires { at + 1 < length store.now }
-    ensures { result ≡ is_hold id k (held_at store.now at) }
-{
-    if id == store[at] {
-        k as u64 == store[at + POSITION_IN]
-    } else {
-        false
-    }
-}
-
-// The slot of `id`'s hold on position `k` of dispatcher `d`; the number in flight if there is none.
-pub fn find_hold(store: &[u64], e: usize, d: usize, id: u64, k: usize) -> usize
+// The slot of `id`'s hold on position `k` of dispatcher `d`.
+pub fn find_hold(store: &[u64], e: usize, d: usize, id: u64, k: usize) -> Option<usize>
     requires { DispatcherIn e store.now d }
-    ensures { result ≡ slot by_hold (held_of id k) (dispatcher_now store.now d).in_flight }
+    ensures { result ≡ found by_hold (held_of id k) (dispatcher_now store.now d).in_flight }
 {
-    let at = dispatcher_at(e, d);
-    let n = word(store, at + FLIGHT_IN + e);
-    let mut j = 0;
-    while j < n {
-        if same_hold(store, at + HELD_IN + e + j * HELD_WORDS, id, k) {
-            return j;
-        }
-        j += 1;
-    }
-    j
+    let held = Held {
+        holder: id,
+        position: k,
+    };
+    first_row(flight_count(store, e, d), |j| {
+        held == load_held(store, e, d, j)
+    })
 }
 
 // Entry `j` in flight of dispatcher `d` is left out; those after it keep their order.
@@ -62,15 +61,7 @@ pub fn remove_flight(store: &mut [u64], e: usize, d: usize, j: usize)
     ensures { store.new ≡ dispatcher_changed store.old d
         (λ x. with_places x x.redelivery (take j x.in_flight ++ drop (j + 1) x.in_flight)) }
 {
-    let at = dispatcher_at(e, d);
-    let n = word(store, at + FLIGHT_IN + e);
-    close_gap(
-        store,
-        at + HELD_IN + e + j * HELD_WORDS,
-        HELD_WORDS,
-        (n - (j + 1)) * HELD_WORDS,
-    );
-    store[at + FLIGHT_IN + e] = (n - 1) as u64;
+    flight_list(e, d).remove(store, j);
 }
 
 // `id` holds position `k` of dispatcher `d`, after all that is in flight.
@@ -115,12 +106,5 @@ pub(crate) fn keep_flight(store: &mut [u64], e: usize, d: usize, n: usize)
     requires { DispatcherIn e store.old d × (n ≤ length (dispatcher_now store.old d).in_flight) }
     ensures { store.new ≡ dispatcher_changed store.old d (λ x. with_places x x.redelivery (take n x.in_flight)) }
 {
-    let at = dispatcher_at(e, d);
-    let count = word(store, at + FLIGHT_IN + e);
-    clear_words(
-        store,
-        at + HELD_IN + e + n * HELD_WORDS,
-        at + HELD_IN + e + count * HELD_WORDS,
-    );
-    store[at + FLIGHT_IN + e] = n as u64;
+    flight_list(e, d).cut(store, n);
 }

@@ -5,6 +5,7 @@ ghost use Rattle.layout.specs.Layout.{decode};
 ghost use Rattle.layout.specs.Canon.{CanonStore};
 ghost use Rattle.layout.specs.Fields.{zero_dispatcher, pair_of, state_changed};
 
+use super::table::Pair;
 use store::offsets::{
     DISPATCHER_COUNT_AT, DISPATCHERS_AT_E, MARKS_IN, MARKS_IN_E, SUBSCRIPTION_IN, TOTAL_IN,
     dispatcher_at,
@@ -21,22 +22,15 @@ fn raise_dispatchers(store: &mut [u64], e: usize, n: usize)
 }
 
 // The table, which has `n` dispatchers and room, gains a new one over a ledger of `entries`.
-pub fn make_dispatcher(
-    store: &mut [u64],
-    e: usize,
-    n: usize,
-    topic: u64,
-    subscription: u64,
-    entries: usize,
-)
+pub fn make_dispatcher(store: &mut [u64], e: usize, n: usize, pair: Pair, entries: usize)
     requires { CanonStore e store.old × (n ≡ length (decode store.old).dispatchers) × (n < 8) × (entries ≤ e) }
     ensures { store.new ≡ state_changed store.old
-        (λ s. with_dispatchers s (s.dispatchers ++ new_dispatcher (pair_of topic subscription) entries ∷ [])) }
+        (λ s. with_dispatchers s (s.dispatchers ++ new_dispatcher (pair_of pair.topic pair.subscription) entries ∷ [])) }
 {
     raise_dispatchers(store, e, n);
     let at = dispatcher_at(e, n);
-    store[at] = topic;
-    store[at + SUBSCRIPTION_IN] = subscription;
+    store[at] = pair.topic;
+    store[at + SUBSCRIPTION_IN] = pair.subscription;
     store[at + TOTAL_IN] = ZERO_PERMITS;
     store[at + MARKS_IN + MARKS_IN_E * e] = entries as u64;
 }

@@ -1,5 +1,5 @@
 // The marks of a dispatcher, one for each entry of its topic.
-ghost use Rattle.std.specs.Prelude.{◌≡◌, true, ◌++◌, ◌∷◌, [], suc, ◌-◌, ◌^◌, ◌<◌, min, length, get_or, set};
+ghost use Rattle.std.specs.Prelude.{◌≡◌, true, ◌++◌, ◌∷◌, [], ◌<◌, length, get_or, set};
 ghost use Rattle.rules.specs.State.{new_mark};
 ghost use Rattle.rules.specs.Dispatcher.{with_marks, mark_at, complete_at};
 ghost use Rattle.rules.specs.Commands.{raised};
@@ -52,17 +52,6 @@ pub fn complete_mark(store: &mut [u64], e: usize, d: usize, k: usize)
     store[at + MARK_IN + MARKS_IN_E * e + k * MARK_WORDS] = 1;
 }
 
-// One more than a redelivery count, stopping at 2^32 - 1.
-fn one_more(count: u64) -> u64
-    ensures { result ≡ min (suc count) (2 ^ 32 - 1) }
-{
-    if count < MOST_REDELIVERIES {
-        count + 1
-    } else {
-        MOST_REDELIVERIES
-    }
-}
-
 // The redelivery count of mark `k` of dispatcher `d` goes up by 1, stopping at 2^32 - 1.
 pub fn raise_count(store: &mut [u64], e: usize, d: usize, k: usize)
     requires { DispatcherIn e store.old d × (k < length (dispatcher_now store.old d).marks) }
@@ -71,7 +60,7 @@ pub fn raise_count(store: &mut [u64], e: usize, d: usize, k: usize)
 {
     let at = dispatcher_at(e, d);
     let count = at + REDELIVERY_COUNTS_IN + MARKS_IN_E * e + k * MARK_WORDS;
-    store[count] = one_more(store[count]);
+    store[count] = store[count].saturating_add(1).min(MOST_REDELIVERIES);
 }
 
 // Mark `k` of dispatcher `d`.

@@ -1,42 +1,61 @@
 // The complete ids of a dispatcher that are not in the ledger. They ascend by ledger, then by entry.
-ghost use Rattle.std.specs.Prelude.{◌≡◌, ◌++◌, ◌+◌, ◌<◌, length, take, drop};
+ghost use Rattle.std.specs.Prelude.{◌≡◌, ◌++◌, ◌+◌, ◌≤◌, ◌<◌, length, get_or, take, drop};
+ghost use Rattle.rules.specs.State.{same_id};
 ghost use Rattle.rules.specs.Ledger.{after_id, insert_id};
 ghost use Rattle.rules.specs.Dispatcher.{with_marks};
-ghost use Rattle.layout.specs.Fields.{dispatcher_now, dispatcher_changed};
+ghost use Rattle.layout.specs.Fields.{zero_id, dispatcher_now, dispatcher_changed};
 ghost use Rattle.layout.specs.Placed.{DispatcherIn};
 ghost use Rattle.store.specs.Find.{slot};
-ghost use Rattle.topic.specs.Ids.{id_of, id_at};
+ghost use Rattle.store.specs.Found.{found};
+ghost use Rattle.topic.specs.Ids.{id_of};
+ghost use Rattle.dispatcher.specs.Lists.{outside_list};
 ghost use Rattle.dispatcher.specs.Outside.{by_itself, by_order};
 
-use store::movers::{close_gap, move_up};
+use search::first_row;
+use store::counted::Counted;
+use store::movers::move_up;
 use store::offsets::{ENTRY_IN, ID_WORDS, OUTSIDE_IDS_IN, OUTSIDE_IN, dispatcher_at};
 use store::stretch::word;
 use topic::find::same_id;
+
+// The outside ids of dispatcher `d`, as a list in a store.
+fn outside_list(e: usize, d: usize) -> Counted
+    requires { (e ≤ 4096) × (d ≤ 8) }
+    ensures { result ≡ outside_list e d }
+{
+    let at = dispatcher_at(e, d);
+    Counted {
+        count_at: at + OUTSIDE_IN,
+        first: at + OUTSIDE_IDS_IN,
+        width: ID_WORDS,
+    }
+}
 
 // The number of outside ids of dispatcher `d`.
 pub fn outside_count(store: &[u64], e: usize, d: usize) -> usize
     requires { DispatcherIn e store.now d }
     ensures { result ≡ length (dispatcher_now store.now d).outside }
 {
-    let at = dispatcher_at(e, d);
-    word(store, at + OUTSIDE_IN)
+    outside_list(e, d).count(store)
 }
 
-// The place of an id among the outside ids of dispatcher `d`; their number where it is not there.
-pub fn find_outside(store: &[u64], e: usize, d: usize, ledger: u64, entry: u64) -> usize
-    requires { DispatcherIn e store.now d }
-    ensures { result ≡ slot by_itself (id_of ledger entry) (dispatcher_now store.now d).outside }
+// Whether outside id `j` of dispatcher `d` is (`ledger`, `entry`).
+fn is_id(store: &[u64], e: usize, d: usize, j: usize, ledger: u64, entry: u64) -> bool
+    requires { DispatcherIn e store.now d × (j < length (dispatcher_now store.now d).outside) }
+    ensures { result ≡ same_id (id_of ledger entry) (get_or (dispatcher_now store.now d).outside j zero_id) }
 {
     let at = dispatcher_at(e, d);
-    let n = word(store, at + OUTSIDE_IN);
-    let mut j = 0;
-    while j < n {
-        if same_id(store, at + OUTSIDE_IDS_IN + j * ID_WORDS, ledger, entry) {
-            return j;
-        }
-        j += 1;
-    }
-    j
+    same_id(store, at + OUTSIDE_IDS_IN + j * ID_WORDS, ledger, entry)
+}
+
+// The place of an id among the outside ids of dispatcher `d`.
+pub fn find_outside(store: &[u64], e: usize, d: usize, ledger: u64, entry: u64) -> Option<usize>
+    requires { DispatcherIn e store.now d }
+    ensures { result ≡ found by_itself (id_of ledger entry) (dispatcher_now store.now d).outside }
+{
+    first_row(outside_count(store, e, d), |j| {
+        is_id(store, e, d, j, ledger, entry)
+    })
 }
 
 // Outside id `j` of dispatcher `d` is left out; those after it keep their order.
@@ -45,22 +64,15 @@ pub fn remove_outside(store: &mut [u64], e: usize, d: usize, j: usize)
     ensures { store.new ≡ dispatcher_changed store.old d
         (λ x. with_marks x x.marks (take j x.outside ++ drop (j + 1) x.outside)) }
 {
-    let at = dispatcher_at(e, d);
-    let n = word(store, at + OUTSIDE_IN);
-    close_gap(
-        store,
-        at + OUTSIDE_IDS_IN + j * ID_WORDS,
-        ID_WORDS,
-        (n - (j + 1)) * ID_WORDS,
-    );
-    store[at + OUTSIDE_IN] = (n - 1) as u64;
+    outside_list(e, d).remove(store, j);
 }
 
-// Whether the id at an offset comes after (`ledger`, `entry`).
-fn is_after(store: &[u64], at: usize, ledger: u64, entry: u64) -> bool
-    requires { at + 1 < length store.now }
-    ensures { result ≡ after_id (id_at store.now at) (id_of ledger entry) }
+// Whether outside id `j` of dispatcher `d` comes after (`ledger`, `entry`).
+fn is_after(store: &[u64], e: usize, d: usize, j: usize, ledger: u64, entry: u64) -> bool
+    requires { DispatcherIn e store.now d × (j < length (dispatcher_now store.now d).outside) }
+    ensures { result ≡ after_id (get_or (dispatcher_now store.now d).outside j zero_id) (id_of ledger entry) }
 {
+    let at = dispatcher_at(e, d) + OUTSIDE_IDS_IN + j * ID_WORDS;
     if store[at] == ledger {
         entry < store[at + ENTRY_IN]
     } else {
@@ -68,22 +80,14 @@ fn is_after(store: &[u64], at: usize, ledger: u64, entry: u64) -> bool
     }
 }
 
-// The place of an id among the outside ids of dispatcher `d`: that of the first which comes after it,
-// their number where there is none.
+// The place for an id among the outside ids of dispatcher `d`: that of the first which comes after it,
+// or else their end.
 fn place_for_outside(store: &[u64], e: usize, d: usize, ledger: u64, entry: u64) -> usize
     requires { DispatcherIn e store.now d }
     ensures { result ≡ slot by_order (id_of ledger entry) (dispatcher_now store.now d).outside }
 {
-    let at = dispatcher_at(e, d);
-    let n = word(store, at + OUTSIDE_IN);
-    let mut j = 0;
-    while j < n {
-        if is_after(store, at + OUTSIDE_IDS_IN + j * ID_WORDS, ledger, entry) {
-            return j;
-        }
-        j += 1;
-    }
-    j
+    let n = outside_count(store, e, d);
+    first_row(n, |j| is_after(store, e, d, j, ledger, entry)).unwrap_or(n)
 }
 
 // An id joins the outside ids of dispatcher `d`, which have room, in its place among them.

@@ -33,11 +33,9 @@ pub fn return_held(store: &mut [u64], e: usize, d: usize, id: u64)
     ensures { store.new ≡ dispatcher_changed store.old d (all_back id) }
 {
     let n = flight_count(store, e, d);
-    let mut j = 0;
     let mut kept = 0;
-    while j < n {
+    for j in 0..n {
         kept = return_or_keep(store, e, d, id, j, kept);
-        j += 1;
     }
     keep_flight(store, e, d, kept);
 }

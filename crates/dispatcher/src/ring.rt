@@ -1,22 +1,35 @@
 // The ids of the consumers that are attached to a dispatcher, in attach order. Each has one word.
-ghost use Rattle.std.specs.Prelude.{◌≡◌, ◌++◌, ◌∷◌, [], ◌+◌, ◌<◌, length, get_or, take, drop};
+ghost use Rattle.std.specs.Prelude.{◌≡◌, ◌++◌, ◌∷◌, [], ◌+◌, ◌≤◌, ◌<◌, length, get_or, take, drop};
 ghost use Rattle.rules.specs.Dispatcher.{with_attached};
 ghost use Rattle.layout.specs.Fields.{dispatcher_now, dispatcher_changed};
 ghost use Rattle.layout.specs.Placed.{DispatcherIn};
-ghost use Rattle.store.specs.Find.{slot};
+ghost use Rattle.store.specs.Found.{found};
 ghost use Rattle.dispatcher.specs.Held.{by_value};
+ghost use Rattle.dispatcher.specs.Lists.{ring_list};
 
-use store::movers::close_gap;
+use search::first_row;
+use store::counted::Counted;
 use store::offsets::{RING_IDS_IN, RING_IN, dispatcher_at};
-use store::stretch::{is_word, word};
+
+// The ring ids of dispatcher `d`, as a list in a store.
+fn ring_list(e: usize, d: usize) -> Counted
+    requires { (e ≤ 4096) × (d ≤ 8) }
+    ensures { result ≡ ring_list e d }
+{
+    let at = dispatcher_at(e, d);
+    Counted {
+        count_at: at + RING_IN,
+        first: at + RING_IDS_IN,
+        width: 1,
+    }
+}
 
 // The number of ring ids of dispatcher `d`.
 pub fn ring_count(store: &[u64], e: usize, d: usize) -> usize
     requires { DispatcherIn e store.now d }
     ensures { result ≡ length (dispatcher_now store.now d).attached }
 {
-    let at = dispatcher_at(e, d);
-    word(store, at + RING_IN)
+    ring_list(e, d).count(store)
 }
 
 // Ring id `j` of dispatcher `d`.
@@ -28,21 +41,12 @@ pub fn ring_id(store: &[u64], e: usize, d: usize, j: usize) -> u64
     store[at + RING_IDS_IN + j]
 }
 
-// The slot of `id` in the ring of dispatcher `d`; the number of ring ids where it is not there.
-pub fn find_ring(store: &[u64], e: usize, d: usize, id: u64) -> usize
+// The slot of `id` in the ring of dispatcher `d`.
+pub fn find_ring(store: &[u64], e: usize, d: usize, id: u64) -> Option<usize>
     requires { DispatcherIn e store.now d }
-    ensures { result ≡ slot by_value id (dispatcher_now store.now d).attached }
+    ensures { result ≡ found by_value id (dispatcher_now store.now d).attached }
 {
-    let at = dispatcher_at(e, d);
-    let n = word(store, at + RING_IN);
-    let mut j = 0;
-    while j < n {
-        if is_word(store, at + RING_IDS_IN + j, id) {
-            return j;
-        }
-        j += 1;
-    }
-    j
+    first_row(ring_count(store, e, d), |j| id == ring_id(store, e, d, j))
 }
 
 // Ring id `j` of dispatcher `d` is left out; those after it keep their order.
@@ -51,10 +55,7 @@ pub fn remove_ring(store: &mut [u64], e: usize, d: usize, j: usize)
     ensures { store.new ≡ dispatcher_changed store.old d
         (λ x. with_attached x (take j x.attached ++ drop (j + 1) x.attached)) }
 {
-    let at = dispatcher_at(e, d);
-    let n = word(store, at + RING_IN);
-    close_gap(store, at + RING_IDS_IN + j, 1, n - (j + 1));
-    store[at + RING_IN] = (n - 1) as u64;
+    ring_list(e, d).remove(store, j);
 }
 
 // `id` goes to the end of the ring of dispatcher `d`.
@@ -62,8 +63,5 @@ pub fn append_ring(store: &mut [u64], e: usize, d: usize, id: u64)
     requires { DispatcherIn e store.old d × (length (dispatcher_now store.old d).attached < 32) }
     ensures { store.new ≡ dispatcher_changed store.old d (λ x. with_attached x (x.attached ++ id ∷ [])) }
 {
-    let at = dispatcher_at(e, d);
-    let n = word(store, at + RING_IN);
-    store[at + RING_IDS_IN + n] = id;
-    store[at + RING_IN] = (n + 1) as u64;
+    ring_list(e, d).push(store, id);
 }

@@ -11,8 +11,8 @@ ghost use Rattle.layout.specs.Fields.{consumer_now};
 ghost use Rattle.refusal.specs.Words.{word_of};
 ghost use Rattle.consumer.specs.Live.{Live};
 
-use consumer::fields::{dispatcher_of, is_shared, permits, set_permits};
-use consumer::lookup::{Lookup, find_consumer};
+use consumer::fields::{is_shared, permits, set_permits, shared_dispatcher};
+use consumer::lookup::find_consumer;
 use dispatcher::total::{set_total_available_permits, total_available_permits};
 use refusal::{Answer, Refusal};
 use store::answers::entries;
@@ -26,7 +26,7 @@ pub fn flow(store: &mut [u64], consumer: u64, grant: u32) -> Answer
     ensures words { store.new ≡ after store.old (Flow consumer grant) }
 {
     let e = entries(store);
-    let Lookup::Live(i) = find_consumer(store, e, consumer) else {
+    let Some(i) = find_consumer(store, e, consumer) else {
         return Err(Refusal::NotLive);
     };
     flow_live(store, e, i, grant as u64)
@@ -56,7 +56,7 @@ fn flow_shared(store: &mut [u64], e: usize, i: usize, grant: u64, granted: u64) 
     ensures answer { word_of result ≡ answer store.old (Flow (consumer_now store.old i).id grant) }
     ensures words { store.new ≡ after store.old (Flow (consumer_now store.old i).id grant) }
 {
-    let d = dispatcher_of(store, e, i);
+    let d = shared_dispatcher(store, e, i);
     let total = total_available_permits(store, e, d) + grant;
     if MOST_TOTAL < total {
         return Err(Refusal::PermitsRange);

@@ -8,7 +8,7 @@ ghost use Rattle.layout.specs.Placed.{DispatcherIn};
 ghost use Rattle.store.specs.Find.{slot};
 ghost use Rattle.push_turn.specs.Turns.{fixed_now};
 
-use consumer::lookup::{Lookup, find_consumer};
+use consumer::lookup::find_consumer;
 use consumer::table::consumer_count;
 use dispatcher::ring::ring_id;
 
@@ -17,7 +17,7 @@ fn slot_of(store: &[u64], e: usize, id: u64) -> usize
     requires { CanonStore e store.now }
     ensures { result ≡ slot by_id id (decode store.now).consumers }
 {
-    let Lookup::Live(i) = find_consumer(store, e, id) else {
+    let Some(i) = find_consumer(store, e, id) else {
         return consumer_count(store, e);
     };
     i

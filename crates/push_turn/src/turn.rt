@@ -9,7 +9,6 @@ use super::choice::choose;
 use super::price::price;
 use super::service::{Numbers, Served};
 use dispatcher::queue::{queue_count, queued};
-use head::dispatch_from;
 use store::permits::ZERO_PERMITS;
 
 // One dispatch: the consumer's slot, the entry's position, its cost, the consumer's permits after it.
@@ -49,7 +48,7 @@ fn hand_over(
     let cost = price(store, served, k);
     let left = permits[c] - cost;
     permits[c] = left;
-    numbers.head = dispatch_from(numbers.head, next, cursor, cost);
+    numbers.head = numbers.head.dispatched(next, cursor, cost);
     Step {
         consumer: c,
         position: k,
@@ -83,7 +82,7 @@ fn take_entry(
         let step = hand_over(store, served, permits, c, cursor, next, cursor + 1, numbers);
         return Some(step);
     }
-    numbers.head = dispatch_from(numbers.head, next, cursor, 0);
+    numbers.head = numbers.head.dispatched(next, cursor, 0);
     None
 }
 

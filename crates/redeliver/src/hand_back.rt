@@ -10,7 +10,7 @@ ghost use Rattle.layout.specs.Placed.{DispatcherIn};
 ghost use Rattle.groups.specs.Lent.{group_of, groups_in};
 ghost use Rattle.redeliver.specs.Back.{handed};
 
-use dispatcher::flight::{find_hold, flight_count, remove_flight};
+use dispatcher::flight::{find_hold, remove_flight};
 use dispatcher::marks::raise_count;
 use dispatcher::queue::append_queue;
 use groups::group::Group;
@@ -38,8 +38,7 @@ fn hand_back(store: &mut [u64], e: usize, d: usize, topic: u64, id: u64, group: 
     let Some(k) = position_in(store, e, topic, group) else {
         return;
     };
-    let j = find_hold(store, e, d, id, k);
-    if j < flight_count(store, e, d) {
+    if let Some(j) = find_hold(store, e, d, id, k) {
         hand_back_held(store, e, d, j, k);
     }
 }

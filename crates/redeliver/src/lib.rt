@@ -14,8 +14,8 @@ ghost use Rattle.layout.specs.Fields.{consumer_now};
 ghost use Rattle.refusal.specs.Words.{word_of};
 ghost use Rattle.consumer.specs.Live.{Live};
 
-use consumer::fields::{dispatcher_of, is_shared, topic};
-use consumer::lookup::{Lookup, find_consumer};
+use consumer::fields::{is_shared, shared_dispatcher, topic};
+use consumer::lookup::find_consumer;
 use consumer::nacked::nacked_count;
 use found::{found_count, join_found};
 use groups::list::Groups;
@@ -31,7 +31,7 @@ pub fn redeliver(store: &mut [u64], consumer: u64, list: &[u64]) -> Answer
     ensures words { store.new ≡ after store.old (Redeliver consumer list.now) }
 {
     let e = entries(store);
-    let Lookup::Live(i) = find_consumer(store, e, consumer) else {
+    let Some(i) = find_consumer(store, e, consumer) else {
         return Err(Refusal::NotLive);
     };
     let Some(groups) = Groups::of(list) else {
@@ -74,7 +74,7 @@ fn redeliver_shared(store: &mut [u64], e: usize, i: usize, consumer: u64, groups
     ensures words { store.new ≡ after store.old (Redeliver consumer groups.entry.list.now) }
 {
     let number = topic(store, e, i);
-    let d = dispatcher_of(store, e, i);
+    let d = shared_dispatcher(store, e, i);
     hand_back_all(store, e, d, number, consumer, groups);
     Ok(0)
 }

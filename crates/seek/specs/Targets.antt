@@ -1,18 +1,10 @@
 -- A seek command as the rules have it.
 use Rattle.std.specs.Prelude.{ℕ}
-use Rattle.rules.specs.Commands.{Target}
-use Rattle.rules.specs.Commands.Target.{start, to_id}
 use Rattle.rules.specs.Calls.{Call}
 use Rattle.rules.specs.Calls.Call.{Seek}
-use Rattle.topic.specs.Ids.{id_of}
-use Rattle.seek.specs.declared.command.Target as declared
-use Rattle.seek.specs.declared.command.Target.TheVariants as variants
+use Rattle.command_parts.specs.declared.Target as declared
+use Rattle.command_parts.specs.Parts.{target_of}
 use Rattle.seek.specs.declared.command.Seek as command
-
--- the target that the code's enum stands for
-unfoldable pub target_of : declared.Target → Target
-target_of variants.Start = start
-target_of (variants.Id ledger entry) = to_id (id_of ledger entry)
 
 -- the call of a consumer's seek
 abbrev pub seek_to : ℕ → declared.Target → Call

@@ -15,11 +15,13 @@ ghost use Rattle.layout.specs.Fields.{consumer_now};
 ghost use Rattle.refusal.specs.Words.{word_of};
 ghost use Rattle.topic.specs.Ids.{id_of};
 ghost use Rattle.consumer.specs.Live.{Live};
-ghost use Rattle.seek.specs.Targets.{target_of, seek_to, seek_call};
+ghost use Rattle.command_parts.specs.Parts.{target_of};
+ghost use Rattle.seek.specs.Targets.{seek_to, seek_call};
 
-use command::{Seek, Target};
+use command::Seek;
+use command_parts::Target;
 use consumer::fields::{set_cursor, topic};
-use consumer::lookup::{Lookup, find_consumer};
+use consumer::lookup::find_consumer;
 use consumer::nacked::clear_nacked;
 use refusal::{Answer, Refusal};
 use store::answers::entries;
@@ -33,7 +35,7 @@ pub fn seek(store: &mut [u64], command: Seek) -> Answer
     ensures words { store.new ≡ after store.old (seek_call command) }
 {
     let e = entries(store);
-    let Lookup::Live(i) = find_consumer(store, e, command.consumer) else {
+    let Some(i) = find_consumer(store, e, command.consumer) else {
         return Err(Refusal::NotLive);
     };
     let target = command.target;

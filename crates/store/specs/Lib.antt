@@ -1,3 +1,4 @@
+pub mod Counted
 pub mod Find
 pub mod Found
 pub mod Open

@@ -3,6 +3,7 @@
 #![tactic(auto)]
 
 pub mod answers;
+pub mod counted;
 pub mod limits;
 pub mod movers;
 pub mod offsets;

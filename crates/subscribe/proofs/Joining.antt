@@ -3,9 +3,7 @@ use mathlib.Core.Path.{◌≡◌, refl, sym, ap, ◌∙◌, subst}
 use mathlib.Core.Bool.{true, false}
 use mathlib.Core.List.{List, [], ◌∷◌, ◌++◌}
 use Prim.Native.Nat.{ℕ, suc, ◌+◌, ◌≤◌, ◌<◌}
-use native.Mathlib.Nat.{le_of_suc-le-suc, not-suc-le-zero}
 use native.Mathlib.Omega.{arith}
-use lib.Dec.{eqb}
 use lib.ListN.{replicate, length, length-append, length-replicate, set, get_or}
 use lib.Seq.{get_or-append_seam, set-append_seam, set-get_or}
 use Rattle.words.proofs.Each.{all_append}
@@ -23,27 +21,10 @@ use Rattle.layout.proofs.Store.{put_decode, canon_entries}
 use Rattle.layout.proofs.Valid.{ledger_fits}
 use Rattle.layout.proofs.Placed.{dispatcher_in, shaped_dispatchers}
 use Rattle.store.specs.Find.{slot}
-use Rattle.dispatcher.specs.Held.{by_value}
 use Rattle.operation_laws.proofs.Frame.{dispatcher_found, dispatcher_found_pair, set_dispatcher_put, dispatcher_missing, put_dispatcher_last, then_write, canon_after, decode_after}
 use Rattle.subscribe.specs.Seats.{Joins}
 
 -- ---- a ring that is there
-
--- an id with a slot is in the ring
-pub in_ring : (id : ℕ) (l : List ℕ) → slot by_value id l < length l → member id l ≡ true
-unfolding slot member any
-in_ring id [] h = absurd (not-suc-le-zero h)
-in_ring id (a ∷ l) h =
-    by_test (eqb id a) (λ t. rw t)
-    (λ t. let h' : suc (slot by_value id l) < suc (length l) = rw t at h in rw t (in_ring id l (le_of_suc-le-suc h')))
-
--- an id with none is not
-pub out_of_ring : (id : ℕ) (l : List ℕ) → length l ≤ slot by_value id l → member id l ≡ false
-unfolding slot member any
-out_of_ring id [] h = refl
-out_of_ring id (a ∷ l) h =
-    by_test (eqb id a) (λ t. let h' : suc (length l) ≤ 0 = rw t at h in absurd (not-suc-le-zero h'))
-    (λ t. let h' : suc (length l) ≤ suc (slot by_value id l) = rw t at h in rw t (out_of_ring id l (le_of_suc-le-suc h')))
 
 -- it stays as it is
 pub join_stays : {e : ℕ} {ws : List ℕ} (d id : ℕ) → CanonStore e ws → member id (dispatcher_nth (decode ws) d).attached ≡ true

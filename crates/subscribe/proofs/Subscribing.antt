@@ -26,23 +26,24 @@ use Rattle.subscribe.specs.Seats.{Seats, Joins}
 -- ---- the tests
 
 module _ (s : State) where
-  -- a live id
-  pub live_some : (i id : ℕ) → i ≡ slot by_id id s.consumers → i < length s.consumers → true ≡ is_some (consumer_of s id)
-  unfolding is_some
-  live_some i id e h = rw (consumer_found s i id e h)
-
+  -- an id that is not live
   pub live_none : (id : ℕ) → length s.consumers ≤ slot by_id id s.consumers → false ≡ is_some (consumer_of s id)
   unfolding is_some
   live_none id h = rw (consumer_missing s (slot by_id id s.consumers) id refl h)
 
-  -- a pair that has a dispatcher
-  pub pair_some : (d : ℕ) (p : Pair) → d ≡ slot by_pair p s.dispatchers → d < length s.dispatchers → true ≡ is_some (dispatcher_of s p)
-  unfolding is_some dispatcher_of
-  pair_some d p e h = rw (slot_found by_pair p s.dispatchers zero_dispatcher (rw e at h))
-
+  -- a pair that has no dispatcher
   pub pair_none : (d : ℕ) (p : Pair) → d ≡ slot by_pair p s.dispatchers → length s.dispatchers ≤ d → false ≡ is_some (dispatcher_of s p)
   unfolding is_some dispatcher_of
   pair_none d p e h = rw (slot_none by_pair p s.dispatchers (rw e at h))
+
+-- the tests of subscribe by whether the id is live
+pub idle_is : (s : State) (id : ℕ) {live idle : Bool} → live ≡ is_some (consumer_of s id) → idle ≡ live && s.live_id_subscribe_is_noop
+    → is_some (consumer_of s id) && s.live_id_subscribe_is_noop ≡ idle
+idle_is s id e f = rw (← e, f) refl
+
+pub full_is : (s : State) (id : ℕ) {live full : Bool} → live ≡ is_some (consumer_of s id) → full ≡ not live && leb 32 (length s.consumers)
+    → not (is_some (consumer_of s id)) && leb 32 (length s.consumers) ≡ full
+full_is s id e f = rw (← e, f) refl
 
 -- a test of what would be new: not where it is there
 pub not_new : (t u : Bool) → true ≡ t → false ≡ not t && u

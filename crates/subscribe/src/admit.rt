@@ -6,10 +6,10 @@ ghost use Rattle.layout.specs.Layout.{decode};
 ghost use Rattle.layout.specs.Canon.{CanonStore};
 ghost use Rattle.layout.specs.Fields.{pair_of};
 
-use consumer::lookup::{Lookup, find_consumer};
+use consumer::lookup::find_consumer;
 use consumer::table::consumer_count;
 use dispatcher::ring::ring_count;
-use dispatcher::table::{dispatcher_count, find_dispatcher, in_ring};
+use dispatcher::table::{Pair, dispatcher_count, find_dispatcher, in_ring};
 use store::limits::{MOST_CONSUMERS, MOST_DISPATCHERS, MOST_RING_IDS};
 use store::offsets::NOOP_AT;
 
@@ -26,10 +26,7 @@ pub(crate) fn is_live(store: &[u64], e: usize, id: u64) -> bool
     requires { CanonStore e store.now }
     ensures { result ≡ is_some (consumer_of (decode store.now) id) }
 {
-    let Lookup::Live(_) = find_consumer(store, e, id) else {
-        return false;
-    };
-    true
+    find_consumer(store, e, id).is_some()
 }
 
 // Whether there is nothing to do.
@@ -37,10 +34,7 @@ pub(crate) fn is_idle(store: &[u64], e: usize, live: bool) -> bool
     requires { CanonStore e store.now }
     ensures { result ≡ live && (decode store.now).live_id_subscribe_is_noop }
 {
-    if live {
-        return is_noop(store, e);
-    }
-    false
+    live && is_noop(store, e)
 }
 
 // Whether a consumer would be new, and 32 are live.
@@ -48,39 +42,29 @@ pub(crate) fn is_full(store: &[u64], e: usize, live: bool) -> bool
     requires { CanonStore e store.now }
     ensures { result ≡ not live && leb 32 (length (decode store.now).consumers) }
 {
-    if live {
-        return false;
-    }
-    MOST_CONSUMERS <= consumer_count(store, e)
+    !live && MOST_CONSUMERS <= consumer_count(store, e)
 }
 
 // Whether a pair would be new, and 8 exist.
-pub(crate) fn pairs_full(store: &[u64], e: usize, topic: u64, subscription: u64) -> bool
+pub(crate) fn pairs_full(store: &[u64], e: usize, pair: Pair) -> bool
     requires { CanonStore e store.now }
-    ensures { result ≡ not (is_some (dispatcher_of (decode store.now) (pair_of topic subscription)))
+    ensures { result ≡ not (is_some (dispatcher_of (decode store.now) (pair_of pair.topic pair.subscription)))
         && leb 8 (length (decode store.now).dispatchers) }
 {
-    let d = find_dispatcher(store, e, topic, subscription);
-    let n = dispatcher_count(store, e);
-    if d < n {
-        return false;
-    }
-    MOST_DISPATCHERS <= n
+    find_dispatcher(store, e, pair).is_none() && MOST_DISPATCHERS <= dispatcher_count(store, e)
 }
 
 // Whether an id would be new in the ring of a pair, and that has 32.
-pub(crate) fn ring_full(store: &[u64], e: usize, topic: u64, subscription: u64, id: u64) -> bool
+pub(crate) fn ring_full(store: &[u64], e: usize, pair: Pair, id: u64) -> bool
     requires { CanonStore e store.now }
-    ensures { result ≡ not (member id (dispatcher (decode store.now) (pair_of topic subscription)).attached)
-        && leb 32 (length (dispatcher (decode store.now) (pair_of topic subscription)).attached) }
+    ensures { result ≡ not (member id (dispatcher (decode store.now) (pair_of pair.topic pair.subscription)).attached)
+        && leb 32 (length (dispatcher (decode store.now) (pair_of pair.topic pair.subscription)).attached) }
 {
-    if in_ring(store, e, topic, subscription, id) {
+    if in_ring(store, e, pair, id) {
         return false;
     }
-    let d = find_dispatcher(store, e, topic, subscription);
-    let n = dispatcher_count(store, e);
-    if n <= d {
+    let Some(d) = find_dispatcher(store, e, pair) else {
         return false;
-    }
+    };
     MOST_RING_IDS <= ring_count(store, e, d)
 }

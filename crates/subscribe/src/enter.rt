@@ -8,14 +8,16 @@ ghost use Rattle.subscribe.specs.Seats.{Seats, Joins};
 
 use super::join::join;
 use super::seat::seat_consumer;
+use command_parts::Kind;
+use dispatcher::table::Pair;
 
 // The shared consumer `id` is new in the state, or made anew, and is in the ring of its pair.
-pub(crate) fn enter(store: &mut [u64], e: usize, id: u64, topic: u64, subscription: u64)
-    requires { Seats e store.old id × Joins e store.old id (pair_of topic subscription) }
+pub(crate) fn enter(store: &mut [u64], e: usize, id: u64, pair: Pair)
+    requires { Seats e store.old id × Joins e store.old id (pair_of pair.topic pair.subscription) }
     ensures { store.new ≡ state_changed store.old
-        (λ s. put_dispatcher (put_consumer s (new_consumer id shared (pair_of topic subscription)))
-        (joined id (dispatcher s (pair_of topic subscription)))) }
+        (λ s. put_dispatcher (put_consumer s (new_consumer id shared (pair_of pair.topic pair.subscription)))
+        (joined id (dispatcher s (pair_of pair.topic pair.subscription)))) }
 {
-    seat_consumer(store, e, id, 1, topic, subscription);
-    join(store, e, topic, subscription, id);
+    seat_consumer(store, e, id, Kind::Shared, pair);
+    join(store, e, pair, id);
 }

@@ -11,23 +11,20 @@ ghost use Rattle.store.specs.Find.{slot};
 ghost use Rattle.subscribe.specs.Seats.{Joins};
 
 use dispatcher::make::make_dispatcher;
-use dispatcher::ring::{append_ring, find_ring, ring_count};
-use dispatcher::table::{dispatcher_count, find_dispatcher};
+use dispatcher::ring::{append_ring, find_ring};
+use dispatcher::table::{Pair, dispatcher_count, find_dispatcher};
 use topic::table::ledger_length;
 
 // The consumer `id` joins the ring of a pair, if it is not in it yet.
-pub(crate) fn join(store: &mut [u64], e: usize, topic: u64, subscription: u64, id: u64)
-    requires { Joins e store.old id (pair_of topic subscription) }
+pub(crate) fn join(store: &mut [u64], e: usize, pair: Pair, id: u64)
+    requires { Joins e store.old id (pair_of pair.topic pair.subscription) }
     ensures { store.new ≡ state_changed store.old
-        (λ s. put_dispatcher s (joined id (dispatcher s (pair_of topic subscription)))) }
+        (λ s. put_dispatcher s (joined id (dispatcher s (pair_of pair.topic pair.subscription)))) }
 {
-    let d = find_dispatcher(store, e, topic, subscription);
-    let n = dispatcher_count(store, e);
-    if d < n {
-        join_ring(store, e, d, id);
-        return;
+    match find_dispatcher(store, e, pair) {
+        Some(d) => join_ring(store, e, d, id),
+        None => join_new(store, e, pair, id),
     }
-    join_new(store, e, topic, subscription, id);
 }
 
 // The consumer `id` joins the ring of dispatcher `d`, if it is not in it yet.
@@ -36,23 +33,21 @@ fn join_ring(store: &mut [u64], e: usize, d: usize, id: u64)
         × (member id (dispatcher_now store.old d).attached ≡ false → length (dispatcher_now store.old d).attached < 32) }
     ensures { store.new ≡ dispatcher_changed store.old d (joined id) }
 {
-    let n = ring_count(store, e, d);
-    let j = find_ring(store, e, d, id);
-    if n <= j {
+    if find_ring(store, e, d, id).is_none() {
         append_ring(store, e, d, id);
     }
 }
 
 // The consumer `id` joins the ring of a new dispatcher.
-fn join_new(store: &mut [u64], e: usize, topic: u64, subscription: u64, id: u64)
+fn join_new(store: &mut [u64], e: usize, pair: Pair, id: u64)
     requires { CanonStore e store.old
-        × (length (decode store.old).dispatchers ≤ slot by_pair (pair_of topic subscription) (decode store.old).dispatchers)
+        × (length (decode store.old).dispatchers ≤ slot by_pair (pair_of pair.topic pair.subscription) (decode store.old).dispatchers)
         × (length (decode store.old).dispatchers < 8) }
     ensures { store.new ≡ state_changed store.old
-        (λ s. put_dispatcher s (joined id (dispatcher s (pair_of topic subscription)))) }
+        (λ s. put_dispatcher s (joined id (dispatcher s (pair_of pair.topic pair.subscription)))) }
 {
     let n = dispatcher_count(store, e);
-    let entries = ledger_length(store, e, topic);
-    make_dispatcher(store, e, n, topic, subscription, entries);
+    let entries = ledger_length(store, e, pair.topic);
+    make_dispatcher(store, e, n, pair, entries);
     append_ring(store, e, n, id);
 }

@@ -18,7 +18,9 @@ ghost use Rattle.subscribe.specs.Admitted.{Admitted};
 ghost use Rattle.subscribe.specs.Commanded.{subscribe_call};
 
 use admit::{is_full, is_idle, is_live, pairs_full, ring_full};
-use command::{Kind, Subscribe};
+use command::Subscribe;
+use command_parts::Kind;
+use dispatcher::table::Pair;
 use enter::enter;
 use refusal::{Answer, Refusal};
 use seat::seat_consumer;
@@ -39,37 +41,39 @@ pub fn subscribe(store: &mut [u64], command: Subscribe) -> Answer
     if is_full(store, e, live) {
         return Err(Refusal::ConsumersFull);
     }
-    let topic = command.topic as u64;
-    let subscription = command.subscription as u64;
+    let pair = Pair {
+        topic: command.topic as u64,
+        subscription: command.subscription as u64,
+    };
     let kind = command.kind;
     match kind {
-        Kind::Plain => subscribe_plain(store, e, command.consumer, topic, subscription),
-        Kind::Shared => subscribe_shared(store, e, command.consumer, topic, subscription),
+        Kind::Plain => subscribe_plain(store, e, command.consumer, pair),
+        Kind::Shared => subscribe_shared(store, e, command.consumer, pair),
     }
 }
 
 // A plain consumer is made.
-fn subscribe_plain(store: &mut [u64], e: usize, id: u64, topic: u64, subscription: u64) -> Answer
+fn subscribe_plain(store: &mut [u64], e: usize, id: u64, pair: Pair) -> Answer
     requires { Admitted e store.old id }
-    ensures answer { word_of result ≡ answer store.old (Subscribed id plain (pair_of topic subscription)) }
-    ensures words { store.new ≡ after store.old (Subscribed id plain (pair_of topic subscription)) }
+    ensures answer { word_of result ≡ answer store.old (Subscribed id plain (pair_of pair.topic pair.subscription)) }
+    ensures words { store.new ≡ after store.old (Subscribed id plain (pair_of pair.topic pair.subscription)) }
 {
-    seat_consumer(store, e, id, 0, topic, subscription);
+    seat_consumer(store, e, id, Kind::Plain, pair);
     Ok(0)
 }
 
 // A shared consumer is made and joins its ring, if both have room.
-fn subscribe_shared(store: &mut [u64], e: usize, id: u64, topic: u64, subscription: u64) -> Answer
+fn subscribe_shared(store: &mut [u64], e: usize, id: u64, pair: Pair) -> Answer
     requires { Admitted e store.old id }
-    ensures answer { word_of result ≡ answer store.old (Subscribed id shared (pair_of topic subscription)) }
-    ensures words { store.new ≡ after store.old (Subscribed id shared (pair_of topic subscription)) }
+    ensures answer { word_of result ≡ answer store.old (Subscribed id shared (pair_of pair.topic pair.subscription)) }
+    ensures words { store.new ≡ after store.old (Subscribed id shared (pair_of pair.topic pair.subscription)) }
 {
-    if pairs_full(store, e, topic, subscription) {
+    if pairs_full(store, e, pair) {
         return Err(Refusal::DispatchersFull);
     }
-    if ring_full(store, e, topic, subscription, id) {
+    if ring_full(store, e, pair, id) {
         return Err(Refusal::RingFull);
     }
-    enter(store, e, id, topic, subscription);
+    enter(store, e, id, pair);
     Ok(0)
 }

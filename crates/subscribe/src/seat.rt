@@ -7,42 +7,37 @@ ghost use Rattle.layout.specs.Layout.{decode};
 ghost use Rattle.layout.specs.Canon.{CanonStore};
 ghost use Rattle.layout.specs.Fields.{pair_of, state_changed};
 ghost use Rattle.store.specs.Find.{slot};
-ghost use Rattle.consumer.specs.Made.{kind_at};
+ghost use Rattle.command_parts.specs.Parts.{kind_of};
 ghost use Rattle.subscribe.specs.Seats.{Seats};
 
-use consumer::lookup::{Lookup, find_consumer};
+use command_parts::Kind;
+use consumer::lookup::find_consumer;
 use consumer::make::make_consumer;
 use consumer::table::{consumer_count, open_consumer, place_of};
+use dispatcher::table::Pair;
 
 // The consumer `id` is new in the state, or made anew.
-pub(crate) fn seat_consumer(
-    store: &mut [u64],
-    e: usize,
-    id: u64,
-    kind: u64,
-    topic: u64,
-    subscription: u64,
-)
-    requires { Seats e store.old id × (kind ≤ 1) }
+pub(crate) fn seat_consumer(store: &mut [u64], e: usize, id: u64, kind: Kind, pair: Pair)
+    requires { Seats e store.old id }
     ensures { store.new ≡ state_changed store.old
-        (λ s. put_consumer s (new_consumer id (kind_at kind) (pair_of topic subscription))) }
+        (λ s. put_consumer s (new_consumer id (kind_of kind) (pair_of pair.topic pair.subscription))) }
 {
-    let Lookup::Live(i) = find_consumer(store, e, id) else {
-        insert_consumer(store, e, id, kind, topic, subscription);
+    let Some(i) = find_consumer(store, e, id) else {
+        insert_consumer(store, e, id, kind, pair);
         return;
     };
-    make_consumer(store, e, i, id, kind, topic, subscription);
+    make_consumer(store, e, i, id, kind, pair);
 }
 
 // The consumer `id`, which is not live, is made at its place.
-fn insert_consumer(store: &mut [u64], e: usize, id: u64, kind: u64, topic: u64, subscription: u64)
+fn insert_consumer(store: &mut [u64], e: usize, id: u64, kind: Kind, pair: Pair)
     requires { CanonStore e store.old × (length (decode store.old).consumers ≤ slot by_id id (decode store.old).consumers)
-        × (length (decode store.old).consumers < 32) × (kind ≤ 1) }
+        × (length (decode store.old).consumers < 32) }
     ensures { store.new ≡ state_changed store.old
-        (λ s. put_consumer s (new_consumer id (kind_at kind) (pair_of topic subscription))) }
+        (λ s. put_consumer s (new_consumer id (kind_of kind) (pair_of pair.topic pair.subscription))) }
 {
     let n = consumer_count(store, e);
     let i = place_of(store, e, id);
     open_consumer(store, e, i, n);
-    make_consumer(store, e, i, id, kind, topic, subscription);
+    make_consumer(store, e, i, id, kind, pair);
 }

@@ -16,13 +16,14 @@ ghost use Rattle.trace_call.specs.Made.{words_told, made, answered, words_made, 
 use ack::ack;
 use append::append;
 use close::close;
+use command_parts::{Kind, Target};
 use flow::flow;
 use push::push;
 use redeliver::redeliver;
 use refusal::Answer;
-use seek::command::{Seek, Target};
+use seek::command::Seek;
 use seek::seek;
-use subscribe::command::{Kind, Subscribe};
+use subscribe::command::Subscribe;
 use subscribe::subscribe;
 use trace_form::is_call;
 use trace_kind::Command;

@@ -2,8 +2,9 @@
 use mathlib.Core.Path.{sym, ◌∙◌}
 use Rattle.layout.specs.Layout.{decode}
 use Rattle.operation_laws.proofs.Frame.{canon_of, refused_with, consumer_found_id}
-use Rattle.consumer.proofs.Looked.{found_live, found_missing}
 use Rattle.ack.proofs.Outcomes.{ack_dead, ack_formless}
+use Rattle.rules.specs.State.{by_id}
+use Rattle.store.proofs.Founds.{found_some, found_none}
 use Rattle.ack.proofs.ack.Goals as goal
 
 pub find_consumer-requires : goal.find_consumer-requires
@@ -14,19 +15,19 @@ returns-in_default c =
     let a = c.args in
     let s = decode a.store.now in
     refused_with a.store.now _ c.requires
-    (ack_dead s a.consumer a.list.now (found_missing a.consumer s.consumers (sym c.in_default.is ∙ c.find_consumer.ensures.slot)))
+    (ack_dead s a.consumer a.list.now (found_none by_id a.consumer s.consumers (sym c.in_default.is ∙ c.find_consumer.ensures.slot)))
 
 pub returns-in_default-of : goal.returns-in_default-of
 returns-in_default-of c =
     let a = c.args in
     let s = decode a.store.now in
-    let f = found_live a.consumer s.consumers c.in-Live.i (sym c.in-Live.is ∙ c.find_consumer.ensures.slot) in
-    refused_with a.store.now _ c.requires (ack_formless s c.in-Live.i a.consumer a.list.now f.0 f.1 c.in_default-of.ensures)
+    let f = found_some by_id a.consumer s.consumers (sym c.in-Some.is ∙ c.find_consumer.ensures.slot) in
+    refused_with a.store.now _ c.requires (ack_formless s c.in-Some.i a.consumer a.list.now f.0 f.1 c.in_default-of.ensures)
 
 pub ack_live-requires : goal.ack_live-requires
 ack_live-requires c =
     let a = c.args in
     let s = decode a.store.now in
-    let i = c.in-Live.i in
-    let f = found_live a.consumer s.consumers i (sym c.in-Live.is ∙ c.find_consumer.ensures.slot) in
+    let i = c.in-Some.i in
+    let f = found_some by_id a.consumer s.consumers (sym c.in-Some.is ∙ c.find_consumer.ensures.slot) in
     (record { spelt = c.requires; E = c.entries-e.ensures; there = f.1 }, consumer_found_id s i a.consumer f.0 f.1)

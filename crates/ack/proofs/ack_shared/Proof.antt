@@ -25,43 +25,41 @@ use Rattle.ack.proofs.ack_shared.Statement.{statement}
 use Rattle.ack.proofs.ack_shared.Tie as tie
 
 -- the dispatcher of the shared consumer is there
-there : (c : tie.After-dispatcher_of-d) → c.dispatcher_of-d.result < length (decode c.args.store.now).dispatchers
-there c =
-    let h = c.requires.0 in
-    shared_found (decode c.args.store.now) c.dispatcher_of-d.result _ c.dispatcher_of-d.ensures (consumer_nth (decode c.args.store.now) c.args.i) (live_consumer h) c.requires.2 refl
+there : (c : tie.After-shared_dispatcher-d) → c.shared_dispatcher-d.result < length (decode c.args.store.now).dispatchers
+there c = c.shared_dispatcher-d.ensures.1
 
 -- the slot is that of the id
 own_slot : (c : tie.After-topic-number) → c.args.i ≡ slot by_id c.args.consumer (decode c.args.store.now).consumers
 own_slot c = live_slot c.requires.0 ∙ ap (λ (j : ℕ). slot by_id j (decode c.args.store.now).consumers) c.requires.1
 
 -- it is valid
-valid_one : (c : tie.After-topic-number) → ValidDispatcher (decode c.args.store.now) (dispatcher_nth (decode c.args.store.now) c.dispatcher_of-d.result)
-valid_one c = dispatcher_found_valid (decode c.args.store.now) c.dispatcher_of-d.result _ c.dispatcher_of-d.ensures (live_valid c.requires.0) (there c.before)
+valid_one : (c : tie.After-topic-number) → ValidDispatcher (decode c.args.store.now) (dispatcher_nth (decode c.args.store.now) c.shared_dispatcher-d.result)
+valid_one c = dispatcher_found_valid (decode c.args.store.now) c.shared_dispatcher-d.result _ c.shared_dispatcher-d.ensures.0 (live_valid c.requires.0) (there c.before)
 
 -- so it may acknowledge
-ackable : (c : tie.After-topic-number) → Ackable c.args.e c.args.store.now c.dispatcher_of-d.result c.topic-number.result
+ackable : (c : tie.After-topic-number) → Ackable c.args.e c.args.store.now c.shared_dispatcher-d.result c.topic-number.result
 ackable c =
-    valid_ackable c.dispatcher_of-d.result c.topic-number.result (live_canon c.requires.0) (there c.before) (valid_one c)
-    (ap (λ (q : Pair). q.topic) (dispatcher_found_pair (decode c.args.store.now) c.dispatcher_of-d.result _ c.dispatcher_of-d.ensures (there c.before)) ∙ sym c.topic-number.ensures)
+    valid_ackable c.shared_dispatcher-d.result c.topic-number.result (live_canon c.requires.0) (there c.before) (valid_one c)
+    (ap (λ (q : Pair). q.topic) (dispatcher_found_pair (decode c.args.store.now) c.shared_dispatcher-d.result _ c.shared_dispatcher-d.ensures.0 (there c.before)) ∙ sym c.topic-number.ensures)
 
 -- 64 are not passed
-few : (c : tie.Else-passes_64) → length (ack_groups (ledger_of (decode c.args.store.now) c.topic-number.result) (dispatcher_nth (decode c.args.store.now) c.dispatcher_of-d.result) (groups_in c.args.groups)).outside ≤ 64
+few : (c : tie.Else-passes_64) → length (ack_groups (ledger_of (decode c.args.store.now) c.topic-number.result) (dispatcher_nth (decode c.args.store.now) c.shared_dispatcher-d.result) (groups_in c.args.groups)).outside ≤ 64
 few c = ltb-false 64 _ (sym c.passes_64.ensures ∙ c.if-passes_64.false)
 
 -- the dispatcher after the ack
 abbrev acked : (c : tie.Else-passes_64) → Dispatcher
-acked c = ack_groups (ledger_of (decode c.args.store.now) c.topic-number.result) (dispatcher_nth (decode c.args.store.now) c.dispatcher_of-d.result) (groups_in c.args.groups)
+acked c = ack_groups (ledger_of (decode c.args.store.now) c.topic-number.result) (dispatcher_nth (decode c.args.store.now) c.shared_dispatcher-d.result) (groups_in c.args.groups)
 
 -- fits its slots
 fits : (c : tie.Else-passes_64) → ShapedDispatcher c.args.e (advance_mark_delete (drop_complete c.args.consumer (acked c)))
 fits c =
     advance_fits c.args.consumer (acked c)
-    (kept_fits (kept_groups (ledger_of (decode c.args.store.now) c.topic-number.result) (dispatcher_nth (decode c.args.store.now) c.dispatcher_of-d.result) (groups_in c.args.groups)) (ackable c.before.before).within.lists_fit (few c))
+    (kept_fits (kept_groups (ledger_of (decode c.args.store.now) c.topic-number.result) (dispatcher_nth (decode c.args.store.now) c.shared_dispatcher-d.result) (groups_in c.args.groups)) (ackable c.before.before).within.lists_fit (few c))
 
 -- its mark-delete is small
 within : (c : tie.Else-passes_64) → (advance_mark_delete (drop_complete c.args.consumer (acked c))).mark_delete ≤ 4096
 within c =
-    let k = kept_groups (ledger_of (decode c.args.store.now) c.topic-number.result) (dispatcher_nth (decode c.args.store.now) c.dispatcher_of-d.result) (groups_in c.args.groups) in
+    let k = kept_groups (ledger_of (decode c.args.store.now) c.topic-number.result) (dispatcher_nth (decode c.args.store.now) c.shared_dispatcher-d.result) (groups_in c.args.groups) in
     let f = (ackable c.before.before).within.lists_fit.marks_fit in
     let e = (live_canon c.requires.0).E_to in
     let m = valid_delete _ _ (valid_one c.before.before) in
@@ -70,13 +68,13 @@ within c =
     advance_within c.args.consumer (acked c) 4096 (omega arith) (omega arith)
 
 -- and it is that of the words written
-after_is : (c : tie.After-complete) → (dispatcher_nth (decode c.complete.new.store) c.dispatcher_of-d.result).mark_delete ≡ (advance_mark_delete (drop_complete c.args.consumer (acked c.before.before.before))).mark_delete
+after_is : (c : tie.After-complete) → (dispatcher_nth (decode c.complete.new.store) c.shared_dispatcher-d.result).mark_delete ≡ (advance_mark_delete (drop_complete c.args.consumer (acked c.before.before.before))).mark_delete
 after_is c =
     ap (λ (x : Dispatcher). x.mark_delete)
-    (written_is c.dispatcher_of-d.result c.args.consumer (advance_mark_delete (drop_complete c.args.consumer (acked c.before.before.before))) (ackable c.before.before.before.before.before).within (fits c.before.before.before) c.complete.ensures)
+    (written_is c.shared_dispatcher-d.result c.args.consumer (advance_mark_delete (drop_complete c.args.consumer (acked c.before.before.before))) (ackable c.before.before.before.before.before).within (fits c.before.before.before) c.complete.ensures)
 
-dispatcher_of_requires : tie.Need-dispatcher_of-d-requires
-dispatcher_of_requires c κs = live_in c.requires.0
+dispatcher_of_requires : tie.Need-shared_dispatcher-d-requires
+dispatcher_of_requires c κs = (c.requires.0, c.requires.2)
 
 topic_requires : tie.Need-topic-number-requires
 topic_requires c κs = live_in c.requires.0
@@ -95,7 +93,7 @@ returns c =
     let s = decode a.store.now in
     both (refused_with a.store.now _ h.spelt
     (ack_over s a.i a.consumer a.groups.list.now (own_slot c.before.before) h.there (groups_in a.groups) (groups_read a.groups) p.2
-    c.dispatcher_of-d.result c.topic-number.result c.dispatcher_of-d.ensures (there c.before.before.before) c.topic-number.ensures (sym c.passes_64.ensures ∙ c.if-passes_64.true)))
+    c.shared_dispatcher-d.result c.topic-number.result c.shared_dispatcher-d.ensures.0 (there c.before.before.before) c.topic-number.ensures (sym c.passes_64.ensures ∙ c.if-passes_64.true)))
 
 mark_delete_requires : tie.Need-mark_delete-from-requires
 mark_delete_requires c κs = (ackable c.before.before).within
@@ -106,7 +104,7 @@ complete_requires c κs = (ackable c.before.before.before.before, few c.before.b
 mark_delete_requires_2 : tie.Need-mark_delete-requires
 mark_delete_requires_2 c κs =
     let a = c.args in
-    written_in c.dispatcher_of-d.result a.consumer (advance_mark_delete (drop_complete a.consumer (ack_groups (ledger_of (decode a.store.now) c.topic-number.result) (dispatcher_nth (decode a.store.now) c.dispatcher_of-d.result) (groups_in a.groups)))) (ackable c.before.before.before.before.before.before.before).within (fits c.before.before.before.before.before) c.complete.ensures
+    written_in c.shared_dispatcher-d.result a.consumer (advance_mark_delete (drop_complete a.consumer (ack_groups (ledger_of (decode a.store.now) c.topic-number.result) (dispatcher_nth (decode a.store.now) c.shared_dispatcher-d.result) (groups_in a.groups)))) (ackable c.before.before.before.before.before.before.before).within (fits c.before.before.before.before.before) c.complete.ensures
 
 moved_requires : tie.Need-moved-requires
 moved_requires c κs =
@@ -127,7 +125,7 @@ returns_2 c =
     let to = c.mark_delete.ensures ∙ after_is c.before.before.before.before in
     both (done_with a.store.now _ h.spelt _ _
     (ack_done s a.i a.consumer a.groups.list.now (own_slot c.before.before.before.before.before.before.before.before.before) h.there (groups_in a.groups) (groups_read a.groups) p.2
-    c.dispatcher_of-d.result c.topic-number.result c.dispatcher_of-d.ensures (there c.before.before.before.before.before.before.before.before.before.before) c.topic-number.ensures (sym c.passes_64.ensures ∙ c.if-passes_64.false))
+    c.shared_dispatcher-d.result c.topic-number.result c.shared_dispatcher-d.ensures.0 (there c.before.before.before.before.before.before.before.before.before.before) c.topic-number.ensures (sym c.passes_64.ensures ∙ c.if-passes_64.false))
     (value_moved _ _) (ap (λ (n : ℕ). n % 2 ^ 56 * 256) (c.moved.ensures ∙ rw (from, to))) c.complete.ensures)
 
 pub ack_shared_spec : {M : Type 1} → statement M

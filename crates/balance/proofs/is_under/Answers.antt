@@ -1,7 +1,6 @@
 -- `balance::is_under` meets its contract: a plain consumer is not, of a shared one the pairs are compared.
-use mathlib.Core.Path.{ap₂}
 use Rattle.layout.specs.Layout.{decode}
-use Rattle.layout.specs.Fields.{consumer_nth, dispatcher_nth, pair_of}
+use Rattle.layout.specs.Fields.{consumer_nth, dispatcher_nth}
 use Rattle.store.proofs.Tests.{answered_no, answered_yes}
 use Rattle.balance.proofs.Balances.{under_plain, under_shared}
 use Rattle.balance.proofs.is_under.Goals as goal
@@ -17,4 +16,4 @@ returns c =
     let a = c.args in
     let s = decode a.store.now in
     under_shared (dispatcher_nth s a.d).pair (consumer_nth s a.i) (answered_yes c.is_shared.ensures c.if-not-is_shared.false)
-    (ap₂ pair_of c.topic.ensures c.subscription.ensures) c.is_of_pair.ensures
+    c.pair.ensures c.is_of_pair.ensures

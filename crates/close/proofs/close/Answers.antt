@@ -3,8 +3,9 @@ use mathlib.Core.Path.{refl, sym, ◌∙◌}
 use Rattle.layout.specs.Layout.{decode}
 use Rattle.layout.proofs.Store.{put_decode}
 use Rattle.operation_laws.proofs.Frame.{canon_of, done_with, consumer_found_id}
-use Rattle.consumer.proofs.Looked.{found_live, found_missing}
 use Rattle.close.proofs.Closes.{value_not_closed, close_missing}
+use Rattle.rules.specs.State.{by_id}
+use Rattle.store.proofs.Founds.{found_some, found_none}
 use Rattle.close.proofs.close.Goals as goal
 
 pub find_consumer-requires : goal.find_consumer-requires
@@ -15,13 +16,13 @@ returns-in_default c =
     let ws = c.args.store.now in
     let id = c.args.consumer in
     done_with ws _ c.requires 0 0
-    (close_missing (decode ws) id (found_missing id (decode ws).consumers (sym c.in_default.is ∙ c.find_consumer.ensures.slot)))
+    (close_missing (decode ws) id (found_none by_id id (decode ws).consumers (sym c.in_default.is ∙ c.find_consumer.ensures.slot)))
     value_not_closed refl (sym (put_decode (canon_of c.entries-e.result ws c.requires c.entries-e.ensures)))
 
 pub close_live-requires : goal.close_live-requires
 close_live-requires c =
     let ws = c.args.store.now in
     let id = c.args.consumer in
-    let i = c.in-Live.i in
-    let f = found_live id (decode ws).consumers i (sym c.in-Live.is ∙ c.find_consumer.ensures.slot) in
+    let i = c.in-Some.i in
+    let f = found_some by_id id (decode ws).consumers (sym c.in-Some.is ∙ c.find_consumer.ensures.slot) in
     (record { spelt = c.requires; E = c.entries-e.ensures; there = f.1 }, sym (consumer_found_id (decode ws) i id f.0 f.1))

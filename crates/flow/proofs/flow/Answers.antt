@@ -6,8 +6,9 @@ use Rattle.layout.specs.Layout.{decode}
 use Rattle.rules.specs.Calls.Call.{Flow}
 use Rattle.layout.specs.Calls.{answer, after}
 use Rattle.operation_laws.proofs.Frame.{canon_of, refused_with, consumer_found_id}
-use Rattle.consumer.proofs.Looked.{found_live, found_missing}
 use Rattle.flow.proofs.Grants.{flow_missing}
+use Rattle.rules.specs.State.{by_id}
+use Rattle.store.proofs.Founds.{found_some, found_none}
 use Rattle.flow.proofs.flow.Goals as goal
 
 pub find_consumer-requires : goal.find_consumer-requires
@@ -17,20 +18,20 @@ pub returns-in_default : goal.returns-in_default
 returns-in_default c =
     let ws = c.args.store.now in
     let id = c.args.consumer in
-    refused_with ws _ c.requires (flow_missing (decode ws) id c.args.grant (found_missing id (decode ws).consumers (sym c.in_default.is ∙ c.find_consumer.ensures.slot)))
+    refused_with ws _ c.requires (flow_missing (decode ws) id c.args.grant (found_none by_id id (decode ws).consumers (sym c.in_default.is ∙ c.find_consumer.ensures.slot)))
 
 pub flow_live-requires : goal.flow_live-requires
 flow_live-requires c =
     let ws = c.args.store.now in
-    let f = found_live c.args.consumer (decode ws).consumers c.in-Live.i (sym c.in-Live.is ∙ c.find_consumer.ensures.slot) in
+    let f = found_some by_id c.args.consumer (decode ws).consumers (sym c.in-Some.is ∙ c.find_consumer.ensures.slot) in
     (record { spelt = c.requires; E = c.entries-e.ensures; there = f.1 }, omega arith)
 
 pub returns : goal.returns
 returns c =
     let ws = c.args.store.now in
     let id = c.args.consumer in
-    let i = c.in-Live.i in
+    let i = c.in-Some.i in
     let grant = c.args.grant in
-    let f = found_live id (decode ws).consumers i (sym c.in-Live.is ∙ c.find_consumer.ensures.slot) in
+    let f = found_some by_id id (decode ws).consumers (sym c.in-Some.is ∙ c.find_consumer.ensures.slot) in
     let q = consumer_found_id (decode ws) i id f.0 f.1 in
     record { answer = c.flow_live.ensures.answer ∙ ap (λ (j : ℕ). answer ws (Flow j grant)) q; words = c.flow_live.ensures.words ∙ ap (λ (j : ℕ). after ws (Flow j grant)) q }

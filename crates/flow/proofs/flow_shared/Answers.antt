@@ -19,25 +19,20 @@ use Rattle.flow.proofs.Grants.{flow_total_over, flow_shared}
 use borrow.Author.Rules.{rules}
 use Rattle.flow.proofs.flow_shared.Goals as goal
 
--- the dispatcher of the shared consumer is there
-there : {e : ℕ} {ws : List ℕ} (i d : ℕ) → Live e ws i → (consumer_nth (decode ws) i).kind ≡ shared
-    → d ≡ slot by_pair (consumer_nth (decode ws) i).pair (decode ws).dispatchers → d < length (decode ws).dispatchers
-there {e} {ws} i d h k f = shared_found (decode ws) d _ f (consumer_nth (decode ws) i) (live_consumer h) k refl
-
-pub dispatcher_of-d-requires : goal.dispatcher_of-d-requires
-dispatcher_of-d-requires c = live_in c.requires.0
+pub shared_dispatcher-d-requires : goal.shared_dispatcher-d-requires
+shared_dispatcher-d-requires c = (c.requires.0, c.requires.2)
 
 pub total_available_permits-requires : goal.total_available_permits-requires
 total_available_permits-requires c =
-    let d = c.dispatcher_of-d in
-    dispatcher_in (live_canon c.requires.0) d.result (there c.args.i d.result c.requires.0 c.requires.2 d.ensures)
+    let d = c.shared_dispatcher-d in
+    dispatcher_in (live_canon c.requires.0) d.result d.ensures.1
 
 pub overflow_add-total : goal.overflow_add-total
 overflow_add-total c =
     let h = c.requires.0 in
-    let d = c.dispatcher_of-d in
-    let l = there c.args.i d.result h c.requires.2 d.ensures in
-    let m = (dispatcher_found_valid (decode c.args.store.now) d.result _ d.ensures (live_valid h) l).total_to in
+    let d = c.shared_dispatcher-d in
+    let l = d.ensures.1 in
+    let m = (dispatcher_found_valid (decode c.args.store.now) d.result _ d.ensures.0 (live_valid h) l).total_to in
     let t = c.total_available_permits.ensures in
     let g = c.requires.1 in
     omega arith
@@ -47,11 +42,11 @@ returns-then-total-gt-MOST_TOTAL c =
     let a = c.args in
     let p = c.requires in
     let h = p.0 in
-    let d = c.dispatcher_of-d in
+    let d = c.shared_dispatcher-d in
     let t = c.total_available_permits in
     refused_with a.store.now _ h.spelt
     (flow_total_over (decode a.store.now) a.i _ a.grant (live_slot h) refl (live_valid h) h.there a.granted p.3 p.4 p.2
-    d.result (t.result + a.grant) d.ensures (there a.i d.result h p.2 d.ensures) (ap (λ (n : ℕ). n + a.grant) t.ensures) c.if-total-gt-MOST_TOTAL.true)
+    d.result (t.result + a.grant) d.ensures.0 d.ensures.1 (ap (λ (n : ℕ). n + a.grant) t.ensures) c.if-total-gt-MOST_TOTAL.true)
 
 pub set_permits-requires : goal.set_permits-requires
 set_permits-requires c = live_in c.requires.0
@@ -60,9 +55,9 @@ pub set_total_available_permits-requires : goal.set_total_available_permits-requ
 set_total_available_permits-requires c =
     let a = c.args in
     let h = c.requires.0 in
-    let d = c.dispatcher_of-d in
+    let d = c.shared_dispatcher-d in
     dispatcher_still_in a.store.now (decode a.store.now) a.i d.result _ (live_canon h).shaped (sym h.E)
-    (shaped_permits (consumer_nth (decode a.store.now) a.i) a.granted (live_in h).nacked_fit) c.set_permits.ensures (there a.i d.result h c.requires.2 d.ensures)
+    (shaped_permits (consumer_nth (decode a.store.now) a.i) a.granted (live_in h).nacked_fit) c.set_permits.ensures d.ensures.1
 
 pub returns : goal.returns
 returns c =
@@ -70,12 +65,12 @@ returns c =
     let p = c.requires in
     let h = p.0 in
     let s = decode a.store.now in
-    let d = c.dispatcher_of-d in
+    let d = c.shared_dispatcher-d in
     let t = c.total_available_permits in
     let left = c.if-total-gt-MOST_TOTAL.false in
     done_with a.store.now _ h.spelt a.granted _
     (flow_shared s a.i _ a.grant (live_slot h) refl (live_valid h) h.there a.granted p.3 p.4 p.2
-    d.result (t.result + a.grant) d.ensures (there a.i d.result h p.2 d.ensures) (ap (λ (n : ℕ). n + a.grant) t.ensures) (omega arith))
+    d.result (t.result + a.grant) d.ensures.0 d.ensures.1 (ap (λ (n : ℕ). n + a.grant) t.ensures) (omega arith))
     (value_permits a.granted) refl
     (consumer_then_dispatcher a.store.now s a.i d.result (with_permits (consumer_nth s a.i) a.granted)
     (λ (x : Dispatcher). with_total x (t.result + a.grant)) (live_canon h).shaped

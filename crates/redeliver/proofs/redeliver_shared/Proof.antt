@@ -17,27 +17,24 @@ use Rattle.redeliver.proofs.redeliver_shared.Statement.{statement}
 use Rattle.redeliver.proofs.redeliver_shared.Tie as tie
 
 -- the dispatcher of the shared consumer is there
-there : (c : tie.After-dispatcher_of-d) → c.dispatcher_of-d.result < length (decode c.args.store.now).dispatchers
-there c =
-    let a = c.args in
-    let p = c.requires in
-    shared_found (decode a.store.now) c.dispatcher_of-d.result _ c.dispatcher_of-d.ensures (consumer_nth (decode a.store.now) a.i) (live_consumer p.0) p.2 refl
+there : (c : tie.After-shared_dispatcher-d) → c.shared_dispatcher-d.result < length (decode c.args.store.now).dispatchers
+there c = c.shared_dispatcher-d.ensures.1
 
 topic_requires : tie.Need-topic-number-requires
 topic_requires c κs = live_in c.requires.0
 
-dispatcher_of_requires : tie.Need-dispatcher_of-d-requires
-dispatcher_of_requires c κs = live_in c.requires.0
+dispatcher_of_requires : tie.Need-shared_dispatcher-d-requires
+dispatcher_of_requires c κs = (c.requires.0, c.requires.2)
 
 hand_back_all_requires : tie.Need-hand_back_all-requires
 hand_back_all_requires c κs =
     let a = c.args in
     let p = c.requires in
-    let d = c.dispatcher_of-d in
+    let d = c.shared_dispatcher-d in
     let g = there c.before in (
       dispatcher_in (live_canon p.0) d.result g,
-      dispatcher_found_valid (decode a.store.now) d.result _ d.ensures (live_valid p.0) g,
-      ap (λ (q : Pair). q.topic) (dispatcher_found_pair (decode a.store.now) d.result _ d.ensures g) ∙ sym c.topic-number.ensures,
+      dispatcher_found_valid (decode a.store.now) d.result _ d.ensures.0 (live_valid p.0) g,
+      ap (λ (q : Pair). q.topic) (dispatcher_found_pair (decode a.store.now) d.result _ d.ensures.0 g) ∙ sym c.topic-number.ensures,
     )
 
 same_length : tie.Need-shape_of-store
@@ -49,9 +46,9 @@ returns c =
     let p = c.requires in
     let h = p.0 in
     let s = decode a.store.now in
-    let d = c.dispatcher_of-d in
+    let d = c.shared_dispatcher-d in
     both (done_with_nothing a.store.now _ h.spelt
-    (shared_hands s a.i a.consumer a.groups.list.now (live_slot h ∙ rw p.1) (live_valid h) h.there (groups_in a.groups) (groups_read a.groups) p.2 d.result d.ensures (there c.before.before.before.before))
+    (shared_hands s a.i a.consumer a.groups.list.now (live_slot h ∙ rw p.1) (live_valid h) h.there (groups_in a.groups) (groups_read a.groups) p.2 d.result d.ensures.0 (there c.before.before.before.before))
     (c.hand_back_all.ensures
     ∙ ap (λ (n : ℕ). put a.store.now (set_dispatcher s d.result (redeliver_groups (ledger_of s n) a.consumer (dispatcher_nth s d.result) (groups_in a.groups)))) c.topic-number.ensures))
 

@@ -3,10 +3,12 @@ use mathlib.Core.Path.{sym, ap, ◌∙◌}
 use Prim.Native.Nat.{ℕ}
 use Rattle.layout.specs.Layout.{decode}
 use Rattle.layout.specs.Calls.{answer, after}
-use Rattle.seek.specs.Targets.{target_of, seek_to}
+use Rattle.command_parts.specs.Parts.{target_of}
+use Rattle.seek.specs.Targets.{seek_to}
 use Rattle.operation_laws.proofs.Frame.{canon_of, refused_with, consumer_found_id}
-use Rattle.consumer.proofs.Looked.{found_live, found_missing}
 use Rattle.seek.proofs.Seeks.{seek_missing}
+use Rattle.rules.specs.State.{by_id}
+use Rattle.store.proofs.Founds.{found_some, found_none}
 use Rattle.seek.proofs.seek.Goals as goal
 
 pub find_consumer-requires : goal.find_consumer-requires
@@ -17,20 +19,20 @@ returns-in_default c =
     let ws = c.args.store.now in
     let id = c.args.command.consumer in
     refused_with ws _ c.requires
-    (seek_missing (decode ws) id (target_of c.args.command.target) (found_missing id (decode ws).consumers (sym c.in_default.is ∙ c.find_consumer.ensures.slot)))
+    (seek_missing (decode ws) id (target_of c.args.command.target) (found_none by_id id (decode ws).consumers (sym c.in_default.is ∙ c.find_consumer.ensures.slot)))
 
 pub seek_live-requires : goal.seek_live-requires
 seek_live-requires c =
     let ws = c.args.store.now in
-    let f = found_live c.args.command.consumer (decode ws).consumers c.in-Live.i (sym c.in-Live.is ∙ c.find_consumer.ensures.slot) in
+    let f = found_some by_id c.args.command.consumer (decode ws).consumers (sym c.in-Some.is ∙ c.find_consumer.ensures.slot) in
     record { spelt = c.requires; E = c.entries-e.ensures; there = f.1 }
 
 pub returns : goal.returns
 returns c =
     let ws = c.args.store.now in
     let id = c.args.command.consumer in
-    let i = c.in-Live.i in
+    let i = c.in-Some.i in
     let target = c.args.command.target in
-    let f = found_live id (decode ws).consumers i (sym c.in-Live.is ∙ c.find_consumer.ensures.slot) in
+    let f = found_some by_id id (decode ws).consumers (sym c.in-Some.is ∙ c.find_consumer.ensures.slot) in
     let q = consumer_found_id (decode ws) i id f.0 f.1 in
     record { answer = c.seek_live.ensures.answer ∙ ap (λ (j : ℕ). answer ws (seek_to j target)) q; words = c.seek_live.ensures.words ∙ ap (λ (j : ℕ). after ws (seek_to j target)) q }

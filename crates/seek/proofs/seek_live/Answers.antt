@@ -7,7 +7,7 @@ use Rattle.rules.specs.State.{Consumer, ledger_of}
 use Rattle.rules.specs.Commands.{target_position, with_reading}
 use Rattle.layout.specs.Fields.{consumer_nth}
 use Rattle.layout.proofs.Placed.{shaped_reading}
-use Rattle.seek.specs.Targets.{target_of}
+use Rattle.command_parts.specs.Parts.{target_of}
 use Rattle.operation_laws.proofs.Frame.{done_with, value_cursor, consumer_twice, consumer_still_in}
 use Rattle.consumer.proofs.Found.{live_canon, live_in, live_valid, live_slot}
 use Rattle.seek.proofs.Seeks.{seek_found}

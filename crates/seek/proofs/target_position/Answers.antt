@@ -1,6 +1,6 @@
 -- `seek::target_position` meets its contract, by the target.
 use Rattle.rules.specs.Commands.{target_position}
-use Rattle.seek.specs.Targets.{target_of}
+use Rattle.command_parts.specs.Parts.{target_of}
 use Rattle.seek.proofs.target_position.Goals as goal
 
 pub returns-in-Start : goal.returns-in-Start

@@ -10,7 +10,7 @@ pairs_full-requires c =
 
 pub returns-then-pairs_full : goal.returns-then-pairs_full
 returns-then-pairs_full c =
-    refused_with c.args.store.now _ c.requires.spelt (subscribe_pairs c.requires (record { topic = c.args.topic; subscription = c.args.subscription }) (sym c.pairs_full.ensures ∙ c.if-pairs_full.true))
+    refused_with c.args.store.now _ c.requires.spelt (subscribe_pairs c.requires (record { topic = c.args.pair.topic; subscription = c.args.pair.subscription }) (sym c.pairs_full.ensures ∙ c.if-pairs_full.true))
 
 pub ring_full-requires : goal.ring_full-requires
 ring_full-requires c =
@@ -18,12 +18,12 @@ ring_full-requires c =
 
 pub returns-then-ring_full : goal.returns-then-ring_full
 returns-then-ring_full c =
-    refused_with c.args.store.now _ c.requires.spelt (subscribe_ring c.requires (record { topic = c.args.topic; subscription = c.args.subscription }) (sym c.pairs_full.ensures ∙ c.if-pairs_full.false) (sym c.ring_full.ensures ∙ c.if-ring_full.true))
+    refused_with c.args.store.now _ c.requires.spelt (subscribe_ring c.requires (record { topic = c.args.pair.topic; subscription = c.args.pair.subscription }) (sym c.pairs_full.ensures ∙ c.if-pairs_full.false) (sym c.ring_full.ensures ∙ c.if-ring_full.true))
 
 pub enter-requires : goal.enter-requires
 enter-requires c =
-    (seats c.requires, joins c.requires (record { topic = c.args.topic; subscription = c.args.subscription }) (sym c.pairs_full.ensures ∙ c.if-pairs_full.false) (sym c.ring_full.ensures ∙ c.if-ring_full.false))
+    (seats c.requires, joins c.requires (record { topic = c.args.pair.topic; subscription = c.args.pair.subscription }) (sym c.pairs_full.ensures ∙ c.if-pairs_full.false) (sym c.ring_full.ensures ∙ c.if-ring_full.false))
 
 pub returns : goal.returns
 returns c =
-    done_with_nothing c.args.store.now _ c.requires.spelt (subscribe_shared c.requires (record { topic = c.args.topic; subscription = c.args.subscription }) (sym c.pairs_full.ensures ∙ c.if-pairs_full.false) (sym c.ring_full.ensures ∙ c.if-ring_full.false)) c.enter.ensures
+    done_with_nothing c.args.store.now _ c.requires.spelt (subscribe_shared c.requires (record { topic = c.args.pair.topic; subscription = c.args.pair.subscription }) (sym c.pairs_full.ensures ∙ c.if-pairs_full.false) (sym c.ring_full.ensures ∙ c.if-ring_full.false)) c.enter.ensures

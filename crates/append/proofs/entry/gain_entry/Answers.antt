@@ -1,12 +1,13 @@
 -- `append::entry::gain_entry` meets its contract: a new mark, and for an id that was outside two steps more.
-use mathlib.Core.Path.{ap, ◌∙◌}
-use Prim.Native.Nat.{◌≤◌, ◌<◌}
+use mathlib.Core.Path.{refl, sym, ap, ◌∙◌}
 use native.Mathlib.Omega.{arith}
-use lib.ListN.{length}
 use Rattle.layout.specs.Layout.{decode, put}
 use Rattle.rules.specs.State.{Dispatcher}
 use Rattle.layout.specs.Fields.{dispatcher_nth, set_dispatcher}
 use Rattle.topic.specs.Ids.{id_of}
+use Rattle.store.specs.Find.{slot}
+use Rattle.store.proofs.Founds.{found_some, found_none}
+use Rattle.dispatcher.specs.Outside.{by_itself}
 use Rattle.append.proofs.Entries.{raised_in, completed_in, removed_words, gained_new, gained_known}
 use Rattle.append.proofs.entry.gain_entry.Goals as goal
 
@@ -19,30 +20,27 @@ complete_mark-requires c =
 pub remove_outside-requires : goal.remove_outside-requires
 remove_outside-requires c =
     let a = c.args in
-    let n = c.outside_count-n.ensures in
-    let l : c.find_outside-j.result < length (dispatcher_nth (decode a.store.now) a.d).outside = let t = c.if-j-n.true in omega arith in
+    let f = found_some by_itself (id_of c.args.ledger c.args.entry) (dispatcher_nth (decode c.args.store.now) c.args.d).outside (sym c.in-Some.is ∙ c.find_outside-found.ensures) in
     let r = completed_in a.d c.requires.0 c.requires.1 c.raise_marks.ensures c.mark_count-k.result c.complete_mark.ensures in
-    (r.0, rw r.1 l)
+    (r.0, rw r.1 f.1)
 
-pub returns-then-j-n : goal.returns-then-j-n
-returns-then-j-n c =
+pub returns-in-Some : goal.returns-in-Some
+returns-in-Some c =
     let a = c.args in
     let p = c.requires in
     let s = decode a.store.now in
     let x = dispatcher_nth s a.d in
-    let n = c.outside_count-n.ensures in
-    let l : c.find_outside-j.result < length x.outside = let t = c.if-j-n.true in omega arith in
-    removed_words a.d p.0 p.1 c.raise_marks.ensures c.mark_count-k.result c.complete_mark.ensures c.find_outside-j.result c.remove_outside.ensures
+    let f = found_some by_itself (id_of c.args.ledger c.args.entry) (dispatcher_nth (decode c.args.store.now) c.args.d).outside (sym c.in-Some.is ∙ c.find_outside-found.ensures) in
+    removed_words a.d p.0 p.1 c.raise_marks.ensures c.mark_count-k.result c.complete_mark.ensures c.in-Some.j c.remove_outside.ensures
     ∙ ap (λ (y : Dispatcher). put a.store.now (set_dispatcher s a.d y))
-    (gained_known (id_of a.ledger a.entry) x c.find_outside-j.result c.mark_count-k.result p.1.outside_once c.mark_count-k.ensures c.find_outside-j.ensures l)
+    (gained_known (id_of a.ledger a.entry) x c.in-Some.j c.mark_count-k.result p.1.outside_once c.mark_count-k.ensures f.0 f.1)
 
-pub returns-else-j-n : goal.returns-else-j-n
-returns-else-j-n c =
+pub returns-in_default : goal.returns-in_default
+returns-in_default c =
     let a = c.args in
     let s = decode a.store.now in
     let x = dispatcher_nth s a.d in
-    let n = c.outside_count-n.ensures in
-    let l : length x.outside ≤ c.find_outside-j.result = let t = c.if-j-n.false in omega arith in
+    let f = found_none by_itself (id_of a.ledger a.entry) x.outside (sym c.in_default.is ∙ c.find_outside-found.ensures) in
     c.raise_marks.ensures
     ∙ ap (λ (y : Dispatcher). put a.store.now (set_dispatcher s a.d y))
-    (gained_new (id_of a.ledger a.entry) x c.find_outside-j.result c.find_outside-j.ensures l)
+    (gained_new (id_of a.ledger a.entry) x (slot by_itself (id_of a.ledger a.entry) x.outside) refl f)

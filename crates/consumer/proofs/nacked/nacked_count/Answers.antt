@@ -1,7 +1,12 @@
--- `consumer::nacked::nacked_count` meets its contract: the word at its offset.
-use mathlib.Core.Path.{◌∙◌}
-use Rattle.layout.proofs.Gets.{read_nacked_count}
+-- `consumer::nacked::nacked_count` meets its contract: the size of a list.
+use mathlib.Core.Path.{ap, ◌∙◌}
+use Rattle.store.specs.declared.counted.Counted.{Counted}
+use Rattle.store.specs.Counted.{size}
+use Rattle.consumer.proofs.Lists.{nacked_inside, nacked_size}
 use Rattle.consumer.proofs.nacked.nacked_count.Goals as goal
 
+pub count-requires : goal.count-requires
+count-requires c = rw c.nacked_list.ensures (nacked_inside c.args.i c.requires)
+
 pub returns : goal.returns
-returns c = c.word.ensures ∙ rw c.consumer_at-at.ensures (read_nacked_count c.requires.canon c.args.i c.requires.there)
+returns c = c.count.ensures ∙ ap (λ (l : Counted). size l c.args.store.now) c.nacked_list.ensures ∙ nacked_size c.args.i c.requires

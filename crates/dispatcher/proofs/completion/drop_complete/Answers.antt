@@ -42,12 +42,6 @@ overflow_add-kept c =
     let l = c.requires.0.canon.E_to in
     omega arith
 
-pub overflow_add-j : goal.overflow_add-j
-overflow_add-j c =
-    let f = c.requires.0.lists_fit.flight_fits in
-    let l = c.requires.0.canon.E_to in
-    omega arith
-
 pub loop-j-preserved : goal.loop-j-preserved
 loop-j-preserved c =
     let r = c.loop-j.invariant in

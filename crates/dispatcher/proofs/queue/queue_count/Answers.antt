@@ -1,7 +1,12 @@
--- `dispatcher::queue::queue_count` meets its contract: the word at its offset.
-use mathlib.Core.Path.{◌∙◌}
-use Rattle.dispatcher.proofs.Places.{queue_counted}
+-- `dispatcher::queue::queue_count` meets its contract: the size of a list.
+use mathlib.Core.Path.{ap, ◌∙◌}
+use Rattle.store.specs.declared.counted.Counted.{Counted}
+use Rattle.store.specs.Counted.{size}
+use Rattle.dispatcher.proofs.Lists.{queue_inside, queue_size}
 use Rattle.dispatcher.proofs.queue.queue_count.Goals as goal
 
+pub count-requires : goal.count-requires
+count-requires c = rw c.queue_list.ensures (queue_inside c.args.d c.requires)
+
 pub returns : goal.returns
-returns c = c.word.ensures ∙ queue_counted c.args.d c.dispatcher_at-at.result c.requires c.dispatcher_at-at.ensures
+returns c = c.count.ensures ∙ ap (λ (l : Counted). size l c.args.store.now) c.queue_list.ensures ∙ queue_size c.args.d c.requires

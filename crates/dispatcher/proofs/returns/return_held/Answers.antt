@@ -25,12 +25,6 @@ return_or_keep-kept-requires c =
     let l : c.loop-j.j < length (dispatcher_nth (decode c.args.store.now) c.args.d).in_flight = omega arith in
     (r.moved.here, there_now c.args.id c.args.d h r l, r.thinning.behind, room_now c.args.id c.args.d h r l)
 
-pub overflow_add-j : goal.overflow_add-j
-overflow_add-j c =
-    let f = c.requires.0.lists_fit.flight_fits in
-    let l = c.requires.0.canon.E_to in
-    omega arith
-
 pub loop-j-preserved : goal.loop-j-preserved
 loop-j-preserved c =
     let r = c.loop-j.invariant in

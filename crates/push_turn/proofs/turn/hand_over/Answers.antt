@@ -31,7 +31,7 @@ returns c =
     let a = c.args in
     let left = get_or a.permits.now a.c 0 - c.price-cost.result in
     record {
-      turn = ap (λ (h : numbers.Head). move (record { consumer = a.c; position = a.k; price = c.price-cost.result; permits = left }) (local_from (set a.permits.now a.c left) h a.numbers.now.taken)) c.dispatch_from-numbers.ensures
+      turn = ap (λ (h : numbers.Head). move (record { consumer = a.c; position = a.k; price = c.price-cost.result; permits = left }) (local_from (set a.permits.now a.c left) h a.numbers.now.taken)) c.dispatched-numbers.ensures
           ∙ handed (fixed_of (decode a.store.now) (dispatcher_nth (decode a.store.now) a.served.d)) a.permits.now a.next a.cursor a.numbers.now.head.total_available_permits a.numbers.now.taken a.c a.k c.price-cost.result c.price-cost.ensures.0;
-      mark_delete = ap (λ (h : numbers.Head). h.mark_delete) c.dispatch_from-numbers.ensures;
+      mark_delete = ap (λ (h : numbers.Head). h.mark_delete) c.dispatched-numbers.ensures;
     }

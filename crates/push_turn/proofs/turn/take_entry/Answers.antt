@@ -58,7 +58,7 @@ returns c =
     let u = c.if-cursor-served.false in
     let m = c.requires.0.ledger_length in
     record {
-      turn = ap (λ (h : numbers.Head). stop (local_from a.permits.now h a.numbers.now.taken)) c.dispatch_from-numbers.ensures
+      turn = ap (λ (h : numbers.Head). stop (local_from a.permits.now h a.numbers.now.taken)) c.dispatched-numbers.ensures
           ∙ entry_none (fixed_of (decode a.store.now) (dispatcher_nth (decode a.store.now) a.served.d)) (local_from a.permits.now a.numbers.now.head a.numbers.now.taken) a.next a.c (omega arith) (omega arith);
-      mark_delete = ap (λ (h : numbers.Head). h.mark_delete) c.dispatch_from-numbers.ensures;
+      mark_delete = ap (λ (h : numbers.Head). h.mark_delete) c.dispatched-numbers.ensures;
     }

@@ -1,12 +1,12 @@
 -- `redeliver::hand_back::hand_back` meets its contract: the hold is found and handed back, or nothing changes.
-use mathlib.Core.Path.{sym, ap, ◌∙◌}
-use native.Mathlib.Omega.{arith}
-use Prim.Native.Nat.{◌≤◌, ◌<◌}
-use lib.ListN.{length}
+use mathlib.Core.Path.{refl, sym, ap, ◌∙◌}
 use Rattle.rules.specs.State.{Dispatcher, ledger_of}
 use Rattle.layout.specs.Layout.{decode, put}
 use Rattle.layout.specs.Fields.{dispatcher_nth, set_dispatcher}
 use Rattle.groups.specs.Lent.{group_of}
+use Rattle.store.specs.Find.{slot}
+use Rattle.store.proofs.Founds.{found_some, found_none}
+use Rattle.dispatcher.specs.Held.{held_of, by_hold}
 use Rattle.redeliver.proofs.Holds.{held_room, held_marked, redeliver_held, redeliver_none, redeliver_absent}
 use Rattle.redeliver.proofs.Handing.{stays}
 use Rattle.redeliver.proofs.hand_back.hand_back.Goals as goal
@@ -17,34 +17,33 @@ hand_back_held-requires c =
     let p = c.requires in
     let s = decode a.store.now in
     let x = dispatcher_nth s a.d in
-    let j = c.find_hold-j in
     let k = c.in-Some.k in
-    let l : j.result < length x.in_flight = let n = c.flight_count.ensures in let t = c.if-j-flight_count.true in omega arith in
-    (p.0, l, held_room s a.id j.result k x p.1 j.ensures a.e p.0.lists_fit.marks_fit l, held_marked s a.id j.result k x p.1 j.ensures l)
+    let j = c.in-Some-2.j in
+    let f = found_some by_hold (held_of a.id k) x.in_flight (sym c.in-Some-2.is ∙ c.find_hold.ensures) in
+    (p.0, f.1, held_room s a.id j k x p.1 f.0 a.e p.0.lists_fit.marks_fit f.1, held_marked s a.id j k x p.1 f.0 f.1)
 
-pub returns-then-j-flight_count : goal.returns-then-j-flight_count
-returns-then-j-flight_count c =
+pub returns-in-Some : goal.returns-in-Some
+returns-in-Some c =
     let a = c.args in
     let p = c.requires in
     let s = decode a.store.now in
     let x = dispatcher_nth s a.d in
-    let j = c.find_hold-j in
     let k = c.in-Some.k in
-    let l : j.result < length x.in_flight = let n = c.flight_count.ensures in let t = c.if-j-flight_count.true in omega arith in
+    let j = c.in-Some-2.j in
+    let f = found_some by_hold (held_of a.id k) x.in_flight (sym c.in-Some-2.is ∙ c.find_hold.ensures) in
     c.hand_back_held.ensures
     ∙ ap (λ (y : Dispatcher). put a.store.now (set_dispatcher s a.d y))
-    (sym (redeliver_held s a.id j.result k x p.1 j.ensures (ledger_of s a.topic) (group_of a.group).id c.in-Some.ensures.0 l))
+    (sym (redeliver_held s a.id j k x p.1 f.0 (ledger_of s a.topic) (group_of a.group).id c.in-Some.ensures.0 f.1))
 
-pub returns-else-j-flight_count : goal.returns-else-j-flight_count
-returns-else-j-flight_count c =
+pub returns-in_default-2 : goal.returns-in_default-2
+returns-in_default-2 c =
     let a = c.args in
     let p = c.requires in
     let s = decode a.store.now in
     let x = dispatcher_nth s a.d in
-    let j = c.find_hold-j in
     let k = c.in-Some.k in
-    let l : length x.in_flight ≤ j.result = let n = c.flight_count.ensures in let t = c.if-j-flight_count.false in omega arith in
-    stays a.d _ p.0 (redeliver_none s a.id j.result k x p.1 j.ensures (ledger_of s a.topic) (group_of a.group).id c.in-Some.ensures.0 l)
+    let f = found_none by_hold (held_of a.id k) x.in_flight (sym c.in_default-2.is ∙ c.find_hold.ensures) in
+    stays a.d _ p.0 (redeliver_none s a.id (slot by_hold (held_of a.id k) x.in_flight) k x p.1 refl (ledger_of s a.topic) (group_of a.group).id c.in-Some.ensures.0 f)
 
 pub returns-in_default : goal.returns-in_default
 returns-in_default c =

@@ -1,21 +1,29 @@
 -- `subscribe::admit::pairs_full` meets its contract: the number counts for a new pair alone.
-use mathlib.Core.Path.{ap, ◌∙◌}
-use Prim.Native.Nat.{ℕ, ◌≤◌, ◌<◌}
-use native.Mathlib.Omega.{arith}
+use mathlib.Core.Path.{sym, ap, ◌∙◌}
+use mathlib.Core.Bool.{not}
+use Prim.Native.Nat.{ℕ}
 use lib.Dec.{leb}
-use lib.ListN.{length}
+use Rattle.std.specs.Prelude.{is_some}
+use Rattle.std.specs.declared.option.Option.{Option}
+use Rattle.rules.specs.State.{by_pair, dispatcher_of}
 use Rattle.layout.specs.Layout.{decode}
-use Rattle.subscribe.proofs.Subscribing.{pair_some, pair_none, not_new, new_by}
+use Rattle.layout.specs.Fields.{pair_of, zero_dispatcher}
+use Rattle.store.proofs.Founds.{found_find}
+use Rattle.subscribe.proofs.Subscribing.{not_new, new_by}
 use Rattle.subscribe.proofs.admit.pairs_full.Goals as goal
 
-pub returns-then-d-n : goal.returns-then-d-n
-returns-then-d-n c =
-    let s = decode c.args.store.now in
-    let h : c.find_dispatcher-d.result < length s.dispatchers = let n = c.dispatcher_count-n.ensures in let t = c.if-d-n.true in omega arith in
-    not_new _ _ (pair_some s c.find_dispatcher-d.result (record { topic = c.args.topic; subscription = c.args.subscription }) c.find_dispatcher-d.ensures h)
+pub returns-then-is_none : goal.returns-then-is_none
+unfolding dispatcher_of
+returns-then-is_none c =
+    let l = (decode c.args.store.now).dispatchers in
+    ap (λ (n : ℕ). leb 8 n) c.dispatcher_count.ensures
+    ∙ new_by _ _ (sym (c.is_none.ensures ∙ ap not c.if-is_none.true) ∙ ap (λ (o : Option ℕ). is_some o) c.find_dispatcher.ensures
+    ∙ found_find by_pair (pair_of c.args.pair.topic c.args.pair.subscription) l zero_dispatcher)
 
-pub returns : goal.returns
-returns c =
-    let s = decode c.args.store.now in
-    let h : length s.dispatchers ≤ c.find_dispatcher-d.result = let n = c.dispatcher_count-n.ensures in let t = c.if-d-n.false in omega arith in
-    ap (λ (n : ℕ). leb 8 n) c.dispatcher_count-n.ensures ∙ new_by _ _ (pair_none s c.find_dispatcher-d.result (record { topic = c.args.topic; subscription = c.args.subscription }) c.find_dispatcher-d.ensures h)
+pub returns-else-is_none : goal.returns-else-is_none
+unfolding dispatcher_of
+returns-else-is_none c =
+    let l = (decode c.args.store.now).dispatchers in
+    c.if-is_none.false
+    ∙ not_new _ _ (sym (c.is_none.ensures ∙ ap not c.if-is_none.false) ∙ ap (λ (o : Option ℕ). is_some o) c.find_dispatcher.ensures
+    ∙ found_find by_pair (pair_of c.args.pair.topic c.args.pair.subscription) l zero_dispatcher)

@@ -2,14 +2,14 @@
 use native.Mathlib.Omega.{arith}
 use Rattle.rules.specs.State.Kind.{shared}
 use Rattle.rules.specs.Commands.{new_consumer}
-use Rattle.consumer.specs.Made.{kind_at}
+use Rattle.command_parts.specs.Parts.{kind_of}
 use Rattle.subscribe.proofs.Entering.{joins_after, entered}
 use Rattle.subscribe.proofs.enter.enter.Goals as goal
 
 pub join-requires : goal.join-requires
-unfolding new_consumer kind_at
-join-requires c = joins_after (new_consumer c.args.id shared (record { topic = c.args.topic; subscription = c.args.subscription })) c.requires.0 (omega arith) (record { topic = c.args.topic; subscription = c.args.subscription }) c.seat_consumer.ensures c.requires.1
+unfolding new_consumer kind_of
+join-requires c = joins_after (new_consumer c.args.id shared (record { topic = c.args.pair.topic; subscription = c.args.pair.subscription })) c.requires.0 (omega arith) (record { topic = c.args.pair.topic; subscription = c.args.pair.subscription }) c.seat_consumer.ensures c.requires.1
 
 pub returns : goal.returns
-unfolding new_consumer kind_at
-returns c = entered (new_consumer c.args.id shared (record { topic = c.args.topic; subscription = c.args.subscription })) c.requires.0 (omega arith) (record { topic = c.args.topic; subscription = c.args.subscription }) c.seat_consumer.ensures c.join.ensures
+unfolding new_consumer kind_of
+returns c = entered (new_consumer c.args.id shared (record { topic = c.args.pair.topic; subscription = c.args.pair.subscription })) c.requires.0 (omega arith) (record { topic = c.args.pair.topic; subscription = c.args.pair.subscription }) c.seat_consumer.ensures c.join.ensures

@@ -1,0 +1,65 @@
+// The parts of a command that are one of two: the kind of a consumer, and where a seek goes.
+#![tactic(auto)]
+
+// How a consumer receives: alone, or as one of a ring.
+#[derive(Clone, Copy, Debug, PartialEq, Eq)]
+pub enum Kind {
+    Plain,
+    Shared,
+}
+
+impl Kind {
+    ghost use Rattle.std.specs.Prelude.{◌≡◌};
+    ghost use Rattle.command_parts.specs.Parts.{kind_number};
+
+    // Its number, as a store has it.
+    pub fn number(self) -> u64
+        ensures { result ≡ kind_number self }
+    {
+        match self {
+            Kind::Plain => 0,
+            Kind::Shared => 1,
+        }
+    }
+}
+
+// From a number: 0 is plain, anything else shared.
+impl From<u64> for Kind {
+    ghost use Rattle.std.specs.Prelude.{◌≡◌};
+    ghost use Rattle.rules.specs.Calls.{kind_from};
+    ghost use Rattle.command_parts.specs.Parts.{kind_of};
+
+    ghost from_gives = { λ number kind. kind_of kind ≡ kind_from number };
+
+    fn from(number: u64) -> Kind {
+        if number == 0 {
+            Kind::Plain
+        } else {
+            Kind::Shared
+        }
+    }
+}
+
+// Where a seek goes: the start, or a message id.
+#[derive(Clone, Copy, Debug, PartialEq, Eq)]
+pub enum Target {
+    Start,
+    Id(u64, u64),
+}
+
+impl Target {
+    ghost use Rattle.std.specs.Prelude.{◌≡◌};
+    ghost use Rattle.rules.specs.Calls.{target_from};
+    ghost use Rattle.command_parts.specs.Parts.{target_of};
+
+    // From numbers: 0 is the start, anything else the id.
+    pub fn from_words(target: u64, ledger: u64, entry: u64) -> Target
+        ensures { target_of result ≡ target_from target ledger entry }
+    {
+        if target == 0 {
+            Target::Start
+        } else {
+            Target::Id(ledger, entry)
+        }
+    }
+}
