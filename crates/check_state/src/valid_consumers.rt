@@ -45,12 +45,10 @@ fn nacked_valid(store: &[u64], e: usize, i: usize, n: usize) -> bool
 {
     let first = NACKED_LISTS_AT + i * CONSUMER_WORDS;
     let count = word(store, first - 1);
-    let mut j = 0;
-    while j < count {
+    for j in 0..count {
         if word(store, first + j) >= n {
             return false;
         }
-        j += 1;
     }
     true
 }
@@ -119,15 +117,13 @@ pub(crate) fn consumers_valid(store: &[u64], e: usize) -> bool
         && all (valid_consumer (decode store.now)) (decode store.now).consumers) }
 {
     let n = word(store, CONSUMER_COUNT_AT);
-    let mut i = 0;
-    while i < n {
+    for i in 0..n {
         if !id_ascends(store, e, i) {
             return false;
         }
         if !consumer_valid(store, e, i) {
             return false;
         }
-        i += 1;
     }
     true
 }
