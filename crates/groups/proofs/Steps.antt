@@ -25,11 +25,6 @@ empty (suc k) = refl
 pub none_left : (k : ℕ) (list : List ℕ) (at : ℕ) → length list ≤ at → at_most_groups k (drop at list) ≡ some []
 none_left k list at h = rw (drop_of_length-le list h) (empty k)
 
--- where no group may follow, no word may
-pub full : (list : List ℕ) (at : ℕ) → at < length list → at_most_groups 0 (drop at list) ≡ none
-unfolding at_most_groups
-full list at h = rw (drop-cons list at 0 h)
-
 -- one or two words are no group
 short : (k : ℕ) (l : List ℕ) → 0 < length l → length l < 3 → at_most_groups k l ≡ none
 unfolding at_most_groups

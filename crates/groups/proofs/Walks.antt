@@ -1,6 +1,6 @@
 -- The walk over the groups of a lent list by offset: what the loops of ack and redeliver turn on. At the start all groups
 -- are ahead, a turn takes the first of them, and at the end none is left.
-use Prim.Native.Nat.{ℕ, zero, suc, ◌+◌, ◌-◌, ◌≤◌, ◌<◌, suc-le-suc}
+use Prim.Native.Nat.{ℕ, zero, suc, ◌≤◌, ◌<◌, suc-le-suc}
 use mathlib.Core.Path.{◌≡◌, refl, sym, ◌∙◌, subst}
 use mathlib.Core.Bool.{true, cond, ◌&&◌, true≢false}
 use mathlib.Core.List.{List, [], ◌∷◌}
@@ -11,7 +11,7 @@ use lib.ListN.{length, take, drop}
 use Rattle.rules.specs.Table.{is_some, or_else}
 use Rattle.rules.specs.Groups.{Group, at_most_groups, groups}
 use Rattle.rules.proofs.Table.{by_test}
-use Rattle.groups.specs.Walk.{words_at, end_at, group_at, group_fits, Fits, groups_from, Stands}
+use Rattle.groups.specs.Walk.{end_at, group_at, group_fits, Fits, groups_from, Stands}
 use Rattle.groups.proofs.Steps.{none_left, step, says_fits}
 
 -- ---- more room for groups reads the same groups
@@ -123,7 +123,3 @@ stands_end list at h = read_from list at [] (none_left 64 list at h)
 pub stands_few : (list : List ℕ) (at : ℕ) → Stands list at → length (groups_from list at) ≤ 64
 unfolding groups
 stands_few list at s = at_most 64 (drop at list) (groups_from list at) s.reads
-
--- the part of the list between the head of a group and its end is its words
-pub words_lent : (list : List ℕ) (at end : ℕ) → end ≡ end_at list at → take (end - (at + 3)) (drop (at + 3) list) ≡ (group_at list at).words
-words_lent list at end e = let n : end - (at + 3) ≡ words_at list at = omega arith in rw n

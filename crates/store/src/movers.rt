@@ -1,4 +1,5 @@
-// Words of a store moved: a gap opened or closed among them. Each loop is one act on words.
+// Words of a store moved: a gap opened or closed among them. Each loop is one act on words; the library's `copy_within`
+// would call memmove, which a maker without a C library does not have.
 ghost use Rattle.std.specs.Prelude.{◌≡◌, ◌+◌, ◌≤◌, length};
 ghost use Rattle.words.specs.Act.{both, clear, close, down, up};
 
@@ -19,10 +20,8 @@ fn move_down(store: &mut [u64], at: usize, width: usize, count: usize)
     requires { at + width + count ≤ length store.old }
     ensures { store.new ≡ (down width count).run at store.old }
 {
-    let mut i = 0;
-    while i < count {
+    for i in 0..count {
         store[at + i] = store[at + width + i];
-        i += 1;
     }
 }
 
@@ -41,9 +40,7 @@ pub fn move_up(store: &mut [u64], at: usize, width: usize, count: usize)
     requires { at + width + count ≤ length store.old }
     ensures { store.new ≡ (up width count).run at store.old }
 {
-    let mut i = count;
-    while 0 < i {
-        i -= 1;
+    for i in (0..count).rev() {
         store[at + width + i] = store[at + i];
     }
 }

@@ -46,5 +46,5 @@ fn open_words(store: &mut [u64], entries: u64, needed: usize, leak: u64, noop: u
 fn switch(word: u64) -> u64
     ensures { result ≡ bit (not (eqb word 0)) }
 {
-    if word == 0 { 0 } else { 1 }
+    u64::from(word != 0)
 }

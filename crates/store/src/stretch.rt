@@ -41,10 +41,8 @@ fn rest_blank(store: &[u64], from: usize, to: usize, before: u64) -> bool
     ensures { result ≡ (eqb before 0 && blank (to - from) (drop from store.now)) }
 {
     let mut any = before;
-    let mut i = from;
-    while i < to {
+    for i in from..to {
         any |= store[i];
-        i += 1;
     }
     any == 0
 }
@@ -69,9 +67,7 @@ pub fn clear_words(store: &mut [u64], from: usize, to: usize)
     requires { (from ≤ to) × (to ≤ length store.old) }
     ensures { store.new ≡ (clear (to - from)).run from store.old }
 {
-    let mut i = from;
-    while i < to {
+    for i in from..to {
         store[i] = 0;
-        i += 1;
     }
 }

@@ -1,4 +1,3 @@
-pub mod Finds
 pub mod LedgerWords
 pub mod Ledgers
 pub mod Positions

@@ -1,25 +1,23 @@
--- `store::movers::move_down` meets its contract. The loop's invariant: the words are those of the entry with i words
--- moved.
-use mathlib.Core.Path.{◌≡◌, refl, sym, ◌∙◌, ap}
+-- `store::movers::move_down` meets its contract: one more word is moved in each turn.
+use mathlib.Core.Path.{◌≡◌, sym, ◌∙◌, ap}
 use Prim.Native.Nat.{ℕ, ◌<◌, ◌+◌}
 use native.Mathlib.Omega.{arith}
 use lib.ListN.{length}
-use borrow.Author.Rules.{rules}
 use Rattle.words.specs.Act.{down}
 use Rattle.words.proofs.Act.{down_none, down_turn}
 use Rattle.store.proofs.movers.move_down.Goals as goal
 
 pub loop-i-init : goal.loop-i-init
-loop-i-init c = (search rules, search rules, refl, sym (down_none c.args.width c.args.at c.args.store.now))
+loop-i-init c = sym (down_none c.args.width c.args.at c.args.store.now)
 
 pub loop-i-preserved : goal.loop-i-preserved
 loop-i-preserved c =
     let a = c.args in
     let h : a.at + a.width + c.loop-i.i < length a.store.now = omega arith in
-    (search rules, search rules, search rules, down_turn a.width c.loop-i.i a.at a.store.now c.loop-i.invariant.3 h)
+    down_turn a.width c.loop-i.i a.at a.store.now c.loop-i.invariant h
 
 pub returns : goal.returns
 returns c =
     let a = c.args in
     let e : c.loop-i.i ≡ a.count = omega arith in
-    c.loop-i.invariant.3 ∙ ap (λ (n : ℕ). (down a.width n).run a.at a.store.now) e
+    c.loop-i.invariant ∙ ap (λ (n : ℕ). (down a.width n).run a.at a.store.now) e

@@ -1,13 +1,7 @@
--- `store::movers::move_down` meets its contract. The loop's invariant: the words are those of the entry with i words
--- moved.
+-- The words are those of the entry with i words moved.
 use mathlib.Core.Path.{◌≡◌}
-use Prim.Native.Nat.{◌≤◌, ◌-◌, ◌+◌}
-use lib.ListN.{length}
 use Rattle.words.specs.Act.{down}
 use Rattle.store.proofs.movers.move_down.Given as goal
 
 abbrev pub invariant-loop-i : goal.invariant-loop-i
-invariant-loop-i l = (l.i ≤ l.count) × (l.at + l.width + l.count ≤ length l.initial.store) × (length l.store ≡ length l.initial.store) × (l.store ≡ (down l.width l.i).run l.at l.initial.store)
-
-abbrev pub decreases-loop-i : goal.decreases-loop-i
-decreases-loop-i l = l.count - l.i
+invariant-loop-i l = l.store ≡ (down l.width l.i).run l.at l.initial.store

@@ -1,9 +1,14 @@
--- `store::open::switch` meets its contract, by whether the word is 0.
-use borrow.Author.Tests.{eq-eqb, ne_eqb}
+-- `store::open::switch` meets its contract: the test as a number.
+use mathlib.Core.Path.{◌≡◌, refl, ◌∙◌}
+use mathlib.Core.Bool.{Bool, true, false}
+use mir.Val.{bool_byte}
+use Rattle.words.specs.Codec.{bit}
 use Rattle.store.proofs.open.switch.Goals as goal
 
-pub returns-then-word-eq0 : goal.returns-then-word-eq0
-returns-then-word-eq0 c = simp (eq-eqb _ _ c.if-word-eq0.true)
+-- a test as the library writes it
+told : (b : Bool) → bool_byte b ≡ bit b
+told true = refl
+told false = refl
 
-pub returns-else-word-eq0 : goal.returns-else-word-eq0
-returns-else-word-eq0 c = simp (ne_eqb _ _ c.if-word-eq0.false)
+pub returns : goal.returns
+returns c = c.from.ensures ∙ told _

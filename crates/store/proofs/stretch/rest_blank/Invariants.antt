@@ -1,17 +1,11 @@
--- `store::stretch::rest_blank` meets its contract. The loop's invariant: what was or-ed so far is 0 and the rest is blank
--- exactly where `before` is 0 and the whole stretch is blank.
+-- What was or-ed so far is 0 and the rest is blank exactly where `before` is 0 and the whole stretch is blank.
 use mathlib.Core.Path.{◌≡◌}
 use mathlib.Core.Bool.{◌&&◌}
-use Prim.Native.Nat.{◌≤◌, ◌-◌}
+use Prim.Native.Nat.{◌-◌}
 use lib.Dec.{eqb}
-use lib.ListN.{length, drop}
+use lib.ListN.{drop}
 use Rattle.words.specs.Words.{blank}
 use Rattle.store.proofs.stretch.rest_blank.Given as goal
 
 abbrev pub invariant-loop-i : goal.invariant-loop-i
-invariant-loop-i l =
-    (l.i ≤ l.to) × (l.to ≤ length l.store)
-    × ((eqb l.any 0 && blank (l.to - l.i) (drop l.i l.store)) ≡ (eqb l.before 0 && blank (l.to - l.from) (drop l.from l.store)))
-
-abbrev pub decreases-loop-i : goal.decreases-loop-i
-decreases-loop-i l = l.to - l.i
+invariant-loop-i l = (eqb l.any 0 && blank (l.to - l.i) (drop l.i l.store)) ≡ (eqb l.before 0 && blank (l.to - l.from) (drop l.from l.store))
