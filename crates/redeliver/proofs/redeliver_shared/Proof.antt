@@ -1,15 +1,15 @@
 -- `redeliver::redeliver_shared` meets its contract: what it holds of the list is handed back.
-use mathlib.Core.Path.{refl, ap, ◌∙◌}
+use mathlib.Core.Path.{ap, ◌∙◌}
 use Prim.Native.Nat.{ℕ, ◌<◌}
 use lib.ListN.{length}
 use Rattle.rules.specs.State.{ledger_of}
 use Rattle.rules.specs.Commands.{redeliver_groups}
 use Rattle.layout.specs.Layout.{decode, put}
-use Rattle.layout.specs.Fields.{consumer_nth, dispatcher_nth, set_dispatcher}
+use Rattle.layout.specs.Fields.{dispatcher_nth, set_dispatcher}
 use Rattle.layout.proofs.Placed.{dispatcher_in}
 use Rattle.groups.specs.Walk.{groups_from}
-use Rattle.operation_laws.proofs.Frame.{both, done_with_nothing, shared_found, dispatcher_found_valid}
-use Rattle.consumer.proofs.Found.{live_canon, live_in, live_valid, live_slot, live_consumer}
+use Rattle.operation_laws.proofs.Frame.{both, done_with_nothing, dispatcher_found_valid}
+use Rattle.consumer.proofs.Found.{live_canon, live_in, live_valid, live_slot}
 use Rattle.redeliver.proofs.Shared.{shared_hands}
 use borrow.Author.Rules.{rules}
 use Rattle.redeliver.proofs.redeliver_shared.Statement.{statement}
