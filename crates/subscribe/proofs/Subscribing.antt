@@ -2,7 +2,7 @@
 use mathlib.Core.Path.{◌≡◌, refl, sym, ◌∙◌}
 use mathlib.Core.Bool.{Bool, true, false, not, ◌&&◌}
 use mathlib.Core.List.{List}
-use Prim.Native.Nat.{ℕ, ◌≤◌, ◌<◌}
+use Prim.Native.Nat.{ℕ, ◌≤◌}
 use lib.Dec.{leb}
 use lib.ListN.{length}
 use borrow.Author.Tests.{leb-false}
@@ -17,9 +17,8 @@ use Rattle.rules.specs.Calls.{rule}
 use Rattle.rules.specs.Calls.Call.{Subscribe}
 use Rattle.layout.specs.Layout.{decode}
 use Rattle.store.specs.Find.{slot}
-use Rattle.store.proofs.Finding.{slot_found, slot_none}
-use Rattle.layout.specs.Fields.{zero_dispatcher}
-use Rattle.operation_laws.proofs.Frame.{canon_of, valid_now, guard_stop, guard_pass, consumer_found, consumer_missing, dispatcher_missing}
+use Rattle.store.proofs.Finding.{slot_none}
+use Rattle.operation_laws.proofs.Frame.{canon_of, valid_now, guard_stop, guard_pass, consumer_missing, dispatcher_missing}
 use Rattle.subscribe.specs.Admitted.{Admitted}
 use Rattle.subscribe.specs.Seats.{Seats, Joins}
 

@@ -1,12 +1,12 @@
 -- `ack::ack_shared` meets its contract: 64 outside ids are passed, or the dispatcher after the ack is written.
-use mathlib.Core.Path.{◌≡◌, refl, sym, ap, ◌∙◌}
+use mathlib.Core.Path.{◌≡◌, sym, ap, ◌∙◌}
 use Prim.Native.Nat.{ℕ, ◌*◌, ◌%◌, ◌^◌, ◌≤◌, ◌<◌}
 use native.Mathlib.Omega.{arith}
 use lib.ListN.{length}
 use borrow.Author.Tests.{ltb-false}
 use Rattle.rules.specs.State.{ledger_of, Pair, Dispatcher, by_id}
 use Rattle.layout.specs.Layout.{decode}
-use Rattle.layout.specs.Fields.{consumer_nth, dispatcher_nth}
+use Rattle.layout.specs.Fields.{dispatcher_nth}
 use Rattle.rules.specs.Dispatcher.{drop_complete, advance_mark_delete}
 use Rattle.rules.specs.Commands.{ack_groups}
 use Rattle.rules.specs.Valid.{ValidDispatcher}
@@ -14,8 +14,8 @@ use Rattle.layout.specs.Whole.{ShapedDispatcher}
 use Rattle.store.specs.Find.{slot}
 use Rattle.groups.specs.Lent.{groups_in}
 use Rattle.groups.proofs.Lists.{groups_read}
-use Rattle.operation_laws.proofs.Frame.{both, refused_with, done_with, shared_found, dispatcher_found_valid, dispatcher_found_pair}
-use Rattle.consumer.proofs.Found.{live_canon, live_in, live_valid, live_slot, live_consumer}
+use Rattle.operation_laws.proofs.Frame.{both, refused_with, done_with, dispatcher_found_valid, dispatcher_found_pair}
+use Rattle.consumer.proofs.Found.{live_canon, live_in, live_valid, live_slot}
 use Rattle.ack.specs.Ackable.{Ackable}
 use Rattle.ack.proofs.Turns.{kept_groups, kept_fits}
 use Rattle.ack.proofs.Finish.{advance_fits, advance_within, written_in, written_is}

@@ -1,18 +1,15 @@
 -- `close::close_shared` meets its contract: out of range, or the dispatcher is left and then the consumer goes.
 use mathlib.Core.Path.{refl, sym, ◌∙◌}
-use Prim.Native.Nat.{◌<◌}
-use lib.ListN.{length}
 use Rattle.layout.specs.Layout.{decode}
 use Rattle.layout.specs.Fields.{consumer_nth, dispatcher_nth}
 use Rattle.layout.proofs.Store.{canon_entries}
 use Rattle.layout.proofs.Placed.{dispatcher_in}
 use Rattle.rules.specs.Commands.{left_by}
 use Rattle.operation_laws.proofs.Frame.{refused_with, done_with, dispatcher_found_valid}
-use Rattle.consumer.proofs.Found.{live_canon, live_in, live_valid, live_slot, live_consumer}
+use Rattle.consumer.proofs.Found.{live_canon, live_valid, live_slot, live_consumer}
 use Rattle.dispatcher.proofs.Room.{room_for_all}
 use Rattle.close.proofs.Rings.{left_fits}
 use Rattle.close.proofs.Closes.{value_closed, close_over, close_shared, close_member, consumer_kept_in, closed_words, slot_of}
-use borrow.Author.Rules.{rules}
 use Rattle.close.proofs.close_shared.Goals as goal
 
 pub shared_dispatcher-d-requires : goal.shared_dispatcher-d-requires

@@ -1,22 +1,16 @@
 -- `flow::flow_shared` meets its contract: over the limit, or the consumer and then the dispatcher written.
-use mathlib.Core.Path.{◌≡◌, refl, sym, ap}
-use mathlib.Core.List.{List}
-use Prim.Native.Nat.{ℕ, ◌+◌, ◌<◌}
+use mathlib.Core.Path.{refl, sym, ap}
+use Prim.Native.Nat.{ℕ, ◌+◌}
 use native.Mathlib.Omega.{arith}
-use lib.ListN.{length}
 use Rattle.layout.specs.Layout.{decode}
 use Rattle.layout.specs.Fields.{consumer_nth}
-use Rattle.rules.specs.State.{Dispatcher, by_pair}
-use Rattle.rules.specs.State.Kind.{shared}
+use Rattle.rules.specs.State.{Dispatcher}
 use Rattle.layout.proofs.Placed.{dispatcher_in, shaped_permits}
 use Rattle.rules.specs.Dispatcher.{with_total}
 use Rattle.rules.specs.Commands.{with_permits}
-use Rattle.store.specs.Find.{slot}
-use Rattle.operation_laws.proofs.Frame.{refused_with, done_with, value_permits, shared_found, dispatcher_found_valid, dispatcher_still_in, consumer_then_dispatcher}
-use Rattle.consumer.specs.Live.{Live}
-use Rattle.consumer.proofs.Found.{live_canon, live_in, live_valid, live_slot, live_consumer}
+use Rattle.operation_laws.proofs.Frame.{refused_with, done_with, value_permits, dispatcher_found_valid, dispatcher_still_in, consumer_then_dispatcher}
+use Rattle.consumer.proofs.Found.{live_canon, live_in, live_valid, live_slot}
 use Rattle.flow.proofs.Grants.{flow_total_over, flow_shared}
-use borrow.Author.Rules.{rules}
 use Rattle.flow.proofs.flow_shared.Goals as goal
 
 pub shared_dispatcher-d-requires : goal.shared_dispatcher-d-requires

@@ -1,12 +1,5 @@
 -- `subscribe::subscribe` meets its contract: nothing to do, no room for the consumer, or by its kind.
-use mathlib.Core.Path.{◌≡◌, sym, ap, ◌∙◌}
-use mathlib.Core.Bool.{Bool, true, false, not, ◌&&◌}
-use mathlib.Core.List.{List}
-use Prim.Native.Nat.{ℕ}
-use lib.Dec.{leb}
-use lib.ListN.{length}
-use Rattle.rules.specs.Table.{is_some}
-use Rattle.rules.specs.State.{State, consumer_of}
+use mathlib.Core.Path.{sym, ap, ◌∙◌}
 use Rattle.rules.specs.Calls.Call.{Subscribe}
 use Rattle.layout.specs.Layout.{decode}
 use Rattle.layout.specs.Fields.{pair_of}

@@ -1,5 +1,5 @@
 -- `subscribe::join::join_ring` meets its contract: the id goes to the end of the ring, or is in it.
-use mathlib.Core.Path.{◌≡◌, sym, ap, ◌∙◌}
+use mathlib.Core.Path.{sym, ap, ◌∙◌}
 use mathlib.Core.Bool.{not}
 use Prim.Native.Nat.{ℕ}
 use Rattle.std.specs.Prelude.{is_some}
