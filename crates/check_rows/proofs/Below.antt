@@ -87,10 +87,6 @@ pub some_none : (q : ℕ → Bool) (n : ℕ) → ((i : ℕ) → i < n → q i �
 some_none q n f =
     not-true (some_below q n) (some_not q n ∙ each_given (λ j. not (q j)) n (λ i h. rw (f i h)))
 
--- none has passed yet, nor does the next
-pub some_turn : (q : ℕ → Bool) (i : ℕ) → some_below q i ≡ false → q i ≡ false → some_below q (i + 1) ≡ false
-some_turn q i e f = some_next q i ∙ rw (e, f)
-
 -- tests that agree below n
 pub each_same : (q r : ℕ → Bool) (n : ℕ) → ((i : ℕ) → i < n → q i ≡ r i) → each_below q n ≡ each_below r n
 unfolding each_below
