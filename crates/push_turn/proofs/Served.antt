@@ -78,6 +78,13 @@ module _ (ws : List ℕ) (d : ℕ) (spelt : spells ws ≡ true) (there : d < len
       → Serving e ws d t n
   serving_now e t n E q m = serving_valid (dispatcher_in (canon_of e ws spelt E) d there) served_valid (valid_now ws spelt).tables.each_topic t n q m
 
+  -- it is there, and its ring is short
+  pub served_here : (e : ℕ) → e ≡ (decode ws).entries → DispatcherIn e ws d
+  served_here e E = dispatcher_in (canon_of e ws spelt E) d there
+
+  pub ring_short : (e : ℕ) → e ≡ (decode ws).entries → length (dispatcher_nth (decode ws) d).attached ≤ 32
+  ring_short e E = (served_here e E).lists_fit.ring_fits
+
   -- what is looked up is it
   pub serving_found : (e : ℕ) → e ≡ (decode ws).entries → (x : places.Served) → x ≡ served_in (decode ws) e d → ServedHere x ws
   unfolding served_in

@@ -54,7 +54,8 @@ fn due_of(store: &[u64], e: usize, d: usize, permits: &mut [u64]) -> usize
     due_with(store, e, d, &mut ring[..size], permits)
 }
 
-// How many dispatches all dispatchers are due; the permits are left as the last service leaves them.
+// How many dispatches all dispatchers are due; the permits are left as the last service leaves them. The sum is a
+// loop, since each service moves the permits that the next one reads.
 pub fn due_shared(store: &[u64], e: usize, permits: &mut [u64]) -> usize
     requires { (spells store.now ≡ true) × (e ≡ (decode store.now).entries) }
     ensures count { result ≡ length (shared_records_now store.now permits.old) }

@@ -12,7 +12,7 @@ use consumer::lookup::find_consumer;
 use consumer::table::consumer_count;
 use dispatcher::ring::ring_id;
 
-// The slot of the consumer with an id; the number of consumers if it is not live.
+// The slot of the consumer with an id; the number of consumers if it is not live, as push's laws read a ring.
 fn slot_of(store: &[u64], e: usize, id: u64) -> usize
     requires { CanonStore e store.now }
     ensures { result ≡ slot by_id id (decode store.now).consumers }

@@ -36,7 +36,7 @@ pub fn signed(permits: u64) -> u64
     std::num::wrapping_add_u64(permits, TO_SIGNED)
 }
 
-// Writes a dispatch as record `m` of a list.
+// Writes a dispatch as record `m` of a list, word by word: an array of the words in between is as many lines and a copy more.
 pub fn write_record(list: &mut [u64], m: usize, record: Dispatch)
     requires { m * 13 + 13 ≤ length list.old }
     ensures { list.new ≡ (lay (record_words «record»)).run (m * 13) list.old }

@@ -12,7 +12,6 @@ use Rattle.operation_laws.proofs.Frame.{canon_of}
 use Rattle.push_turn.specs.Turns.{ledger_under}
 use Rattle.push_turn.proofs.Served.{serving_now, served_few}
 use Rattle.push_turn.proofs.Totals.{carried_start, carried_on, carried_end}
-use borrow.Author.Rules.{rules}
 use Rattle.push_turn.proofs.due.due_shared.Goals as goal
 
 pub dispatcher_count-n-requires : goal.dispatcher_count-n-requires

@@ -1,5 +1,5 @@
 -- `push_turn::due::due_turns` meets its contract. The loop's invariant: what is left, with the steps made, is the whole service.
-use Rattle.std.proofs.Common.{◌≤◌, refl, sym, ap, ◌∙◌, ℕ, List, length, arith, rules}
+use Rattle.std.proofs.Common.{◌≤◌, sym, ap, ◌∙◌, ℕ, List, length, arith}
 use Rattle.layout.specs.Layout.{decode}
 use Rattle.layout.specs.Fields.{dispatcher_nth}
 use Rattle.dispatcher.specs.Values.{head_of}

@@ -1,5 +1,4 @@
 -- The loop of `due_turns`: what is left, with the steps made, is the whole service.
-use Rattle.std.proofs.Common.{◌≡◌, length}
 use Rattle.layout.specs.Layout.{decode}
 use Rattle.layout.specs.Fields.{dispatcher_nth}
 use Rattle.dispatcher.specs.Values.{head_of}

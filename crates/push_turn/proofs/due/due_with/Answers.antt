@@ -6,22 +6,15 @@ use native.Mathlib.Omega.{arith}
 use lib.ListN.{length}
 use Rattle.layout.specs.Layout.{decode}
 use Rattle.layout.specs.Fields.{dispatcher_nth}
-use Rattle.layout.specs.Placed.{DispatcherIn}
-use Rattle.layout.proofs.Placed.{dispatcher_in}
-use Rattle.operation_laws.proofs.Frame.{canon_of}
 use Rattle.push_laws.specs.Local.{fixed_of, served}
-use Rattle.push_turn.proofs.Served.{serving_found, found_at, next_in_ring, ring_length}
+use Rattle.push_turn.proofs.Served.{served_here, serving_found, found_at, next_in_ring, ring_length}
 use Rattle.push_turn.proofs.due.due_with.Goals as goal
 
 pub find_served-served-requires : goal.find_served-served-requires
-find_served-served-requires c =
-    let there : DispatcherIn c.args.e c.args.store.now c.args.d = dispatcher_in (canon_of c.args.e c.args.store.now c.requires.0 c.requires.1) c.args.d c.requires.2 in
-    there
+find_served-served-requires c = served_here c.args.store.now c.args.d c.requires.0 c.requires.2 c.args.e c.requires.1
 
 pub ring_slots-requires : goal.ring_slots-requires
-ring_slots-requires c =
-    let there : DispatcherIn c.args.e c.args.store.now c.args.d = dispatcher_in (canon_of c.args.e c.args.store.now c.requires.0 c.requires.1) c.args.d c.requires.2 in
-    (there, c.requires.3)
+ring_slots-requires c = (served_here c.args.store.now c.args.d c.requires.0 c.requires.2 c.args.e c.requires.1, c.requires.3)
 
 pub due_turns-requires : goal.due_turns-requires
 due_turns-requires c =

@@ -9,7 +9,6 @@ use Rattle.layout.specs.Fields.{dispatcher_nth}
 use Rattle.store.specs.Find.{slot}
 use Rattle.push_laws.specs.Local.{fixed_of}
 use Rattle.push_turn.proofs.Slots.{written_on, written_all}
-use borrow.Author.Rules.{rules}
 use Rattle.push_turn.proofs.ring.ring_slots.Goals as goal
 
 pub loop-j-init : goal.loop-j-init

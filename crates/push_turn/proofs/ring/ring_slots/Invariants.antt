@@ -1,7 +1,6 @@
 -- `push_turn::ring::ring_slots` meets its contract. The loop's invariant: the first j places are written, the others as they were.
 use mathlib.Core.Path.{◌≡◌}
 use Prim.Native.Nat.{ℕ}
-use lib.ListN.{length}
 use Rattle.rules.specs.State.{by_id}
 use Rattle.layout.specs.Layout.{decode}
 use Rattle.layout.specs.Fields.{dispatcher_nth}
