@@ -27,12 +27,10 @@ fn show_each(rt: &impl Print, store: &[u64], e: usize) -> io::Result<()>
 {
     let n = dispatcher_count(store, e);
     show_count(rt, n as u64)?;
-    let mut d = 0;
-    while d < n {
+    for d in 0..n {
         let balance = balance_check(store, e, d);
         let total = total_available_permits(store, e, d);
         show_balance(rt, d as u64, balance, total)?;
-        d += 1;
     }
     Ok(())
 }

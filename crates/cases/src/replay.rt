@@ -4,24 +4,25 @@
 ghost use Rattle.std.specs.Prelude.{◌≤◌, length};
 
 use crate::balances::show_balances;
-use cases_line::name::{
-    ACK, APPEND, BALANCE, CLOSE, FLOW, OPEN, PLAIN, PUSH, REDELIVER, ROW, SEEK, START, SUBSCRIBE,
-};
+use cases_line::name::{Name, is_plain, is_start, name_of};
 use cases_line::{read_line, words_of};
 use cases_rows::replay_row;
 use cases_show::{show_outcome, show_records, show_twin};
 use cases_twin::{as_records, copy_words};
 use std::io;
 use std::io::BufRead;
+use told::{number_in, value_in};
+use trace_kind::Command;
 
-// Replays the input to its end, or to an empty line. The turns are counted down from a number that no
-// input reaches, since a proved loop has to end.
+// Replays the input to its end, or to an empty line. The turns are more than any input has lines, since
+// a proved loop has to end.
 pub(crate) fn replay(rt: &(impl Input + Print)) -> io::Result<()> {
     let mut input = rt.reader();
     let mut store = [0u64; 8192];
-    let mut turns = 18446744073709551615u64;
-    while turns > 0 && replay_line(rt, &mut input, &mut store)? {
-        turns -= 1;
+    for turns in 0..u64::MAX {
+        if !replay_line(rt, &mut input, &mut store)? {
+            return Ok(());
+        }
     }
     Ok(())
 }
@@ -52,14 +53,12 @@ fn is_heading(line: &[u8]) -> bool {
 fn replay_call(rt: &impl Print, store: &mut [u64], line: &[u8]) -> io::Result<()> {
     let mut words = [0u64; 2048];
     let n = words_of(line, &mut words);
-    if words[0] == PUSH {
-        replay_push(rt, store, n, words[1])
-    } else if words[0] == ROW {
-        replay_row(rt, store, &words, n)
-    } else if words[0] == BALANCE {
-        show_balances(rt, store)
-    } else {
-        show_outcome(rt, words[0], answer_of(store, &words, n))
+    let name = name_of(words[0]);
+    match name {
+        Some(Name::Call(Command::Push)) => replay_push(rt, store, n, words[1]),
+        Some(Name::Row) => replay_row(rt, store, &words, n),
+        Some(Name::Balance) => show_balances(rt, store),
+        _ => show_outcome(rt, name, answer_of(store, name, &words, n)),
     }
 }
 
@@ -79,9 +78,9 @@ fn push_into(rt: &impl Print, store: &mut [u64], list: &mut [u64], room: usize) 
     requires { room ≤ length list.old }
 {
     let answer = broker::broker_push(store, &mut list[..room]);
-    show_outcome(rt, PUSH, answer)?;
-    if answer % 256 == 0 {
-        show_records(rt, list, 0, answer / 256)?;
+    show_outcome(rt, Some(Name::Call(Command::Push)), answer)?;
+    if number_in(answer) == 0 {
+        show_records(rt, list, 0, value_in(answer))?;
     }
     Ok(answer)
 }
@@ -99,25 +98,29 @@ fn words_for(n: usize, records: u64) -> usize
     records as usize * 13
 }
 
-// The answer of a call other than push; 255 where no call has the name.
-fn answer_of(store: &mut [u64], words: &[u64], n: usize) -> u64
+// The answer of a call other than push; 255 where no call has the name, and of a list of groups without
+// a consumer.
+fn answer_of(store: &mut [u64], name: Option<Name>, words: &[u64], n: usize) -> u64
     requires in_bounds { 8 ≤ length words.now }
     requires n_in_bounds { n ≤ length words.now }
 {
-    let name = words[0];
-    if name == OPEN {
-        return broker::broker_open(store, words[1], words[2], words[3]);
+    match name {
+        Some(Name::Open) => broker::broker_open(store, words[1], words[2], words[3]),
+        Some(Name::Call(Command::Append)) => append_answer(store, words),
+        Some(Name::Call(Command::Subscribe)) => subscribe_answer(store, words),
+        Some(Name::Call(Command::Flow)) => {
+            broker::broker_flow(store, words[1], (words[2] % 4294967296) as u32)
+        }
+        Some(Name::Call(Command::Ack)) if n >= 2 => {
+            broker::broker_ack(store, words[1], &words[2..n])
+        }
+        Some(Name::Call(Command::Seek)) => seek_answer(store, words),
+        Some(Name::Call(Command::Redeliver)) if n >= 2 => {
+            broker::broker_redeliver(store, words[1], &words[2..n])
+        }
+        Some(Name::Call(Command::Close)) => broker::broker_close(store, words[1]),
+        _ => 255,
     }
-    if name == APPEND {
-        return append_answer(store, words);
-    }
-    if name == SUBSCRIBE {
-        return subscribe_answer(store, words);
-    }
-    if name == ACK || name == REDELIVER {
-        return list_answer(store, words, n);
-    }
-    consumer_answer(store, words)
 }
 
 // The answer of an append.
@@ -134,50 +137,15 @@ fn subscribe_answer(store: &mut [u64], words: &[u64]) -> u64
 {
     let topic = (words[3] % 256) as u8;
     let subscription = (words[4] % 256) as u8;
-    let mut kind = 1;
-    if words[2] == PLAIN {
-        kind = 0;
-    }
+    let kind = if is_plain(words[2]) { 0 } else { 1 };
     broker::broker_subscribe(store, words[1], kind, topic, subscription)
-}
-
-// The answer of a call that carries a list of groups, all words after the consumer; 255
-// without a consumer.
-fn list_answer(store: &mut [u64], words: &[u64], n: usize) -> u64
-    requires in_bounds { 8 ≤ length words.now }
-    requires n_in_bounds { n ≤ length words.now }
-{
-    if n < 2 {
-        return 255;
-    }
-    if words[0] == ACK {
-        return broker::broker_ack(store, words[1], &words[2..n]);
-    }
-    broker::broker_redeliver(store, words[1], &words[2..n])
-}
-
-// The answer of a flow, seek or close.
-fn consumer_answer(store: &mut [u64], words: &[u64]) -> u64
-    requires { 8 ≤ length words.now }
-{
-    let name = words[0];
-    if name == FLOW {
-        return broker::broker_flow(store, words[1], (words[2] % 4294967296) as u32);
-    }
-    if name == SEEK {
-        return seek_answer(store, words);
-    }
-    if name == CLOSE {
-        return broker::broker_close(store, words[1]);
-    }
-    255
 }
 
 // The answer of a seek.
 fn seek_answer(store: &mut [u64], words: &[u64]) -> u64
     requires { 8 ≤ length words.now }
 {
-    if words[2] == START {
+    if is_start(words[2]) {
         return broker::broker_seek(store, words[1], 0, 0, 0);
     }
     broker::broker_seek(store, words[1], 1, words[3], words[4])

@@ -136,7 +136,8 @@ module _ (line start words : List ℕ) (n i : ℕ) (zeros : start ≡ replicate 
   pub count_full : length words ≡ length start → n ≤ length words → length words ≤ n → n ≡ min (length start) (length (numbers line))
   count_full e h k = let c = ends_count line 0 in omega (arith, e, h, k, c, r.count)
 
-  pub count_ended : length words ≡ length start → length line ≤ i → n < length words → n + 1 ≡ min (length start) (length (numbers line))
+  pub count_ended : length words ≡ length start → length line ≤ i → n ≤ length words
+      → min (length words) (n + 1) ≡ min (length start) (length (numbers line))
   unfolding ended
   count_ended e h k =
       let c = ends_count line 0 in let d : ended (drop i line) ≡ 0 = rw (drop_of_length-le line h) in omega (arith, e, k, c, d, r.count)

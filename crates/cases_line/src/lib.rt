@@ -19,16 +19,14 @@ use std::io::BufRead;
 pub fn read_line(input: &mut impl BufRead, line: &mut [u8]) -> io::Result<usize>
     ensures { ReadsAtMost result line.new }
 {
-    let mut n = 0;
-    while n < line.len() {
+    for n in 0..line.len() {
         let b = next_byte(input)?;
         if b == 0 {
-            break;
+            return Ok(n);
         }
         line[n] = b;
-        n += 1;
     }
-    Ok(n)
+    Ok(line.len())
 }
 
 // Reads one byte; 0 at the end of the line or of the input.
@@ -38,7 +36,7 @@ fn next_byte(input: &mut impl BufRead) -> io::Result<u8> {
         None => return Ok(0),
     };
     input.consume(1);
-    if b == 10 {
+    if b == b'\n' {
         return Ok(0);
     }
     Ok(b)
@@ -52,40 +50,37 @@ pub fn words_of(line: &[u8], words: &mut [u64]) -> usize
     ensures words { words.new ≡ first_words (length words.old) (numbers line.now) }
 {
     let mut n = 0;
-    let mut i = 0;
-    while i < line.len() {
+    for b in line {
         if n >= words.len() {
             return n;
         }
-        let b = line[i];
-        words[n] = joined(words[n], b);
-        n += blanks(b);
-        i += 1;
+        words[n] = joined(words[n], *b);
+        n += blanks(*b);
     }
-    if n < words.len() {
-        return n + 1;
-    }
-    n
+    words.len().min(n + 1)
 }
 
 // 1 for a byte that ends a word, else 0.
 fn blanks(b: u8) -> usize
     ensures { result ≡ cond (ltb 32 b) 0 1 }
 {
-    if b > 32 { 0 } else { 1 }
+    if b <= b' ' { 1 } else { 0 }
 }
+
+// What seven letters spell is below this, 2^56.
+const SEVEN_LETTERS: u64 = 72_057_594_037_927_936;
 
 // A word with one more digit or letter; any byte below the digits leaves it.
 fn joined(word: u64, b: u8) -> u64
     ensures { result ≡ with_byte word b }
 {
-    if b < 48 {
+    if b < b'0' {
         return word;
     }
-    if b < 58 {
-        return with_digit(word, (b - 48) as u64);
+    if b <= b'9' {
+        return with_digit(word, u64::from(b - b'0'));
     }
-    word % 72057594037927936 * 256 + b as u64
+    word % SEVEN_LETTERS * 256 + u64::from(b)
 }
 
 // A number with one more digit; the largest where it would pass it.
@@ -93,18 +88,12 @@ fn with_digit(word: u64, d: u64) -> u64
     requires { d < 10 }
     ensures { result ≡ with_digit word d }
 {
-    if word > (18446744073709551615 - d) / 10 {
-        return 18446744073709551615;
-    }
-    word * 10 + d
+    word.saturating_mul(10).saturating_add(d)
 }
 
 // The word at a place of a slice, or 0 past its end.
 pub fn word_or_zero(words: &[u64], i: usize) -> u64
     ensures { result ≡ get_or words.now i 0 }
 {
-    if i < words.len() {
-        return words[i];
-    }
-    0
+    words.get(i).copied().unwrap_or(0)
 }

@@ -1,41 +1,78 @@
-// The names of the script as the numbers that the words of a line are read as: the last eight letters
-// in base 256.
+// What a line of the script asks for. A name is read as the number that its last eight letters spell in base 256.
+use trace_kind::Command;
+
+// The store opened, a call, a row of calls, the balance check.
+#[derive(Clone, Copy, Debug, PartialEq, Eq)]
+pub enum Name {
+    Open,
+    Call(Command),
+    Row,
+    Balance,
+}
 
 // open
-pub const OPEN: u64 = 0x6f70656e;
+const OPEN: u64 = 0x6f70656e;
 
 // append
-pub const APPEND: u64 = 0x617070656e64;
+const APPEND: u64 = 0x617070656e64;
 
 // subscribe
-pub const SUBSCRIBE: u64 = 0x7562736372696265;
+const SUBSCRIBE: u64 = 0x7562736372696265;
 
 // flow
-pub const FLOW: u64 = 0x666c6f77;
+const FLOW: u64 = 0x666c6f77;
 
 // ack
-pub const ACK: u64 = 0x61636b;
+const ACK: u64 = 0x61636b;
 
 // seek
-pub const SEEK: u64 = 0x7365656b;
+const SEEK: u64 = 0x7365656b;
 
 // redeliver
-pub const REDELIVER: u64 = 0x6564656c69766572;
+const REDELIVER: u64 = 0x6564656c69766572;
 
 // close
-pub const CLOSE: u64 = 0x636c6f7365;
+const CLOSE: u64 = 0x636c6f7365;
 
 // push
-pub const PUSH: u64 = 0x70757368;
+const PUSH: u64 = 0x70757368;
 
 // balance
-pub const BALANCE: u64 = 0x62616c616e6365;
+const BALANCE: u64 = 0x62616c616e6365;
 
 // row
-pub const ROW: u64 = 0x726f77;
+const ROW: u64 = 0x726f77;
 
 // plain
-pub const PLAIN: u64 = 0x706c61696e;
+const PLAIN: u64 = 0x706c61696e;
 
 // start
-pub const START: u64 = 0x7374617274;
+const START: u64 = 0x7374617274;
+
+// The name that a word of a line is, if it is one.
+pub fn name_of(word: u64) -> Option<Name> {
+    match word {
+        OPEN => Some(Name::Open),
+        APPEND => Some(Name::Call(Command::Append)),
+        SUBSCRIBE => Some(Name::Call(Command::Subscribe)),
+        FLOW => Some(Name::Call(Command::Flow)),
+        ACK => Some(Name::Call(Command::Ack)),
+        SEEK => Some(Name::Call(Command::Seek)),
+        REDELIVER => Some(Name::Call(Command::Redeliver)),
+        CLOSE => Some(Name::Call(Command::Close)),
+        PUSH => Some(Name::Call(Command::Push)),
+        BALANCE => Some(Name::Balance),
+        ROW => Some(Name::Row),
+        _ => None,
+    }
+}
+
+// Whether a subscribe's kind is plain.
+pub fn is_plain(word: u64) -> bool {
+    word == PLAIN
+}
+
+// Whether a seek's target is the start.
+pub fn is_start(word: u64) -> bool {
+    word == START
+}

@@ -4,6 +4,7 @@
 
 use bits::UnackedBits;
 use std::io;
+use told::number_in;
 
 // K1 to K4 as far as they concern bits, and the largest batch.
 pub fn bit_readings(rt: &impl Print) -> io::Result<()> {
@@ -133,9 +134,8 @@ fn show_word(rt: &impl Print, w: u64) -> io::Result<()> {
 
 // A line: the label, and done or the refusal's number.
 fn show_answer(rt: &impl Print, label: &str, answer: u64) -> io::Result<()> {
-    if answer % 256 == 0 {
-        println!(rt; "{label}: done")
-    } else {
-        println!(rt; "{label}: refused {}", answer % 256)
+    match number_in(answer) {
+        0 => println!(rt; "{label}: done"),
+        number => println!(rt; "{label}: refused {number}"),
     }
 }

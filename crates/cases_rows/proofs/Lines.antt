@@ -1,10 +1,12 @@
 -- A line's row: the answers and the list that are lent are the first words of arrays of zeros, as many as the line says.
-use Prim.Native.Nat.{ℕ, zero, suc, ◌-◌, ◌*◌, ◌≤◌, ◌<◌}
+use Prim.Native.Nat.{ℕ, zero, suc, ◌-◌, ◌*◌, ◌≤◌, ◌<◌, min}
 use mathlib.Core.Path.{◌≡◌, refl, ap, ap₂, ◌∙◌}
+use mathlib.Core.Bool.{Bool, true, false, cond}
 use mathlib.Core.List.{List, ◌∷◌}
+use lib.Dec.{leb}
 use native.Mathlib.Omega.{arith}
 use lib.ListN.{get_or, take, drop, replicate}
-use borrow.Author.Tests.{lt-ltb, le-ltb}
+use borrow.Author.Tests.{lt-ltb, le-ltb, leb-true, leb-false}
 use Rattle.row.specs.Row.{words_left}
 use Rattle.cases_rows.specs.Line.{at_most_64, row_line_after}
 
@@ -13,6 +15,15 @@ first_zeros : (k n : ℕ) → k ≤ n → take {A = ℕ} k (replicate n 0) ≡ r
 first_zeros zero n h = refl
 first_zeros (suc k) zero h = absurd (omega arith)
 first_zeros (suc k) (suc n) h = ap (λ (l : List ℕ). 0 ∷ l) (first_zeros k n (omega arith))
+
+-- the least of a number and 64
+pub cut_at_64 : (n : ℕ) → min n 64 ≡ at_most_64 n
+unfolding at_most_64
+cut_at_64 n = go (leb n 64) refl
+  where
+    go : (t : Bool) → leb n 64 ≡ t → min n 64 ≡ cond t n 64
+    go true e = let h = leb-true n 64 e in omega arith
+    go false e = let h = leb-false n 64 e in omega arith
 
 module _ (ws script : List ℕ) {us : List ℕ} where
   -- so a row that is lent the first words of such arrays is one that is lent zeros

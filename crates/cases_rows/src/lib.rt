@@ -9,9 +9,11 @@ ghost use Rattle.row.specs.Row.{words_left};
 ghost use Rattle.cases_rows.specs.Line.{at_most_64, row_line_after};
 
 use broker::rows::broker_calls;
-use cases_line::{name, word_or_zero};
+use cases_line::name::Name;
+use cases_line::word_or_zero;
 use cases_show::{show_outcome, show_records};
 use std::io;
+use told::{number_in, value_in};
 use trace_kind::Command;
 
 // Makes the row of a line of `n` words and prints what it gave; 255 without the two numbers.
@@ -22,7 +24,7 @@ pub fn replay_row(rt: &impl Print, store: &mut [u64], words: &[u64], n: usize) -
     ensures { store.new ≡ row_line_after store.old words.now n }
 {
     if n < 3 {
-        return show_outcome(rt, name::ROW, 255);
+        return show_outcome(rt, Some(Name::Row), 255);
     }
     replay_script(
         rt,
@@ -37,10 +39,7 @@ pub fn replay_row(rt: &impl Print, store: &mut [u64], words: &[u64], n: usize) -
 fn at_most_64(number: u64) -> usize
     ensures { (result ≡ at_most_64 number) × (result ≤ 64) }
 {
-    if number > 64 {
-        return 64;
-    }
-    number as usize
+    number.min(64) as usize
 }
 
 // Makes the row of a script with `a` words for answers and `room` words of a list.
@@ -57,9 +56,9 @@ fn replay_script(
     let mut answers = [0u64; 64];
     let mut list = [0u64; 832];
     let answer = row_into(store, script, &mut answers, a, &mut list, room);
-    show_outcome(rt, name::ROW, answer)?;
-    if answer % 256 == 0 {
-        return show_calls(rt, script, &answers, &list, answer / 256);
+    show_outcome(rt, Some(Name::Row), answer)?;
+    if number_in(answer) == 0 {
+        return show_calls(rt, script, &answers, &list, value_in(answer));
     }
     Ok(())
 }
@@ -89,31 +88,34 @@ fn show_calls(
     list: &[u64],
     count: u64,
 ) -> io::Result<()> {
-    let mut call = 0;
     let mut at = 0;
     let mut used = 0;
-    while call < answers.len() && (call as u64) < count {
-        let name = name_of(word_or_zero(script, at));
-        let answer = answers[call];
-        call += 1;
-        show_call(rt, call as u64, name, answer)?;
-        used = show_pushed(rt, name, answer, list, used)?;
+    for call in 0..count.min(64) as usize {
+        let command = Command::try_from(word_or_zero(script, at)).ok();
+        let answer = word_or_zero(answers, call);
+        show_call(rt, call + 1, command, answer)?;
+        used = show_pushed(rt, command, answer, list, used)?;
         at = next_record(script, at);
     }
     Ok(())
 }
 
 // A line: a call's number, and what it gave.
-fn show_call(rt: &impl Print, number: u64, name: u64, answer: u64) -> io::Result<()> {
+fn show_call(
+    rt: &impl Print,
+    number: usize,
+    command: Option<Command>,
+    answer: u64,
+) -> io::Result<()> {
     print!(rt; "  {number}: ")?;
-    show_outcome(rt, name, answer)
+    show_outcome(rt, command.map(|command| Name::Call(command)), answer)
 }
 
 // The records of a call, which stand from a place of the list on if it is a push that was done; answers
 // the place after them.
 fn show_pushed(
     rt: &impl Print,
-    name: u64,
+    command: Option<Command>,
     answer: u64,
     list: &[u64],
     from: usize,
@@ -121,8 +123,8 @@ fn show_pushed(
     requires { from ≤ length list.now }
     ensures { IfOk result (λ at. at ≤ length list.now) }
 {
-    if name == name::PUSH && answer % 256 == 0 {
-        return show_records(rt, list, from, answer / 256);
+    if command == Some(Command::Push) && number_in(answer) == 0 {
+        return show_records(rt, list, from, value_in(answer));
     }
     Ok(from)
 }
@@ -142,21 +144,4 @@ fn next_record(script: &[u64], at: usize) -> usize
         return script.len();
     }
     at + 2 + count as usize
-}
-
-// The name of a call of a kind, as kinds are numbered in a script; 0 for any other number.
-fn name_of(kind: u64) -> u64 {
-    let Ok(command) = Command::try_from(kind) else {
-        return 0;
-    };
-    match command {
-        Command::Append => name::APPEND,
-        Command::Subscribe => name::SUBSCRIBE,
-        Command::Flow => name::FLOW,
-        Command::Ack => name::ACK,
-        Command::Seek => name::SEEK,
-        Command::Redeliver => name::REDELIVER,
-        Command::Close => name::CLOSE,
-        Command::Push => name::PUSH,
-    }
 }

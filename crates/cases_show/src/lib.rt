@@ -4,44 +4,43 @@
 
 ghost use Rattle.std.specs.Prelude.{◌+◌, ◌≤◌, length, IfOk};
 
-use cases_line::name::{ACK, CLOSE, FLOW, PUSH, ROW, SEEK};
+use cases_line::name::Name;
 use std::io;
+use store::permits::ZERO_PERMITS;
+use told::{number_in, value_in};
+use trace_kind::Command;
 
 // Done and the value, or the refusal's number, and the end of the line.
-pub fn show_outcome(rt: &impl Print, name: u64, answer: u64) -> io::Result<()> {
-    let number = answer % 256;
-    if number == 0 {
-        print!(rt; "done")?;
-        show_value(rt, name, answer / 256)?;
-    } else {
-        show_field(rt, "refused ", number)?;
-        if number == 15 {
-            show_field(rt, ", due ", answer / 256)?;
-        } else if number == 64 {
-            show_field(rt, ", calls ", answer / 256)?;
+pub fn show_outcome(rt: &impl Print, name: Option<Name>, answer: u64) -> io::Result<()> {
+    let value = value_in(answer);
+    match number_in(answer) {
+        0 => {
+            print!(rt; "done")?;
+            show_value(rt, name, value)?;
         }
+        15 => print!(rt; "refused 15, due {value}")?,
+        64 => print!(rt; "refused 64, calls {value}")?,
+        number => print!(rt; "refused {number}")?,
     }
     println!(rt)
 }
 
 // The value of a call that has one.
-fn show_value(rt: &impl Print, name: u64, value: u64) -> io::Result<()> {
-    if name == FLOW {
-        print!(rt; ", permits ")?;
-        show_value_signed(rt, value)
-    } else if name == ACK {
-        show_field(rt, ", mark_delete ", value / 2)?;
-        show_moved(rt, value % 2)
-    } else if name == SEEK {
-        show_field(rt, ", cursor ", value)
-    } else if name == CLOSE {
-        show_field(rt, ", closed ", value)
-    } else if name == PUSH {
-        show_field(rt, ", dispatches ", value)
-    } else if name == ROW {
-        show_field(rt, ", calls ", value)
-    } else {
-        Ok(())
+fn show_value(rt: &impl Print, name: Option<Name>, value: u64) -> io::Result<()> {
+    match name {
+        Some(Name::Call(Command::Flow)) => {
+            print!(rt; ", permits ")?;
+            show_value_signed(rt, value)
+        }
+        Some(Name::Call(Command::Ack)) => {
+            show_field(rt, ", mark_delete ", value / 2)?;
+            show_moved(rt, value % 2)
+        }
+        Some(Name::Call(Command::Seek)) => show_field(rt, ", cursor ", value),
+        Some(Name::Call(Command::Close)) => show_field(rt, ", closed ", value),
+        Some(Name::Call(Command::Push)) => show_field(rt, ", dispatches ", value),
+        Some(Name::Row) => show_field(rt, ", calls ", value),
+        _ => Ok(()),
     }
 }
 
@@ -54,12 +53,15 @@ fn show_moved(rt: &impl Print, moved: u64) -> io::Result<()> {
     }
 }
 
+// A value of an answer is below this, 2^56.
+const VALUES: u64 = 72_057_594_037_927_936;
+
 // A value of an answer, which has 56 bits, as a signed number.
 fn show_value_signed(rt: &impl Print, value: u64) -> io::Result<()> {
-    if value < 36028797018963968 {
+    if value < VALUES / 2 {
         print!(rt; "{value}")
     } else {
-        show_field(rt, "-", 72057594037927936 - value % 72057594037927936)
+        show_field(rt, "-", VALUES - value % VALUES)
     }
 }
 
@@ -78,14 +80,12 @@ pub fn show_records(rt: &impl Print, list: &[u64], from: usize, count: u64) -> i
     ensures { IfOk result (λ at. at ≤ length list.now) }
 {
     let mut at = from;
-    let mut left = count;
-    while left > 0 {
+    for shown in 0..count {
         if list.len() - at < 13 {
             return Ok(at);
         }
         show_record(rt, list, at)?;
         at += 13;
-        left -= 1;
     }
     Ok(at)
 }
@@ -98,9 +98,7 @@ fn show_record(rt: &impl Print, list: &[u64], at: usize) -> io::Result<()>
     show_ack_set(rt, list, at)?;
     show_field(rt, "] redelivery_count ", list[at + 10])?;
     show_field(rt, " cost ", list[at + 11])?;
-    print!(rt; " permits ")?;
-    show_signed(rt, list[at + 12])?;
-    println!(rt)
+    println!(rt; " permits {}", list[at + 12].cast_signed())
 }
 
 // Who is sent what.
@@ -119,29 +117,14 @@ fn show_ack_set(rt: &impl Print, list: &[u64], at: usize) -> io::Result<()>
     requires { at + 13 ≤ length list.now }
 {
     print!(rt; " ack_set [")?;
-    let count = list[at + 5];
-    if count > 0 {
-        print!(rt; "{}", list[at + 6])?;
-    }
-    if count > 1 {
-        show_field(rt, ", ", list[at + 7])?;
-    }
-    if count > 2 {
-        show_field(rt, ", ", list[at + 8])?;
-    }
-    if count > 3 {
-        show_field(rt, ", ", list[at + 9])?;
+    let count = list[at + 5].min(4) as usize;
+    for i in 0..count {
+        if i > 0 {
+            print!(rt; ", ")?;
+        }
+        print!(rt; "{}", list[at + 6 + i])?;
     }
     Ok(())
-}
-
-// A word of 64 bits as a signed number.
-fn show_signed(rt: &impl Print, w: u64) -> io::Result<()> {
-    if w < 9223372036854775808 {
-        print!(rt; "{w}")
-    } else {
-        show_field(rt, "-", 18446744073709551615 - w + 1)
-    }
 }
 
 // How many dispatchers there are, and the end of the line.
@@ -161,10 +144,10 @@ pub fn show_balance(rt: &impl Print, dispatcher: u64, balance: u64, total: u64) 
 // A label and permits in excess form.
 fn show_permits(rt: &impl Print, label: &str, permits: u64) -> io::Result<()> {
     print!(rt; "{label}")?;
-    if permits < 4611686018427387904 {
-        show_field(rt, "-", 4611686018427387904 - permits)
+    if permits < ZERO_PERMITS {
+        show_field(rt, "-", ZERO_PERMITS - permits)
     } else {
-        print!(rt; "{}", permits - 4611686018427387904)
+        print!(rt; "{}", permits - ZERO_PERMITS)
     }
 }
 

@@ -11,15 +11,14 @@ ghost use Rattle.cases_twin.specs.Twin.{written_back, told, pushed, lent_after, 
 use cases_line::word_or_zero;
 use push_records::listed::{Listed, push_listed};
 use record::{Dispatch, write_record};
+use told::{number_in, value_in};
 
 // Copies words to the whole of another slice, 0 past their end.
 pub fn copy_words(from: &[u64], to: &mut [u64])
     ensures { to.new ≡ first_words (length to.old) from.now }
 {
-    let mut i = 0;
-    while i < to.len() {
+    for i in 0..to.len() {
         to[i] = word_or_zero(from, i);
-        i += 1;
     }
 }
 
@@ -30,12 +29,10 @@ fn same_words(a: &[u64], b: &[u64]) -> bool
     if a.len() != b.len() {
         return false;
     }
-    let mut i = 0;
-    while i < a.len() {
+    for i in 0..a.len() {
         if a[i] != b[i] {
             return false;
         }
-        i += 1;
     }
     true
 }
@@ -45,10 +42,8 @@ fn write_back(records: [Dispatch; 64], n: usize, list: &mut [u64])
     requires { (n ≤ 64) × (length list.old ≡ 832) }
     ensures { list.new ≡ written_back records n list.old }
 {
-    let mut i = 0;
-    while i < n {
+    for i in 0..n {
         write_record(list, i, records[i]);
-        i += 1;
     }
 }
 
@@ -56,13 +51,10 @@ fn write_back(records: [Dispatch; 64], n: usize, list: &mut [u64])
 fn told(answer: u64) -> usize
     ensures { (result ≡ told answer) × (result ≤ 64) }
 {
-    if answer % 256 > 0 {
+    if number_in(answer) > 0 {
         return 0;
     }
-    if answer / 256 > 64 {
-        return 64;
-    }
-    (answer / 256) as usize
+    value_in(answer).min(64) as usize
 }
 
 // A push into records, over the first `room` words of a flat list.

@@ -39,7 +39,7 @@ fn main(rt: HostRuntime) {
     play(&rt, &mut store);
 }
 
-// Plays the input to its end, in fewer turns than any input has bytes, since a proved loop has to end.
+// Plays the input to its end. The turns are more than any input takes, since a proved loop has to end.
 fn play(rt: &(impl Input + Print), store: &mut [u64])
     requires { spells store.old ≡ true }
 {

@@ -1,9 +1,6 @@
--- The places in the script and in the list stay within them; the measure is what is left of the answers.
-use Rattle.std.proofs.Common.{◌≤◌, ◌-◌, length}
+-- The places in the script and in the list stay within them.
+use Rattle.std.proofs.Common.{◌≤◌, length}
 use Rattle.cases_rows.proofs.show_calls.Given as goal
 
 abbrev pub invariant-loop-call : goal.invariant-loop-call
 invariant-loop-call g l = (l.at ≤ length l.script) × (l.used ≤ length l.list)
-
-abbrev pub decreases-loop-call : goal.decreases-loop-call
-decreases-loop-call g l = length l.answers - l.call
