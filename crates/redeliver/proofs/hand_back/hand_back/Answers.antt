@@ -18,31 +18,31 @@ hand_back_held-requires c =
     let s = decode a.store.now in
     let x = dispatcher_nth s a.d in
     let k = c.in-Some.k in
-    let j = c.in-Some-2.j in
-    let f = found_some by_hold (held_of a.id k) x.in_flight (sym c.in-Some-2.is ∙ c.find_hold.ensures) in
+    let j = c.in-Some-find_hold.j in
+    let f = found_some by_hold (held_of a.id k) x.in_flight (sym c.in-Some-find_hold.is ∙ c.find_hold.ensures) in
     (p.0, f.1, held_room s a.id j k x p.1 f.0 a.e p.0.lists_fit.marks_fit f.1, held_marked s a.id j k x p.1 f.0 f.1)
 
-pub returns-in-Some : goal.returns-in-Some
-returns-in-Some c =
+pub returns-in-Some-find_hold : goal.returns-in-Some-find_hold
+returns-in-Some-find_hold c =
     let a = c.args in
     let p = c.requires in
     let s = decode a.store.now in
     let x = dispatcher_nth s a.d in
     let k = c.in-Some.k in
-    let j = c.in-Some-2.j in
-    let f = found_some by_hold (held_of a.id k) x.in_flight (sym c.in-Some-2.is ∙ c.find_hold.ensures) in
+    let j = c.in-Some-find_hold.j in
+    let f = found_some by_hold (held_of a.id k) x.in_flight (sym c.in-Some-find_hold.is ∙ c.find_hold.ensures) in
     c.hand_back_held.ensures
     ∙ ap (λ (y : Dispatcher). put a.store.now (set_dispatcher s a.d y))
     (sym (redeliver_held s a.id j k x p.1 f.0 (ledger_of s a.topic) (group_of a.group).id c.in-Some.ensures.0 f.1))
 
-pub returns-in_default-2 : goal.returns-in_default-2
-returns-in_default-2 c =
+pub returns-in_default-find_hold : goal.returns-in_default-find_hold
+returns-in_default-find_hold c =
     let a = c.args in
     let p = c.requires in
     let s = decode a.store.now in
     let x = dispatcher_nth s a.d in
     let k = c.in-Some.k in
-    let f = found_none by_hold (held_of a.id k) x.in_flight (sym c.in_default-2.is ∙ c.find_hold.ensures) in
+    let f = found_none by_hold (held_of a.id k) x.in_flight (sym c.in_default-find_hold.is ∙ c.find_hold.ensures) in
     stays a.d _ p.0 (redeliver_none s a.id (slot by_hold (held_of a.id k) x.in_flight) k x p.1 refl (ledger_of s a.topic) (group_of a.group).id c.in-Some.ensures.0 f)
 
 pub returns-in_default : goal.returns-in_default
