@@ -1,6 +1,6 @@
 -- `trace_call::make_seek` meets its contract: its second word says where it goes, and an id follows unless it is 0.
 use native.Mathlib.Omega.{arith}
-use Rattle.seek.specs.Targets.{target_of}
+use Rattle.command_parts.specs.Parts.{target_of}
 use Rattle.trace.proofs.Forms.{seek_words, to_start, to_an_id}
 use Rattle.trace_call.proofs.Calls.{is_answered}
 use Rattle.trace_call.proofs.make_seek.Goals as goal
