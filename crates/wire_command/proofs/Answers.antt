@@ -24,6 +24,7 @@ use Rattle.wire_fields.specs.Found.{answered}
 use Rattle.wire_fields.specs.declared.unread.Unread.{Unread}
 use Rattle.wire_fields.specs.Unread.{unread_number}
 use Rattle.wire_fields.proofs.Answered.{Told, from_none}
+use Rattle.command_parts.specs.Parts.{kind_of}
 use Rattle.wire_command.specs.Found.{as_name, as_kind, as_target, as_command, words_of, content_reading, ids_words}
 use Rattle.wire_command.specs.Types.{type_number, type_from, read_word}
 use Rattle.wire_command.specs.declared.command_type.CommandType.{CommandType}
@@ -57,7 +58,7 @@ told_no_command o e = rw (from_none as_command o e)
 
 -- the eight words are those of the command
 words_same : (c : Command) → words_of (as_command c) ≡ command_words c
-unfolding words_of as_command command_words as_name as_kind kind_word as_target target_words
+unfolding words_of as_command command_words as_name as_kind kind_of kind_word as_target target_words
 words_same (Subscribe consumer request plain topic subscription) = refl
 words_same (Subscribe consumer request shared topic subscription) = refl
 words_same (Flow consumer permits) = refl

@@ -15,7 +15,7 @@ use Rattle.std.specs.Prelude.{Some, None}
 use Rattle.wire_fields.specs.Found.{answered}
 use Rattle.wire_fields.proofs.Answered.{from_some, from_none}
 use Rattle.wire_command.specs.Found.{target_in, target_of_bytes, as_target}
-use Rattle.wire_command.specs.declared.command.Target.{Target}
+use Rattle.command_parts.specs.declared.Target.{Target}
 
 -- none was seen: there is none
 pub none_there : {wire : ℕ} {l : List Field} {s : Seen} → Saw wire l s → s.count ≡ 0 → l ≡ []

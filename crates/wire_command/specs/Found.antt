@@ -13,10 +13,11 @@ use Rattle.wire.specs.Commands.{target_of, or_16, ACK, REDELIVER}
 use Rattle.wire.specs.Commands as wire
 use Rattle.wire.specs.Commands.Command.{Subscribe, Flow, Ack, Seek, Redeliver, Close}
 use Rattle.wire.specs.Commands.Reading.{read}
+use Rattle.command_parts.specs.declared.Kind.{Kind}
+use Rattle.command_parts.specs.declared.Target.{Target}
+use Rattle.command_parts.specs.Parts.{kind_number}
 use Rattle.wire_ids.specs.Groups.{ids_there, Listed}
 use Rattle.wire_command.specs.declared.command.Name.{Name}
-use Rattle.wire_command.specs.declared.command.Kind.{Kind}
-use Rattle.wire_command.specs.declared.command.Target.{Target}
 use Rattle.wire_command.specs.declared.command.Command.{Command}
 
 -- ---- two numbers
@@ -76,11 +77,6 @@ as_command (Seek consumer request target) =
 as_command (Redeliver consumer ids) = Command.Redeliver consumer (length (list_words ids))
 as_command (Close consumer request) = Command.Close consumer request
 
--- a kind in a word
-abbrev pub word_of_kind : Kind → ℕ
-word_of_kind Kind.Plain = 0
-word_of_kind Kind.Shared = 1
-
 -- a target in three words
 abbrev pub words_of_target : Target → List ℕ
 words_of_target Target.Start = 0 ∷ 0 ∷ 0 ∷ []
@@ -89,7 +85,7 @@ words_of_target (Target.Id ledger entry) = 1 ∷ ledger ∷ entry ∷ []
 -- the eight words of a command
 unfoldable pub words_of : Command → List ℕ
 words_of (Command.Subscribe s) =
-    s.consumer ∷ s.request ∷ word_of_kind s.kind ∷ s.topic.start ∷ s.topic.size ∷ s.subscription.start ∷ s.subscription.size ∷ 0 ∷ []
+    s.consumer ∷ s.request ∷ kind_number s.kind ∷ s.topic.start ∷ s.topic.size ∷ s.subscription.start ∷ s.subscription.size ∷ 0 ∷ []
 words_of (Command.Flow consumer permits) = consumer ∷ 0 ∷ permits ∷ replicate 5 0
 words_of (Command.Ack consumer size) = consumer ∷ 0 ∷ size ∷ replicate 5 0
 words_of (Command.Seek s) = s.consumer ∷ s.request ∷ words_of_target s.target ++ replicate 3 0

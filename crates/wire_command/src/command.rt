@@ -1,17 +1,12 @@
 // A command with what was read of it.
 
+use command_parts::{Kind, Target};
+
 // A part of the input: where it starts, and how many bytes it has.
 #[derive(Clone, Copy)]
 pub struct Name {
     pub start: u64,
     pub size: u64,
-}
-
-// The kind of a subscription.
-#[derive(Clone, Copy, Debug, PartialEq, Eq)]
-pub enum Kind {
-    Plain,
-    Shared,
 }
 
 #[derive(Clone, Copy)]
@@ -21,13 +16,6 @@ pub struct Subscribe {
     pub kind: Kind,
     pub topic: Name,
     pub subscription: Name,
-}
-
-// Where a seek goes: the start, or an id by its ledger and entry.
-#[derive(Clone, Copy, Debug, PartialEq, Eq)]
-pub enum Target {
-    Start,
-    Id(u64, u64),
 }
 
 #[derive(Clone, Copy)]

@@ -2,7 +2,8 @@
 ghost use Rattle.std.specs.Prelude.{◌≡◌};
 ghost use Rattle.wire_command.specs.Found.{words_of};
 
-use super::command::{Command, Kind, Target};
+use super::command::Command;
+use command_parts::Target;
 
 // The eight words: the consumer, the request, then what its export takes. A kind is 0 for plain and 1 for shared, a target is
 // three words of which the first is 0 for the start and 1 for an id.
@@ -11,22 +12,16 @@ fn words(c: Command) -> [u64; 8]
     ensures { result ≡ words_of c }
 {
     match c {
-        Command::Subscribe(s) => {
-            let kind = match s.kind {
-                Kind::Plain => 0,
-                Kind::Shared => 1,
-            };
-            [
-                s.consumer,
-                s.request,
-                kind,
-                s.topic.start,
-                s.topic.size,
-                s.subscription.start,
-                s.subscription.size,
-                0,
-            ]
-        }
+        Command::Subscribe(s) => [
+            s.consumer,
+            s.request,
+            s.kind.number(),
+            s.topic.start,
+            s.topic.size,
+            s.subscription.start,
+            s.subscription.size,
+            0,
+        ],
         Command::Flow(consumer, permits) => [consumer, 0, permits, 0, 0, 0, 0, 0],
         Command::Ack(consumer, size) => [consumer, 0, size, 0, 0, 0, 0, 0],
         Command::Seek(s) => match s.target {

@@ -4,8 +4,9 @@ ghost use Rattle.wire.specs.Commands.{seek_of};
 ghost use Rattle.wire_fields.specs.Found.{answered};
 ghost use Rattle.wire_command.specs.Found.{target_in, target_of_bytes, as_target, as_command};
 
-use super::command::{Command, Seek, Target};
+use super::command::{Command, Seek};
 use super::numbers::{CONSUMER_ID, REQUEST_ID, two_uint64};
+use command_parts::Target;
 use wire_fields::base::NOTHING;
 use wire_fields::field::{DELIMITED, WIRE_TYPES};
 use wire_fields::pick::pick;

@@ -4,8 +4,9 @@ ghost use Rattle.wire.specs.Commands.{kind_of, subscribe_of};
 ghost use Rattle.wire_fields.specs.Found.{answered};
 ghost use Rattle.wire_command.specs.Found.{name_at, as_kind, as_command};
 
-use super::command::{Command, Kind, Name, Subscribe};
+use super::command::{Command, Name, Subscribe};
 use super::numbers::two_uint64;
+use command_parts::Kind;
 use wire_fields::field::{DELIMITED, VARINT, WIRE_TYPES};
 use wire_fields::pick::pick;
 use wire_fields::select::{Place, Width};
