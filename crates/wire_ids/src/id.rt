@@ -43,10 +43,7 @@ fn one_more(n: u64, wire: u64, most: u64) -> u64
     if wire != VARINT {
         return most;
     }
-    if most <= n {
-        return most;
-    }
-    n + 1
+    n.saturating_add(1).min(most)
 }
 
 impl Parts {
