@@ -2,6 +2,7 @@
 use Prim.Native.Nat.{ℕ, ◌≤◌}
 use mathlib.Core.Path.{◌≡◌, refl, ap, ◌∙◌}
 use mathlib.Core.List.{List}
+use mathlib.Core.Bool.{Bool}
 use mathlib.Core.Option.{Option, none, some, bind}
 use native.Mathlib.Omega.{arith}
 use lib.ListN.{length}
@@ -18,25 +19,25 @@ use Rattle.wire_command.specs.Found.{two_of, name_at, as_name}
 -- ---- two numbers
 
 -- the two numbers that stand under two numbers of some fields
-pub record TwoIn (fs : List Field) (a b u v : ℕ) : Type 0 where
+pub record TwoIn (fits : ℕ → Bool) (fs : List Field) (a b u v : ℕ) : Type 0 where
   pub first : required uint64 (numbered a fs) ≡ some u
-  pub second : required uint64 (numbered b fs) ≡ some v
+  pub second : required fits (numbered b fs) ≡ some v
 
 -- the same of a message
-pub record TwoOf (m : List ℕ) (a b u v : ℕ) : Type 0 where
+pub record TwoOf (fits : ℕ → Bool) (m : List ℕ) (a b u v : ℕ) : Type 0 where
   pub fs : List Field
   pub all_fields : fields m ≡ some fs
-  pub numbers : TwoIn fs a b u v
+  pub numbers : TwoIn fits fs a b u v
 
-module _ (m : List ℕ) (a b : ℕ) where
+module _ (fits : ℕ → Bool) (m : List ℕ) (a b : ℕ) where
   -- two numbers were read: they are those of the fields
-  pub two_are : {fs : List Field} {u v : ℕ} → fields m ≡ some fs → Some (u, v) ≡ answered as_is (two_of m a b) → TwoIn fs a b u v
+  pub two_are : {fs : List Field} {u v : ℕ} → fields m ≡ some fs → Some (u, v) ≡ answered as_is (two_of fits m a b) → TwoIn fits fs a b u v
   unfolding two_of bind
   two_are {fs = fs} {u = u} {v = v} p e =
-      go (required uint64 (numbered a fs)) refl (required uint64 (numbered b fs)) refl (rw p at (told_is (two_of m a b) e))
+      go (required uint64 (numbered a fs)) refl (required fits (numbered b fs)) refl (rw p at (told_is (two_of fits m a b) e))
     where
-      go : (o : Option ℕ) → required uint64 (numbered a fs) ≡ o → (n : Option ℕ) → required uint64 (numbered b fs) ≡ n
-          → bind {B = ℕ × ℕ} o (λ (i : ℕ). bind {B = ℕ × ℕ} n (λ (j : ℕ). some (i, j))) ≡ some (u, v) → TwoIn fs a b u v
+      go : (o : Option ℕ) → required uint64 (numbered a fs) ≡ o → (n : Option ℕ) → required fits (numbered b fs) ≡ n
+          → bind {B = ℕ × ℕ} o (λ (i : ℕ). bind {B = ℕ × ℕ} n (λ (j : ℕ). some (i, j))) ≡ some (u, v) → TwoIn fits fs a b u v
       go none h n k d = absurd (cc)
       go (some i) h none k d = absurd (cc)
       go (some i) h (some j) k d =
@@ -44,32 +45,32 @@ module _ (m : List ℕ) (a b : ℕ) where
           record { first = h ∙ ap some (ap (λ (t : ℕ × ℕ). t.0) s); second = k ∙ ap some (ap (λ (t : ℕ × ℕ). t.1) s) }
 
   -- the message is well formed, and these are its two numbers
-  pub two_of_message : {u v : ℕ} → Some (u, v) ≡ answered as_is (two_of m a b) → TwoOf m a b u v
+  pub two_of_message : {u v : ℕ} → Some (u, v) ≡ answered as_is (two_of fits m a b) → TwoOf fits m a b u v
   unfolding two_of bind
-  two_of_message {u = u} {v = v} e = go (fields m) refl (told_is (two_of m a b) e)
+  two_of_message {u = u} {v = v} e = go (fields m) refl (told_is (two_of fits m a b) e)
     where
-      go : (o : Option (List Field)) → fields m ≡ o → two_of m a b ≡ some (u, v) → TwoOf m a b u v
+      go : (o : Option (List Field)) → fields m ≡ o → two_of fits m a b ≡ some (u, v) → TwoOf fits m a b u v
       go none p q = let d : none ≡ some (u, v) = rw p at q in absurd (cc)
       go (some fs) p q = record { fs = fs; all_fields = p; numbers = two_are p e }
 
   -- one of them is not there
-  pub two_bad : {P : Type 0} {fs : List Field} → fields m ≡ some fs → None ≡ answered as_is (two_of m a b)
+  pub two_bad : {P : Type 0} {fs : List Field} → fields m ≡ some fs → None ≡ answered as_is (two_of fits m a b)
       → (required uint64 (numbered a fs) ≡ none → P)
-      → ((u : ℕ) → required uint64 (numbered a fs) ≡ some u → required uint64 (numbered b fs) ≡ none → P) → P
+      → ((u : ℕ) → required uint64 (numbered a fs) ≡ some u → required fits (numbered b fs) ≡ none → P) → P
   unfolding two_of bind
   two_bad {P = P} {fs = fs} p e f g =
-      go (required uint64 (numbered a fs)) refl (required uint64 (numbered b fs)) refl (rw p at (told_none (two_of m a b) e))
+      go (required uint64 (numbered a fs)) refl (required fits (numbered b fs)) refl (rw p at (told_none (two_of fits m a b) e))
     where
-      go : (o : Option ℕ) → required uint64 (numbered a fs) ≡ o → (n : Option ℕ) → required uint64 (numbered b fs) ≡ n
+      go : (o : Option ℕ) → required uint64 (numbered a fs) ≡ o → (n : Option ℕ) → required fits (numbered b fs) ≡ n
           → bind {B = ℕ × ℕ} o (λ (i : ℕ). bind {B = ℕ × ℕ} n (λ (j : ℕ). some (i, j))) ≡ none → P
       go none h n k d = f h
       go (some i) h none k d = g i h k
       go (some i) h (some j) k d = absurd (cc)
 
   -- or the message is not well formed
-  pub two_bad_message : {P : Type 0} → None ≡ answered as_is (two_of m a b) → (fields m ≡ none → P)
+  pub two_bad_message : {P : Type 0} → None ≡ answered as_is (two_of fits m a b) → (fields m ≡ none → P)
       → ((fs : List Field) → fields m ≡ some fs → required uint64 (numbered a fs) ≡ none → P)
-      → ((fs : List Field) → fields m ≡ some fs → (u : ℕ) → required uint64 (numbered a fs) ≡ some u → required uint64 (numbered b fs) ≡ none → P)
+      → ((fs : List Field) → fields m ≡ some fs → (u : ℕ) → required uint64 (numbered a fs) ≡ some u → required fits (numbered b fs) ≡ none → P)
       → P
   two_bad_message {P = P} e f g h = go (fields m) refl
     where

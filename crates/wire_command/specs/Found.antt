@@ -1,6 +1,6 @@
 -- What the code of this crate answers, by the definitions of the wire: `as_command` ties each reader to its message, and
 -- `content_reading` the whole to the reading of a BaseCommand.
-use Rattle.std.specs.Prelude.{ℕ, ◌+◌, ◌-◌, ◌≡◌, cond, List, [], ◌∷◌, ◌++◌, eqb, length, replicate}
+use Rattle.std.specs.Prelude.{ℕ, ◌+◌, ◌-◌, ◌≡◌, Bool, cond, List, [], ◌∷◌, ◌++◌, eqb, length, replicate}
 use Rattle.std.proofs.Math.Option.{Option, some, map, bind}
 use Rattle.rules.specs.State as rules
 use Rattle.rules.specs.State.Kind.{plain, shared}
@@ -22,12 +22,12 @@ use Rattle.wire_command.specs.declared.command.Command.{Command}
 
 -- ---- two numbers
 
--- two uint64s that have to be there
-unfoldable pub two_of : List ℕ → ℕ → ℕ → Option (ℕ × ℕ)
-two_of m first second =
+-- a uint64 and a number of some width that have to be there
+unfoldable pub two_of : (ℕ → Bool) → List ℕ → ℕ → ℕ → Option (ℕ × ℕ)
+two_of fits m first second =
     bind (fields m) (λ (fs : List Field).
     bind (required uint64 (numbered first fs)) (λ (u : ℕ).
-    bind (required uint64 (numbered second fs)) (λ (v : ℕ).
+    bind (required fits (numbered second fs)) (λ (v : ℕ).
     some (u, v))))
 
 -- ---- a seek's target

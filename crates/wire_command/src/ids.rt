@@ -6,15 +6,14 @@ ghost use Rattle.wire_fields.specs.Found.{answered};
 ghost use Rattle.wire_command.specs.Found.{as_command};
 
 use super::command::Command;
-use super::numbers::CONSUMER;
+use super::numbers::{CONSUMER, CONSUMER_ID, two_numbers};
 use wire_fields::base::NOTHING;
-use wire_fields::field::{VARINT, WIRE_TYPES};
 use wire_fields::pick::pick;
 use wire_fields::select::Width;
 use wire_ids::size::list_size;
 
 // The type of an ack, whose value is ignored.
-const ACK_TYPE: u64 = 2 * WIRE_TYPES + VARINT;
+const ACK_TYPE_ID: u64 = 2;
 
 // The number of the ids in each.
 pub const ACK_IDS: u64 = 3;
@@ -25,9 +24,7 @@ pub const REDELIVER_IDS: u64 = 2;
 pub fn ack(m: &[u8]) -> Option<Command>
     ensures { result ≡ answered as_command (ack_of m.now) }
 {
-    let (x, y, _) = pick(m, CONSUMER, ACK_TYPE, NOTHING)?;
-    let consumer = x.required(Width::Uint64)?;
-    let _ack_type = y.required(Width::Int32)?;
+    let (consumer, _ack_type) = two_numbers(m, CONSUMER_ID, ACK_TYPE_ID, Width::Int32)?;
     let size = list_size(m, ACK_IDS)?;
     Some(Command::Ack(consumer, size))
 }

@@ -46,9 +46,7 @@ fn read_content(
     ensures words { command.new ≡ command_after command.old (content_reading (command_of (type_number kind) at m.now)) }
     ensures ids { list.new ≡ ids_after list.old (content_reading (command_of (type_number kind) at m.now)) }
 {
-    let Some(c) = content(m, kind, at) else {
-        return Err(Unread::Malformed);
-    };
+    let c = content(m, kind, at).ok_or(Unread::Malformed)?;
     lay_list(m, kind, list);
     write_words(command, c);
     Ok(kind)
@@ -67,13 +65,9 @@ pub fn read_command(
     if list.len() < LIST_WORDS {
         return Err(Unread::Malformed);
     }
-    let Some(base) = read_base(bytes) else {
-        return Err(Unread::Malformed);
-    };
+    let base = read_base(bytes).ok_or(Unread::Malformed)?;
     let kind = CommandType::try_from(base.kind)?;
-    let Some(place) = base.message else {
-        return Err(Unread::Malformed);
-    };
+    let place = base.message.ok_or(Unread::Malformed)?;
     read_content(
         &bytes[place.start..place.next],
         kind,

@@ -36,7 +36,7 @@ fn name(at: usize, part: Place) -> Name
     }
 }
 
-// A kind, from a sub type.
+// A kind, from a sub type; no From<u64>, since in a word of a call 0 is plain, and here only 1 is shared.
 #[tactic(auto, unfolding(wire::specs::Commands::kind_of, crate::specs::Found::as_kind))]
 fn kind_of(sub_type: u64) -> Kind
     ensures { result ≡ as_kind (kind_of sub_type) }

@@ -12,9 +12,10 @@ use lib.ListN.{length, get_or, drop, length-drop}
 use borrow.Author.Tests.{lt-ltb, le-ltb, ltb-true, le-leb, lt-leb, leb-true, eq-eqb, ne_eqb, eqb-true}
 use Rattle.wire.specs.Varint.{varint}
 use Rattle.wire.specs.Varint as wire
+use Rattle.wire.specs.Fields as wire_fields
 use Rattle.wire.specs.Fields.{field, field_of, varint_field, delimited_field, fixed_field, inside}
 use Rattle.wire.proofs.Varint.{varint_bounds}
-use Rattle.wire_fields.specs.Found.{answered, as_varint, varint_at, as_field, part_tag, TwoBytes}
+use Rattle.wire_fields.specs.Found.{answered, as_varint, varint_at, as_field, part_field, part_tag, TwoBytes}
 use Rattle.wire_fields.proofs.Answered.{from_some, from_none}
 use Rattle.wire_fields.proofs.Varints.{Read, one_byte}
 use Rattle.wire_fields.specs.declared.field.Field.{Field}
@@ -80,17 +81,17 @@ pub no_delimited_field : (m : List ℕ) (number at : ℕ) → varint (drop at m)
 unfolding delimited_field answered bind
 no_delimited_field m number at e = rw e
 
-module _ (m : List ℕ) (number at size start : ℕ) (w : Was m at size start) where
-  pub past_the_end : length m - start < size → None ≡ answered as_field (delimited_field m number at)
-  unfolding delimited_field inside answered bind
-  past_the_end l = let t : leb (at + w.size + size) (length m) ≡ false = lt-leb (at + w.size + size) (length m) (omega (arith, w.place)) in rw (w.is, t)
+-- a part that is there or not
+part_told : (b : Bool) (f : wire_fields.Field) → cond b (Is (as_field f)) None ≡ answered as_field (cond b (some f) none)
+unfolding answered
+part_told true f = refl
+part_told false f = refl
 
-  pub is_delimited_field : size ≤ length m - start
-      → Is (record { number = number; wire = 2; value = 0; start = start; next = start + size })
-      ≡ answered as_field (delimited_field m number at)
-  unfolding delimited_field inside answered as_field bind
-  is_delimited_field l =
-      let t : leb (at + w.size + size) (length m) ≡ true = le-leb (at + w.size + size) (length m) (omega (arith, w.place)) in rw (w.is, t, w.place)
+-- its length was read: what is answered of its bytes is the field
+pub is_delimited_field : (m : List ℕ) (number at size start : ℕ) → Was m at size start
+    → part_field m number start size ≡ answered as_field (delimited_field m number at)
+unfolding part_field delimited_field inside as_field bind
+is_delimited_field m number at size start w = rw (w.is, w.place) (part_told _ _)
 
 -- ---- a tag
 
@@ -143,12 +144,8 @@ module _ {m : List ℕ} {at tag b : ℕ} (t : TwoBytes m at tag b) where
       let y : eqb (tag % 8) 1 ≡ false = ne_eqb (tag % 8) 1 (λ z. omega arith) in
       rw (x, y, eq-eqb (tag % 8) 2 e) at by_wire
 
-  pub two_bytes_past : tag % 8 ≡ 2 → length m - (at + 2) < b → None ≡ answered as_field (field m at)
-  two_bytes_past e l = past_the_end m (tag / 8) (at + 1) b (at + 2) b_was l ∙ delimited e
-
-  pub two_bytes_part : tag % 8 ≡ 2 → b ≤ length m - (at + 2)
-      → Is (record { number = tag / 8; wire = 2; value = 0; start = at + 2; next = at + 2 + b }) ≡ answered as_field (field m at)
-  two_bytes_part e l = is_delimited_field m (tag / 8) (at + 1) b (at + 2) b_was l ∙ delimited e
+  pub two_bytes_part : tag % 8 ≡ 2 → part_field m (tag / 8) (at + 2) b ≡ answered as_field (field m at)
+  two_bytes_part e = is_delimited_field m (tag / 8) (at + 1) b (at + 2) b_was ∙ delimited e
 
 -- what is answered under a test, and else 0, was tested if it is not 0
 pub tested : (t : Bool) (v r : ℕ) → r ≡ cond t v 0 → (r ≡ 0 → ⊥) → (t ≡ true) × (r ≡ v)

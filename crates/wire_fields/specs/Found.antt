@@ -40,6 +40,11 @@ pub record Partway (m : List ℕ) (at value size : ℕ) : Type 0 where
 unfoldable pub as_field : wire_fields.Field → Field
 as_field f = record { number = f.number; wire = f.wire; value = f.value; start = f.start; next = f.next }
 
+-- a part of some bytes from a place on, if the message has them
+unfoldable pub part_field : List ℕ → ℕ → ℕ → ℕ → Option Field
+part_field m number start size =
+    cond (leb (start + size) (length m)) (Some (record { number = number; wire = 2; value = 0; start = start; next = start + size })) None
+
 -- two bytes of a message, neither of which says that another follows; the first is a tag
 pub record TwoBytes (m : List ℕ) (at tag b : ℕ) : Type 0 where
   pub inside : at + 2 ≤ length m

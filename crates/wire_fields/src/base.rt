@@ -7,7 +7,6 @@ ghost use Rattle.wire_fields.specs.Selected.{base_of, placed};
 use super::field::{DELIMITED, VARINT, WIRE_TYPES};
 use super::pick::pick;
 use super::select::{Place, Width};
-use super::varint::wide;
 
 // The tag of the type.
 const TYPE: u64 = 1 * WIRE_TYPES + VARINT;
@@ -25,14 +24,15 @@ pub struct Base {
     pub message: Option<Place>,
 }
 
-// The second byte, which in most commands is the type.
+// The second byte, which in most commands is the type. Where there is no second byte any guess does: a guess that is not the
+// type is looked for again.
 fn likely_type(m: &[u8]) -> u64
     ensures { result < 2 ^ 32 }
 {
     if m.len() < 2 {
         return 0;
     }
-    wide(m[1])
+    u64::from(m[1])
 }
 
 // Where the message of a type stands in a BaseCommand.

@@ -1,11 +1,11 @@
 // The field whose tag stands at a place of a message. Its content is looked at as far as its wire type says, and not inside.
 ghost use Rattle.std.specs.Prelude.{◌≡◌, ◌+◌, ◌≤◌, length};
 ghost use Rattle.wire.specs.Fields.{field, field_of, varint_field, delimited_field, fixed_field};
-ghost use Rattle.wire_fields.specs.Found.{answered, as_field, part_tag, varint_tag, short_tag, passed_by};
+ghost use Rattle.wire_fields.specs.Found.{answered, as_field, part_field, part_tag, varint_tag, short_tag, passed_by};
 
-use super::varint::{MORE, varint_at, wide};
+use super::varint::{MORE, varint_at};
 
-// A field as the wire has it: its number and wire type, the number of a varint, and the places where its content begins and where
+// A field as `wire/specs/Fields` has it, number by number: its number and wire type, the number of a varint, and the places where its content begins and where
 // the next field does.
 #[derive(Clone, Copy)]
 pub struct Field {
@@ -16,7 +16,7 @@ pub struct Field {
     pub next: usize,
 }
 
-// Wire types.
+// Wire types. A wire type stays a number: a field is asked for by its tag, number × 8 + wire type.
 pub const VARINT: u64 = 0;
 
 const FIXED_64: u64 = 1;
@@ -45,22 +45,31 @@ fn varint_field(m: &[u8], number: u64, at: usize) -> Option<Field>
     })
 }
 
-// A length-delimited field whose length stands at a place.
-fn delimited_field(m: &[u8], number: u64, at: usize) -> Option<Field>
-    requires { at ≤ length m.now }
-    ensures { result ≡ answered as_field (delimited_field m.now number at) }
+// A part of some bytes from a place on, if the message has them.
+#[tactic(auto, unfolding(crate::specs::Found::part_field))]
+fn part_field(m: &[u8], number: u64, start: usize, size: u64) -> Option<Field>
+    requires { start ≤ length m.now }
+    ensures { result ≡ part_field m.now number start size }
 {
-    let size = varint_at(m, at)?;
-    if ((m.len() - size.next) as u64) < size.value {
+    if ((m.len() - start) as u64) < size {
         return None;
     }
     Some(Field {
         number,
         wire: DELIMITED,
         value: 0,
-        start: size.next,
-        next: size.next + size.value as usize,
+        start,
+        next: start + size as usize,
     })
+}
+
+// A length-delimited field whose length stands at a place.
+fn delimited_field(m: &[u8], number: u64, at: usize) -> Option<Field>
+    requires { at ≤ length m.now }
+    ensures { result ≡ answered as_field (delimited_field m.now number at) }
+{
+    let size = varint_at(m, at)?;
+    part_field(m, number, size.next, size.value)
 }
 
 // A field of a fixed width.
@@ -86,19 +95,13 @@ fn content_at(m: &[u8], number: u64, wire: u64, at: usize) -> Option<Field>
     requires { at ≤ length m.now }
     ensures { result ≡ answered as_field (field_of m.now number wire at) }
 {
-    if wire == VARINT {
-        return varint_field(m, number, at);
+    match wire {
+        VARINT => varint_field(m, number, at),
+        FIXED_64 => fixed_field(m, number, FIXED_64, 8, at),
+        DELIMITED => delimited_field(m, number, at),
+        FIXED_32 => fixed_field(m, number, FIXED_32, 4, at),
+        _ => None,
     }
-    if wire == FIXED_64 {
-        return fixed_field(m, number, FIXED_64, 8, at);
-    }
-    if wire == DELIMITED {
-        return delimited_field(m, number, at);
-    }
-    if wire == FIXED_32 {
-        return fixed_field(m, number, FIXED_32, 4, at);
-    }
-    None
 }
 
 // The field whose tag stands at a place, of any form.
@@ -122,7 +125,7 @@ fn part_tag(m: &[u8], at: usize) -> u64
     requires { at + 2 ≤ length m.now }
     ensures { result ≡ part_tag m.now at }
 {
-    let tag = wide(m[at]);
+    let tag = u64::from(m[at]);
     if tag < WIRE_TYPES {
         return 0;
     }
@@ -132,7 +135,7 @@ fn part_tag(m: &[u8], at: usize) -> u64
     if tag % WIRE_TYPES != DELIMITED {
         return 0;
     }
-    if MORE <= wide(m[at + 1]) {
+    if MORE <= u64::from(m[at + 1]) {
         return 0;
     }
     tag
@@ -150,18 +153,7 @@ pub fn field_at(m: &[u8], at: usize) -> Option<Field>
     if tag == 0 {
         return field_of_any_size(m, at);
     }
-    let size = wide(m[at + 1]);
-    let start = at + 2;
-    if ((m.len() - start) as u64) < size {
-        return None;
-    }
-    Some(Field {
-        number: tag / WIRE_TYPES,
-        wire: DELIMITED,
-        value: 0,
-        start,
-        next: start + size as usize,
-    })
+    part_field(m, tag / WIRE_TYPES, at + 2, u64::from(m[at + 1]))
 }
 
 // The tag at a place if it is that of a varint field and has one byte; else 0. Walks go by it and by `short_tag` where they can,
@@ -173,7 +165,7 @@ pub fn varint_tag(m: &[u8], at: usize) -> u64
     if m.len() <= at {
         return 0;
     }
-    let tag = wide(m[at]);
+    let tag = u64::from(m[at]);
     if MORE <= tag {
         return 0;
     }
@@ -192,7 +184,7 @@ pub fn short_tag(m: &[u8], at: usize) -> u64
     if m.len() - at < 2 {
         return 0;
     }
-    if MORE <= wide(m[at + 1]) {
+    if MORE <= u64::from(m[at + 1]) {
         return 0;
     }
     varint_tag(m, at)

@@ -4,10 +4,10 @@ ghost use Rattle.std.specs.Prelude.{◌≡◌};
 ghost use Rattle.wire_fields.specs.Picked.{wanted_of, nothing_seen, first_of, seen_with, picked};
 
 use super::field::{Field, VARINT, WIRE_TYPES, field_at, short_tag};
-use super::varint::wide;
 
 // What was seen under a number: how many fields, MANY where one had another wire type; and of the last its number or where its
-// bytes begin, and where it ends.
+// bytes begin, and where it ends. A field of another wire type counts as too many fields, since every reader refuses both
+// alike.
 #[derive(Clone, Copy)]
 pub struct Seen {
     pub count: u64,
@@ -78,7 +78,7 @@ pub fn pick(m: &[u8], a: u64, b: u64, c: u64) -> Option<(Seen, Seen, Seen)>
     while at < m.len() {
         let tag = short_tag(m, at);
         if tag != 0 {
-            let value = wide(m[at + 1]);
+            let value = u64::from(m[at + 1]);
             let next = at + 2;
             x = x.with(a, tag / WIRE_TYPES, VARINT, value, next);
             y = y.with(b, tag / WIRE_TYPES, VARINT, value, next);

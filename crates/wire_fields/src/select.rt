@@ -29,7 +29,7 @@ const INT32_END: u64 = 0x8000_0000;
 const INT32_NEGATIVE: u64 = 0xffff_ffff_8000_0000;
 
 impl Width {
-    // Whether a number is of the width.
+    // Whether a number is of the width. The limits are the definitions' own; an int32 is also ten bytes negative.
     #[tactic(auto, unfolding(wire::specs::Select::uint64, wire::specs::Select::uint32, wire::specs::Select::int32, wire::specs::Select::count))]
     fn fits(self, value: u64) -> bool
         ensures { result ≡ fits self value }

@@ -17,12 +17,6 @@ const BITS: usize = 7;
 // A byte that another follows is this much or more.
 pub const MORE: u64 = 128;
 
-pub fn wide(x: u8) -> u64
-    ensures { result ≡ x }
-{
-    x as u64
-}
-
 // The varint at a place. Most have one byte, which is read without the loop.
 pub fn varint_at(m: &[u8], at: usize) -> Option<Varint>
     requires { at ≤ length m.now }
@@ -31,7 +25,7 @@ pub fn varint_at(m: &[u8], at: usize) -> Option<Varint>
     if m.len() <= at {
         return None;
     }
-    let b = wide(m[at]);
+    let b = u64::from(m[at]);
     if b < MORE {
         return Some(Varint {
             value: b,
@@ -51,7 +45,7 @@ pub fn varint_of_any_size(m: &[u8], at: usize) -> Option<Varint>
         if m.len() <= at + size {
             return None;
         }
-        let b = wide(m[at + size]);
+        let b = u64::from(m[at + size]);
         if b < MORE {
             return Some(Varint {
                 value: value + (b << (BITS * size)),
@@ -71,7 +65,7 @@ fn last_byte(m: &[u8], at: usize, value: u64) -> Option<Varint>
     if m.len() <= at + MOST_BEFORE {
         return None;
     }
-    let b = wide(m[at + MOST_BEFORE]);
+    let b = u64::from(m[at + MOST_BEFORE]);
     if 1 < b {
         return None;
     }

@@ -15,6 +15,9 @@ pub const ENTRY: u64 = 2;
 
 pub const ACK_SET: u64 = 5;
 
+// The words of an id beside those of its ack set: ledger, entry, how many.
+pub const HEAD_WORDS: usize = 3;
+
 // One ledger and one entry is right, two is too many; so are 17 words.
 const TOO_MANY: u64 = 2;
 
@@ -24,7 +27,7 @@ const TOO_MANY_WORDS: u64 = 17;
 const MOST_WORDS: u64 = 16;
 
 // How many ledgers, entries and words there were. Each number stops where it is too many, and a field of another wire type
-// takes it there.
+// takes it there, since `id_words` refuses both alike.
 #[derive(Clone, Copy)]
 pub struct Parts {
     pub ledgers: u64,
@@ -40,10 +43,7 @@ fn one_more(n: u64, wire: u64, most: u64) -> u64
     if wire != VARINT {
         return most;
     }
-    if most <= n {
-        return most;
-    }
-    n + 1
+    n.saturating_add(1).min(most)
 }
 
 impl Parts {
@@ -52,28 +52,21 @@ impl Parts {
     fn with(self, number: u64, wire: u64) -> Parts
         ensures { result ≡ parts_with number wire self }
     {
-        if number == ACK_SET {
-            return Parts {
-                ledgers: self.ledgers,
-                entries: self.entries,
+        match number {
+            ACK_SET => Parts {
                 words: one_more(self.words, wire, TOO_MANY_WORDS),
-            };
-        }
-        if number == LEDGER {
-            return Parts {
+                ..self
+            },
+            LEDGER => Parts {
                 ledgers: one_more(self.ledgers, wire, TOO_MANY),
-                entries: self.entries,
-                words: self.words,
-            };
-        }
-        if number == ENTRY {
-            return Parts {
-                ledgers: self.ledgers,
+                ..self
+            },
+            ENTRY => Parts {
                 entries: one_more(self.entries, wire, TOO_MANY),
-                words: self.words,
-            };
+                ..self
+            },
+            _ => self,
         }
-        self
     }
 }
 

@@ -6,9 +6,9 @@ ghost use Rattle.wire.specs.Ids.{list_words};
 ghost use Rattle.wire_fields.specs.Values.{Laid};
 ghost use Rattle.wire_ids.specs.Groups.{id_words, field_words, count_with, Put, IdRoom, FieldRoom, ids_there, Listed};
 
-use super::id::{ACK_SET, ENTRY, LEDGER};
+use super::id::{ACK_SET, ENTRY, HEAD_WORDS, LEDGER};
 use wire_fields::field::{Field, WIRE_TYPES, field_at, passed_by, short_tag, varint_tag};
-use wire_fields::varint::{varint_of_any_size, wide};
+use wire_fields::varint::varint_of_any_size;
 
 // Puts the number of a field into its place in the group that begins at `to` and has `n` words so far; answers how many it has
 // then.
@@ -17,19 +17,21 @@ fn put(list: &mut [u64], to: usize, n: usize, number: u64, value: u64) -> usize
     requires { to + 3 + count_with number n ≤ length list.old }
     ensures { Put list.old to n number value list.new result }
 {
-    if number == ACK_SET {
-        list[to + 3 + n] = value;
-        return n + 1;
+    match number {
+        ACK_SET => {
+            list[to + HEAD_WORDS + n] = value;
+            n + 1
+        }
+        LEDGER => {
+            list[to] = value;
+            n
+        }
+        ENTRY => {
+            list[to + 1] = value;
+            n
+        }
+        _ => n,
     }
-    if number == LEDGER {
-        list[to] = value;
-        return n;
-    }
-    if number == ENTRY {
-        list[to + 1] = value;
-        return n;
-    }
-    n
 }
 
 // Lays the id whose message is `m`, and answers the place after it.
@@ -42,7 +44,7 @@ fn lay_id(m: &[u8], list: &mut [u64], to: usize) -> usize
     while at < m.len() {
         let short = short_tag(m, at);
         if short != 0 {
-            n = put(list, to, n, short / WIRE_TYPES, wide(m[at + 1]));
+            n = put(list, to, n, short / WIRE_TYPES, u64::from(m[at + 1]));
             at += 2;
             continue;
         }
@@ -62,7 +64,7 @@ fn lay_id(m: &[u8], list: &mut [u64], to: usize) -> usize
         at = f.next;
     }
     list[to + 2] = n as u64;
-    to + 3 + n
+    to + HEAD_WORDS + n
 }
 
 // Lays a field if it is an id.

@@ -3,14 +3,11 @@ ghost use Rattle.std.specs.Prelude.{◌≡◌, ◌+◌, ◌*◌, ◌≤◌, leng
 ghost use Rattle.wire_fields.specs.Found.{answered};
 ghost use Rattle.wire_ids.specs.Sizes.{size_of, ids_of, tally_with, tally_id};
 
-use super::id::id_words;
+use super::id::{HEAD_WORDS, id_words};
 use wire_fields::field::{DELIMITED, Field, field_at, passed_by};
 
 // The most ids of a list.
 const MOST_IDS: u64 = 64;
-
-// The words of an id beside those of its ack set: ledger, entry, how many.
-pub const HEAD_WORDS: u64 = 3;
 
 // How many ids may follow, and the words of those before.
 #[derive(Clone, Copy)]
@@ -34,7 +31,7 @@ fn with_id(m: &[u8], f: Field, t: Tally) -> Option<Tally>
     let n = id_words(&m[f.start..f.next])?;
     Some(Tally {
         left: t.left - 1,
-        words: t.words + (HEAD_WORDS + n),
+        words: t.words + (HEAD_WORDS as u64 + n),
     })
 }
 

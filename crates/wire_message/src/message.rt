@@ -12,7 +12,7 @@ use wire_fields::base::read_base;
 use wire_fields::lay::lay_numbers;
 use wire_fields::unread::Unread;
 
-// The type of a Message.
+// The type of a Message, the one type that is read here; CommandType has the six commands.
 const MESSAGE: u64 = 9;
 
 // Its ack words: their field's number, and their place in a record.
@@ -21,39 +21,38 @@ const ACK_SET: u64 = 4;
 const ACK_SET_AT: usize = 6;
 
 // The record of a Message before its ack words are laid; handle, cost and permits are not on the wire.
-#[tactic(auto, unfolding(crate::specs::Found::dispatch_of))]
-fn dispatch(head: Head) -> Dispatch
-    ensures { result ≡ dispatch_of head }
-{
-    Dispatch {
-        consumer: head.consumer,
-        ledger: head.id.ledger,
-        entry: head.id.entry,
-        handle: 0,
-        batch_size: head.id.batch_size,
-        ack_set_words: head.ack_set_words,
-        ack_set: UnackedBits {
-            w0: 0,
-            w1: 0,
-            w2: 0,
-            w3: 0,
-        },
-        redelivery_count: head.redelivery_count,
-        cost: 0,
-        permits: 0,
+impl From<Head> for Dispatch {
+    ghost from_gives = { λ head dispatch. dispatch ≡ dispatch_of head };
+
+    #[tactic(auto, unfolding(crate::specs::Found::dispatch_of))]
+    fn from(head: Head) -> Dispatch {
+        Dispatch {
+            consumer: head.consumer,
+            ledger: head.id.ledger,
+            entry: head.id.entry,
+            handle: 0,
+            batch_size: head.id.batch_size,
+            ack_set_words: head.ack_set_words,
+            ack_set: UnackedBits {
+                w0: 0,
+                w1: 0,
+                w2: 0,
+                w3: 0,
+            },
+            redelivery_count: head.redelivery_count,
+            cost: 0,
+            permits: 0,
+        }
     }
 }
 
 // Reads a Message's content from its own bytes into a record.
-fn fill_record(m: &[u8], record: &mut [u64]) -> Result<(), Unread>
-    requires { length «record».old ≡ 13 }
+fn fill_record(m: &[u8], record: &mut [u64; 13]) -> Result<(), Unread>
     ensures answer { unread_or_0 result ≡ content_answer (content_of m.now) }
     ensures words { «record».new ≡ content_after «record».old (content_of m.now) }
 {
-    let Some(head) = read_content(m) else {
-        return Err(Unread::Malformed);
-    };
-    write_record(record, 0, dispatch(head));
+    let head = read_content(m).ok_or(Unread::Malformed)?;
+    write_record(record, 0, Dispatch::from(head));
     lay_numbers(m, ACK_SET, record, ACK_SET_AT);
     Ok(())
 }
@@ -63,14 +62,10 @@ pub fn read_message(bytes: &[u8], record: &mut [u64; 13]) -> Result<(), Unread>
     ensures answer { unread_or_0 result ≡ message_answer (message bytes.now) }
     ensures words { «record».new ≡ record_after «record».old (message bytes.now) }
 {
-    let Some(base) = read_base(bytes) else {
-        return Err(Unread::Malformed);
-    };
+    let base = read_base(bytes).ok_or(Unread::Malformed)?;
     if base.kind != MESSAGE {
         return Err(Unread::OtherType);
     }
-    let Some(place) = base.message else {
-        return Err(Unread::Malformed);
-    };
+    let place = base.message.ok_or(Unread::Malformed)?;
     fill_record(&bytes[place.start..place.next], record)
 }

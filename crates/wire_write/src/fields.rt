@@ -6,6 +6,7 @@ ghost use Rattle.wire.specs.Message.{number_bytes, ack_set_bytes};
 ghost use Rattle.words.specs.Wrote.{Wrote};
 
 // Writes the shortest varint of a number: seven bits a byte, the lowest first, all but the last with the top bit set.
+// The number itself says when its last byte is written: nothing is there to count over.
 fn write_varint(buffer: &mut [u8], at: usize, number: u64) -> usize
     requires { at + 10 ≤ length buffer.old }
     ensures { Wrote 10 buffer.old at (written number) buffer.new result }

@@ -61,8 +61,8 @@ fn write_id(buffer: &mut [u8], at: usize, ledger: u64, entry: u64, batch_size: u
 }
 
 // Writes the content of a record's Message: consumer, id, redelivery count, ack words.
-fn write_content(buffer: &mut [u8], at: usize, record: &[u64]) -> usize
-    requires { (length «record».now ≡ 13) × (get_or «record».now 5 0 ≤ 4) × (at + 123 ≤ length buffer.old) }
+fn write_content(buffer: &mut [u8], at: usize, record: &[u64; 13]) -> usize
+    requires { (get_or «record».now 5 0 ≤ 4) × (at + 123 ≤ length buffer.old) }
     ensures { Wrote 123 buffer.old at (content_bytes (message_from «record».now)) buffer.new result }
 {
     let after_consumer = write_number(buffer, at, 1, record[0]);
@@ -73,8 +73,8 @@ fn write_content(buffer: &mut [u8], at: usize, record: &[u64]) -> usize
 }
 
 // Writes a record's Message as a BaseCommand at the start of a buffer: the type, and the content as its field.
-fn write_command(buffer: &mut [u8], record: &[u64]) -> usize
-    requires { (length «record».now ≡ 13) × (get_or «record».now 5 0 ≤ 4) × (256 ≤ length buffer.old) }
+fn write_command(buffer: &mut [u8], record: &[u64; 13]) -> usize
+    requires { (get_or «record».now 5 0 ≤ 4) × (256 ≤ length buffer.old) }
     ensures { Wrote 136 buffer.old 0 (message_bytes (message_from «record».now)) buffer.new result }
 {
     let at = write_number(buffer, 0, 1, MESSAGE);
@@ -86,8 +86,7 @@ fn write_command(buffer: &mut [u8], record: &[u64]) -> usize
 
 // Whether a record can be written: its count of words, its batch size and its redelivery count are in range.
 #[tactic(auto, unfolding(wire::specs::Answers::writable))]
-fn can_write(record: &[u64]) -> bool
-    requires { length «record».now ≡ 13 }
+fn can_write(record: &[u64; 13]) -> bool
     ensures { result ≡ writable «record».now }
 {
     if MOST_WORDS < record[5] {

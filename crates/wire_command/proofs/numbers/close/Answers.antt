@@ -10,7 +10,7 @@ pub returns-in_err-consumer : goal.returns-in_err-consumer
 unfolding close_of answered bind
 returns-in_err-consumer c =
     rw c.from_residual.ensures
-    (two_bad_message _ 1 2 c.in_err-consumer.ensures
+    (two_bad_message _ _ 1 2 c.in_err-consumer.ensures
     (λ p. rw p)
     (λ fs p q. rw (p, q))
     (λ fs p u q s. rw (p, q, s)))
@@ -18,5 +18,5 @@ returns-in_err-consumer c =
 pub returns : goal.returns
 unfolding close_of answered as_command bind
 returns c =
-    let t = two_of_message _ 1 2 c.in_ok-consumer.ensures in
+    let t = two_of_message _ _ 1 2 c.in_ok-consumer.ensures in
     rw (t.all_fields, t.numbers.first, t.numbers.second)

@@ -11,7 +11,7 @@ pub returns-in_err-consumer : goal.returns-in_err-consumer
 unfolding seek_of answered bind
 returns-in_err-consumer c =
     rw c.from_residual.ensures
-    (two_bad_message _ 1 2 c.in_err-consumer.ensures
+    (two_bad_message _ _ 1 2 c.in_err-consumer.ensures
     (λ p. rw p)
     (λ fs p q. rw (p, q))
     (λ fs p u q s. rw (p, q, s)))
@@ -19,7 +19,7 @@ returns-in_err-consumer c =
 pub returns-in_err-target : goal.returns-in_err-target
 unfolding seek_of answered bind
 returns-in_err-target c =
-    let t = two_of_message _ 1 2 c.in_ok-consumer.ensures in
+    let t = two_of_message _ _ 1 2 c.in_ok-consumer.ensures in
     rw (
       c.from_residual-in_err-target.ensures,
       t.all_fields,
@@ -31,6 +31,6 @@ returns-in_err-target c =
 pub returns : goal.returns
 unfolding seek_of answered as_command bind
 returns c =
-    let t = two_of_message _ 1 2 c.in_ok-consumer.ensures in
+    let t = two_of_message _ _ 1 2 c.in_ok-consumer.ensures in
     let s = target_is _ _ t.all_fields c.in_ok-target.ensures in
     rw (t.all_fields, t.numbers.first, t.numbers.second, s.is, s.told)

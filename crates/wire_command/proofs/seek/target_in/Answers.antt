@@ -10,7 +10,7 @@ pub returns-in_err-ledger : goal.returns-in_err-ledger
 unfolding target_in id_of answered bind
 returns-in_err-ledger c =
     rw c.from_residual.ensures
-    (two_bad_message _ 1 2 c.in_err-ledger.ensures
+    (two_bad_message _ _ 1 2 c.in_err-ledger.ensures
     (λ p. rw p)
     (λ fs p q. rw (p, q))
     (λ fs p u q s. rw (p, q, s)))
@@ -18,5 +18,5 @@ returns-in_err-ledger c =
 pub returns : goal.returns
 unfolding target_in id_of answered as_target bind
 returns c =
-    let t = two_of_message _ 1 2 c.in_ok-ledger.ensures in
+    let t = two_of_message _ _ 1 2 c.in_ok-ledger.ensures in
     rw (t.all_fields, t.numbers.first, t.numbers.second)

@@ -42,7 +42,7 @@ returns-in_err-consumer c =
     let q = part_is w.at_b c.in_ok-subscription.ensures in
     let n = required_is int32 w.at_c c.in_ok-sub_type.ensures in
     rw c.from_residual-in_err-consumer.ensures
-    (two_bad _ 4 5 w.all_fields c.in_err-consumer.ensures
+    (two_bad _ _ 4 5 w.all_fields c.in_err-consumer.ensures
     (λ f. rw (w.all_fields, p.is, q.is, n, f))
     (λ u f g. rw (w.all_fields, p.is, q.is, n, f, g)))
 
@@ -67,7 +67,7 @@ returns c =
     let p = part_is w.at_a c.in_ok-topic.ensures in
     let q = part_is w.at_b c.in_ok-subscription.ensures in
     let n = required_is int32 w.at_c c.in_ok-sub_type.ensures in
-    let u = two_are _ 4 5 w.all_fields c.in_ok-consumer.ensures in
+    let u = two_are _ _ 4 5 w.all_fields c.in_ok-consumer.ensures in
     rw (
       c.kind_of.ensures,
       c.name.ensures,

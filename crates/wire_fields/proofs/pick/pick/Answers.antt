@@ -18,7 +18,7 @@ bounds-m-at c = omega (arith, short_inside _ _ _ c.short_tag-tag.ensures c.if-ta
 pub loop-at-preserved-then-tag-ne0 : goal.loop-at-preserved-then-tag-ne0
 unfolding seen_field first_of
 loop-at-preserved-then-tag-ne0 c =
-    let f = short_stands _ _ _ _ c.short_tag-tag.ensures c.if-tag-ne0.true c.wide-value.ensures in
+    let f = short_stands _ _ _ _ c.short_tag-tag.ensures c.if-tag-ne0.true c.from-value.ensures in
     rw (c.with-z.ensures, c.with-y.ensures, c.with-x.ensures)
     (partly_on _ _ _ _ c.loop-at.invariant (omega (arith, f.0)) _ f.1)
 

@@ -9,9 +9,9 @@ pub returns-then-m-at : goal.returns-then-m-at
 returns-then-m-at c = cut_off c.requires c.if-m-at.true
 
 pub returns-then-b-gt1 : goal.returns-then-b-gt1
-returns-then-b-gt1 c = tenth_wide c.requires c.wide-b.result c.wide-b.ensures (omega arith) c.if-b-gt1.true
+returns-then-b-gt1 c = tenth_wide c.requires c.from-b.result c.from-b.ensures (omega arith) c.if-b-gt1.true
 
 pub returns : goal.returns
 returns c =
-    let b = c.wide-b.result in
-    tenth c.requires b c.wide-b.ensures (omega arith) (omega arith) _ (shl_exact {a = b} 1 63 64 (omega arith) (omega arith)) _ refl
+    let b = c.from-b.result in
+    tenth c.requires b c.from-b.ensures (omega arith) (omega arith) _ (shl_exact {a = b} 1 63 64 (omega arith) (omega arith)) _ refl

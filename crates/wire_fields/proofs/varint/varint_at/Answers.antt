@@ -7,4 +7,4 @@ pub returns-then-m-at : goal.returns-then-m-at
 returns-then-m-at c = cut_off (partway_start _ _ c.requires) (omega arith)
 
 pub returns-then-b-lt-MORE : goal.returns-then-b-lt-MORE
-returns-then-b-lt-MORE c = one_byte _ _ _ (omega arith) c.wide-b.ensures c.if-b-lt-MORE.true
+returns-then-b-lt-MORE c = one_byte _ _ _ (omega arith) c.from-b.ensures c.if-b-lt-MORE.true

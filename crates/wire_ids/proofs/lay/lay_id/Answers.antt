@@ -14,12 +14,12 @@ bounds-m-at c = omega (arith, short_inside _ _ _ c.short_tag-short.ensures c.if-
 
 pub put-n-requires : goal.put-n-requires
 put-n-requires c =
-    let f = short_stands _ _ _ _ c.short_tag-short.ensures c.if-short-ne0.true c.wide.ensures in
+    let f = short_stands _ _ _ _ c.short_tag-short.ensures c.if-short-ne0.true c.from.ensures in
     filling_room _ _ _ c.loop-at.invariant _ (omega arith) f.1
 
 pub loop-at-preserved-then-short-ne0 : goal.loop-at-preserved-then-short-ne0
 loop-at-preserved-then-short-ne0 c =
-    let f = short_stands _ _ _ _ c.short_tag-short.ensures c.if-short-ne0.true c.wide.ensures in
+    let f = short_stands _ _ _ _ c.short_tag-short.ensures c.if-short-ne0.true c.from.ensures in
     filling_on _ _ _ c.loop-at.invariant _ (omega arith) f.1 _ _ c.put-n.ensures
 
 pub returns-in_default : goal.returns-in_default

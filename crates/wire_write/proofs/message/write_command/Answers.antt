@@ -9,7 +9,7 @@ use Rattle.wire_write.proofs.Parts.{part_written}
 use Rattle.wire_write.proofs.message.write_command.Goals as goal
 
 pub write_content-end-requires : goal.write_content-end-requires
-write_content-end-requires c = (search rules, search rules, simp length-set (search rules))
+write_content-end-requires c = (search rules, simp length-set (search rules))
 
 pub bounds-buffer-at-2 : goal.bounds-buffer-at-2
 bounds-buffer-at-2 c =

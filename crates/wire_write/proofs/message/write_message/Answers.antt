@@ -17,7 +17,7 @@ returns-then-not-can_write c =
 
 pub write_command-requires : goal.write_command-requires
 write_command-requires c =
-    (search rules, few_words c.args.«record».now (sym c.can_write.ensures ∙ c.if-not-can_write.false), search rules)
+    (few_words c.args.«record».now (sym c.can_write.ensures ∙ c.if-not-can_write.false), search rules)
 
 pub returns : goal.returns
 returns c =

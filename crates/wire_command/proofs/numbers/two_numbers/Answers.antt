@@ -1,10 +1,11 @@
--- `wire_command::numbers::two_uint64` meets its contract: the numbers that were seen are the message's.
+-- `wire_command::numbers::two_numbers` meets its contract: the numbers that were seen are the message's.
 use mathlib.Core.Option.{bind}
 use Rattle.wire.specs.Select.{uint64}
 use Rattle.wire_fields.specs.Found.{answered}
+use Rattle.wire_fields.specs.Selected.{fits}
 use Rattle.wire_fields.proofs.Selections.{walked, walked_not, required_is, required_bad, saw_varint}
 use Rattle.wire_command.specs.Found.{two_of}
-use Rattle.wire_command.proofs.numbers.two_uint64.Goals as goal
+use Rattle.wire_command.proofs.numbers.two_numbers.Goals as goal
 
 pub returns-in_err-x : goal.returns-in_err-x
 unfolding two_of answered bind
@@ -27,7 +28,7 @@ returns-in_err-v c =
       c.from_residual-in_err-v.ensures,
       w.all_fields,
       required_is uint64 a c.in_ok-u.ensures,
-      required_bad uint64 b c.in_err-v.ensures,
+      required_bad (fits c.args.width) b c.in_err-v.ensures,
     )
 
 pub returns : goal.returns
@@ -36,4 +37,4 @@ returns c =
     let w = walked _ _ _ _ _ _ _ c.in_ok-x.ensures in
     let a = saw_varint c.args.first w.fs w.at_a in
     let b = saw_varint c.args.second w.fs w.at_b in
-    rw (w.all_fields, required_is uint64 a c.in_ok-u.ensures, required_is uint64 b c.in_ok-v.ensures)
+    rw (w.all_fields, required_is uint64 a c.in_ok-u.ensures, required_is (fits c.args.width) b c.in_ok-v.ensures)
