@@ -13,7 +13,8 @@ use dispatcher::numbers::load_head;
 use dispatcher::ring::ring_count;
 use dispatcher::table::dispatcher_count;
 
-// How many dispatches a dispatcher is due, by turns; the permits are left as its service leaves them.
+// How many dispatches a dispatcher is due, by turns; the permits are left as its service leaves them. The turns are a
+// loop, since each takes the permits and numbers that the last one left.
 fn due_turns(store: &[u64], served: Served, ring: &[usize], permits: &mut [u64]) -> usize
     requires { ServedHere served store.now × (ring.now ≡ (fixed_now store.now served.d).ring)
         × ((dispatcher_now store.now served.d).next ≤ length ring.now) }
