@@ -27,7 +27,8 @@ fn finish(store: &mut [u64], e: usize, d: usize, numbers: Numbers)
 }
 
 // Serves a dispatcher whose ring is `ring`. Records are written from record `from` on; the answer is the number of
-// the record after the last.
+// the record after the last. They are counted by hand: each turn reads the store that the delivery before it wrote,
+// so the turns are no iterator that lives beside it.
 fn serve_turns(
     store: &mut [u64],
     served: Served,

@@ -13,6 +13,7 @@ use Rattle.push_laws.specs.Shared.{services, permits_left, all_service_records, 
 use Rattle.push_laws.specs.Whole.{permits_now}
 use Rattle.record.specs.Flat.{filled}
 use Rattle.record.proofs.Filled.{filled_length}
+use Rattle.push_plain.specs.Reading.{all_served}
 use Rattle.push.proofs.Pushing.{length_permits, left, shared_records, all_counted, served_rows, canon_now, readable_on, permits_on, room_on, pushed_count, pushed_words, pushed_records}
 use Rattle.push.proofs.push_with.Goals as goal
 
@@ -69,6 +70,7 @@ serve_plain-requires c =
     )
 
 pub returns : goal.returns
+unfolding all_served
 returns c =
     let p = c.requires in
     let ws = c.args.store.now in
