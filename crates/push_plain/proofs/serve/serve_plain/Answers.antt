@@ -1,4 +1,4 @@
--- `push_plain::serve::serve_plain` meets its contract: the consumers before `i` are served, and the list with what is left is the list with all.
+-- `push_plain::serve::serve_plain` meets its contract: each consumer is served where it is as it was.
 use Prim.Native.Nat.{◌≤◌, ◌<◌}
 use native.Mathlib.Omega.{arith}
 use lib.ListN.{length}
