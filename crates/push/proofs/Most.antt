@@ -20,9 +20,10 @@ use Rattle.push_laws.specs.Applied.{with_each, record_of}
 use Rattle.push_laws.specs.Shared.{services, service_records, all_service_records}
 use Rattle.push_laws.specs.Plain.{plain_due, plain_records, ledger_for, all_plain_records}
 use Rattle.push_plain.specs.Sum.{AddedUp}
+use Rattle.push_plain.specs.Reading.{waiting_for}
 use Rattle.push_plain.proofs.Entries.{length_records}
 use Rattle.push_turn.proofs.Left.{left, turn_lowers}
-use Rattle.push.specs.Bound.{total, waiting_at, waiting_for, waiting_shared, waiting_plain, most_due}
+use Rattle.push.specs.Bound.{total, waiting_at, waiting_shared, waiting_plain, most_due}
 
 -- ---- numbers added up
 
@@ -66,17 +67,6 @@ total_few f k (a ∷ l) h = let one = h.0 in let more = total_few f k l h.1 in o
 all_by : {A : Type 0} {P Q : A → Type 0} (l : List A) → ((a : A) → P a → Q a) → All P l → All Q l
 all_by [] f h = h
 all_by (a ∷ l) f h = (f a h.0, all_by l f h.1)
-
--- ---- a consumer's number by its kind
-
-module _ (s : State) (c : Consumer) where
-  pub waits_not : c.kind ≡ shared → 0 ≡ waiting_for s c
-  unfolding waiting_for by_kind
-  waits_not e = rw e
-
-  pub waits : c.kind ≡ plain → length c.nacked + (length (ledger_for s c) - c.cursor) ≡ waiting_for s c
-  unfolding waiting_for by_kind
-  waits e = rw e
 
 -- ---- what waits is small
 

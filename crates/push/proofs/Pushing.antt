@@ -33,6 +33,10 @@ pub length_permits : (s : State) → length (permits_now s) ≡ length s.consume
 unfolding permits_now
 length_permits s = length-map s.consumers (λ (c : Consumer). c.permits)
 
+-- of at most 32 consumers
+pub consumers_few : (e : ℕ) (ws : List ℕ) → spells ws ≡ true → e ≡ (decode ws).entries → length (decode ws).consumers ≤ 32
+consumers_few e ws p q = (canon_of e ws p q).shaped.consumers_fit
+
 -- which are its own
 pub permits_nth : (s : State) (i : ℕ) → i < length s.consumers → get_or (permits_now s) i 0 ≡ (consumer_nth s i).permits
 unfolding permits_now
@@ -50,7 +54,7 @@ length_services s [] ps = refl
 length_services s (d ∷ ds) ps = ap suc (length_services s ds (served s d ps).after.permits)
 
 -- the services keep the number of permits
-length_left : (s : State) (ds : List Dispatcher) (ps : List ℕ) → length (permits_left ps (services s ds ps)) ≡ length ps
+pub length_left : (s : State) (ds : List Dispatcher) (ps : List ℕ) → length (permits_left ps (services s ds ps)) ≡ length ps
 unfolding services permits_left
 length_left s [] ps = refl
 length_left s (d ∷ ds) ps = length_left s ds (served s d ps).after.permits ∙ served_sized s d ps

@@ -1,7 +1,7 @@
 -- The entries that wait, whatever the permits: a push dispatches no more of them.
 use Rattle.std.specs.Prelude.{ℕ, ◌+◌, ◌-◌, List, [], ◌∷◌, length}
-use Rattle.rules.specs.State.{by_kind, Consumer, Dispatcher, State, ledger_of}
-use Rattle.push_laws.specs.Plain.{ledger_for}
+use Rattle.rules.specs.State.{Dispatcher, State, ledger_of}
+use Rattle.push_plain.specs.Reading.{waiting_for}
 
 -- the numbers of the elements of a list, added up
 unfoldable pub total : {A : Type 0} → (A → ℕ) → List A → ℕ
@@ -11,10 +11,6 @@ total f (a ∷ l) = f a + total f l
 -- what waits for a dispatcher: its queue, and its topic's ledger from its cursor on
 unfoldable pub waiting_at : State → Dispatcher → ℕ
 waiting_at s d = length d.redelivery + (length (ledger_of s d.pair.topic) - d.cursor)
-
--- what waits for a plain consumer: what it nacked, and its topic's ledger from its cursor on; nothing for a shared one
-unfoldable pub waiting_for : State → Consumer → ℕ
-waiting_for s c = by_kind c.kind (length c.nacked + (length (ledger_for s c) - c.cursor)) 0
 
 -- what waits for the dispatchers
 abbrev pub waiting_shared : State → ℕ

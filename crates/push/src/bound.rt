@@ -3,16 +3,15 @@
 ghost use Rattle.std.specs.Prelude.{◌≡◌};
 ghost use Rattle.layout.specs.Layout.{decode};
 ghost use Rattle.layout.specs.Canon.{CanonStore};
-ghost use Rattle.layout.specs.Fields.{consumer_now, dispatcher_now};
-ghost use Rattle.layout.specs.Placed.{ConsumerIn, DispatcherIn};
-ghost use Rattle.push.specs.Bound.{waiting_at, waiting_for, waiting_shared, waiting_plain, most_due};
+ghost use Rattle.layout.specs.Fields.{dispatcher_now};
+ghost use Rattle.layout.specs.Placed.{DispatcherIn};
+ghost use Rattle.push.specs.Bound.{waiting_at, waiting_shared, waiting_plain, most_due};
 
-use consumer::fields::is_shared;
 use consumer::table::consumer_count;
 use dispatcher::numbers::{load_head, topic};
 use dispatcher::queue::queue_count;
 use dispatcher::table::dispatcher_count;
-use push_plain::due::waiting;
+use push_plain::due::waiting_for;
 use push_plain::sum::added_up;
 use topic::table::ledger_length;
 
@@ -26,19 +25,7 @@ fn waiting_at(store: &[u64], e: usize, d: usize) -> usize
     queue_count(store, e, d) + n.saturating_sub(head.cursor)
 }
 
-// How many entries wait for consumer `i`, if it is a plain one.
-fn waiting_for(store: &[u64], e: usize, i: usize) -> usize
-    requires { ConsumerIn e store.now i }
-    ensures { result ≡ waiting_for (decode store.now) (consumer_now store.now i) }
-{
-    if is_shared(store, e, i) {
-        0
-    } else {
-        waiting(store, e, i)
-    }
-}
-
-// How many entries wait for the dispatchers.
+// How many entries wait for the dispatchers. This and the next are one call of `added_up` each.
 fn waiting_shared(store: &[u64], e: usize) -> usize
     requires { CanonStore e store.now }
     ensures { result ≡ waiting_shared (decode store.now) }

@@ -36,38 +36,17 @@ fn load_permits(store: &[u64], e: usize, list: &mut [u64])
     }
 }
 
-// How many dispatches are due, with a list for the permits.
-fn due_with(store: &[u64], e: usize, permits: &mut [u64]) -> usize
-    requires { (spells store.now ≡ true) × (e ≡ (decode store.now).entries)
-        × (length permits.old ≡ length (decode store.now).consumers) }
-    ensures { result ≡ length (local_push (decode store.now)).dispatched }
-{
-    load_permits(store, e, permits);
-    let shared = due_shared(store, e, permits);
-    shared + due_plain(store, e, permits)
-}
-
 // How many dispatches are due.
 fn due(store: &[u64], e: usize) -> usize
     requires { (spells store.now ≡ true) × (e ≡ (decode store.now).entries) }
     ensures { result ≡ length (local_push (decode store.now)).dispatched }
 {
     let n = consumer_count(store, e);
-    let mut permits = [0u64; 32];
-    due_with(store, e, &mut permits[..n])
-}
-
-// What is due is dispatched, with a list for the permits; the answer is how many dispatches were made.
-fn push_with(store: &mut [u64], e: usize, permits: &mut [u64], list: &mut [u64]) -> usize
-    requires { (spells store.old ≡ true) × (e ≡ (decode store.old).entries) × (length permits.old ≡ length (decode store.old).consumers)
-        × (length (local_push (decode store.old)).dispatched * 13 ≤ length list.old) }
-    ensures value { result ≡ length (local_push (decode store.old)).dispatched }
-    ensures words { store.new ≡ state_changed store.old (λ s. (local_push s).state) }
-    ensures records { list.new ≡ filled list.old 0 (local_push (decode store.old)).dispatched }
-{
+    let mut all = [0u64; 32];
+    let permits = &mut all[..n];
     load_permits(store, e, permits);
-    let m = push_pending_shared(store, e, permits, list);
-    serve_plain(store, e, permits, list, m)
+    let shared = due_shared(store, e, permits);
+    shared + due_plain(store, e, permits)
 }
 
 // What is due is dispatched; the list has room for its records. The answer is how many were made.
@@ -79,8 +58,11 @@ fn push_pending(store: &mut [u64], e: usize, list: &mut [u64]) -> usize
     ensures records { list.new ≡ filled list.old 0 (local_push (decode store.old)).dispatched }
 {
     let n = consumer_count(store, e);
-    let mut permits = [0u64; 32];
-    push_with(store, e, &mut permits[..n], list)
+    let mut all = [0u64; 32];
+    let permits = &mut all[..n];
+    load_permits(store, e, permits);
+    let m = push_pending_shared(store, e, permits, list);
+    serve_plain(store, e, permits, list, m)
 }
 
 // 15 with the number due if more dispatches are due than the list holds records of 13 words. The value is

@@ -5,4 +5,5 @@ pub mod Parts
 pub mod Same
 pub mod Served
 pub mod Topics
+pub mod Waits
 pub mod Writes

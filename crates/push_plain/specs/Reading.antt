@@ -2,7 +2,7 @@
 -- of them, and what must be known of a state so that every such entry is in its ledger.
 use Rattle.std.specs.Prelude.{ℕ, ◌+◌, ◌-◌, ◌≤◌, ◌<◌, ◌≡◌, cond, List, ◌++◌, map, ltb, length, get_or, take, drop}
 use Rattle.rules.specs.Table.{Every}
-use Rattle.rules.specs.State.{StoredMessage, Consumer, State, no_bits, with_consumers}
+use Rattle.rules.specs.State.{StoredMessage, Consumer, State, no_bits, by_kind, with_consumers}
 use Rattle.rules.specs.Ledger.{message_at}
 use Rattle.rules.specs.Commands.{with_permits}
 use Rattle.rules.specs.Outcome.{Dispatch}
@@ -53,6 +53,10 @@ ledger_now ws i = ledger_for (decode ws) (consumer_now ws i)
 -- how many entries consumer i is due there, with other permits
 abbrev pub due_now : List ℕ → ℕ → ℕ → ℕ
 due_now ws i permits = plain_due (ledger_now ws i) (with_permits (consumer_now ws i) permits)
+
+-- what waits for a plain consumer: what it nacked, and its topic's ledger from its cursor on; nothing for a shared one
+unfoldable pub waiting_for : State → Consumer → ℕ
+waiting_for s c = by_kind c.kind (length c.nacked + (length (ledger_for s c) - c.cursor)) 0
 
 -- the records of its next n entries, with other permits
 abbrev pub records_now : List ℕ → ℕ → ℕ → ℕ → List Dispatch

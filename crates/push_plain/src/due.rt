@@ -4,7 +4,7 @@ ghost use Rattle.rules.specs.Permits.{zero_permits};
 ghost use Rattle.layout.specs.Layout.{decode, spells};
 ghost use Rattle.layout.specs.Fields.{consumer_now};
 ghost use Rattle.layout.specs.Placed.{ConsumerIn};
-ghost use Rattle.push_plain.specs.Reading.{ledger_now, due_now, plain_records_now};
+ghost use Rattle.push_plain.specs.Reading.{ledger_now, waiting_for, due_now, plain_records_now};
 
 use super::sum::added_up;
 use consumer::fields::{cursor, is_shared, topic};
@@ -29,16 +29,24 @@ pub fn waiting(store: &[u64], e: usize, i: usize) -> usize
     nacked_count(store, e, i) + n.saturating_sub(cursor(store, e, i))
 }
 
+// How many entries wait for consumer `i`, if it is a plain one.
+pub fn waiting_for(store: &[u64], e: usize, i: usize) -> usize
+    requires { ConsumerIn e store.now i }
+    ensures { result ≡ waiting_for (decode store.now) (consumer_now store.now i) }
+{
+    if is_shared(store, e, i) {
+        0
+    } else {
+        waiting(store, e, i)
+    }
+}
+
 // How many entries consumer `i` is due with other permits.
 pub(crate) fn plain_due(store: &[u64], e: usize, i: usize, permits: u64) -> usize
     requires { ConsumerIn e store.now i }
     ensures { result ≡ due_now store.now i permits }
 {
-    if is_shared(store, e, i) {
-        0
-    } else {
-        permitted(permits, waiting(store, e, i))
-    }
+    permitted(permits, waiting_for(store, e, i))
 }
 
 // How many entries all consumers are due, each with its permits of `permits`.

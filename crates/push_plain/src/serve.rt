@@ -1,5 +1,5 @@
 // Plain consumers served: the records of their entries, then their own words.
-ghost use Rattle.std.specs.Prelude.{◌≡◌, map, ◌+◌, ◌*◌, ◌≤◌, ◌<◌, length};
+ghost use Rattle.std.specs.Prelude.{◌≡◌, ◌+◌, ◌*◌, ◌≤◌, ◌<◌, length};
 ghost use Rattle.words.specs.Act.{lay};
 ghost use Rattle.rules.specs.State.{with_consumers};
 ghost use Rattle.rules.specs.Commands.{with_permits};
@@ -9,10 +9,9 @@ ghost use Rattle.layout.specs.Canon.{CanonStore};
 ghost use Rattle.layout.specs.Fields.{consumer_now, topic_now, state_changed, consumer_changed};
 ghost use Rattle.layout.specs.Placed.{ConsumerIn, TopicIn};
 ghost use Rattle.record.specs.Flat.{filled, record_words};
-ghost use Rattle.push_laws.specs.Applied.{with_each};
 ghost use Rattle.push_laws.specs.Plain.{plain_served};
 ghost use Rattle.push_plain.specs.Reading.{record_to, entry_record, entries_taken, ledger_now, due_now, records_now, plain_records_now};
-ghost use Rattle.push_plain.specs.Reading.{ReadableConsumer, Readable, SendableTo};
+ghost use Rattle.push_plain.specs.Reading.{ReadableConsumer, Readable, SendableTo, all_served};
 
 use super::due::plain_due;
 use super::reader::{position, read_on};
@@ -140,7 +139,7 @@ pub fn serve_plain(
         × ((m + length (plain_records_now store.old permits.now)) * 13 ≤ length list.old) }
     ensures value { result ≡ m + length (plain_records_now store.old permits.now) }
     ensures words { store.new ≡ state_changed store.old
-        (λ s. with_consumers s (map (plain_served s) (with_each s.consumers permits.now))) }
+        (λ s. with_consumers s (all_served s permits.now)) }
     ensures records { list.new ≡ filled list.old m (plain_records_now store.old permits.now) }
 {
     let mut at = m;

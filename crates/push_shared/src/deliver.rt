@@ -27,7 +27,7 @@ fn ack_set_words(bits: UnackedBits, batch: u64) -> u64
     if bits.bits_empty() {
         0
     } else {
-        (batch + 63) / 64
+        batch.div_ceil(64)
     }
 }
 

@@ -27,7 +27,8 @@ fn finish(store: &mut [u64], e: usize, d: usize, numbers: Numbers)
 }
 
 // Serves a dispatcher whose ring is `ring`. Records are written from record `from` on; the answer is the number of
-// the record after the last.
+// the record after the last. They are counted by hand: each turn reads the store that the delivery before it wrote,
+// so the turns are no iterator that lives beside it.
 fn serve_turns(
     store: &mut [u64],
     served: Served,
@@ -56,26 +57,6 @@ fn serve_turns(
     m
 }
 
-// Serves dispatcher `d`; its ring is to be written to `ring`, a list of its length.
-fn serve_with(
-    store: &mut [u64],
-    e: usize,
-    d: usize,
-    ring: &mut [usize],
-    permits: &mut [u64],
-    list: &mut [u64],
-    from: usize,
-) -> usize
-    requires { Ready e store.old d × (length ring.old ≡ length (dispatcher_now store.old d).attached)
-        × (length permits.old ≡ length (decode store.old).consumers)
-        × ((from + length (served_now store.old d permits.old).made) * 13 ≤ length list.old) }
-    ensures { Written e store.old d permits.old list.old from store.new permits.new list.new result }
-{
-    let served = find_served(store, e, d);
-    ring_slots(store, e, d, ring);
-    serve_turns(store, served, ring, permits, list, from)
-}
-
 // Serves dispatcher `d`, with records from record `from` on; the answer is the number of the record after the last.
 pub(crate) fn serve_dispatcher(
     store: &mut [u64],
@@ -90,6 +71,9 @@ pub(crate) fn serve_dispatcher(
     ensures { Written e store.old d permits.old list.old from store.new permits.new list.new result }
 {
     let size = ring_count(store, e, d);
-    let mut ring = [0usize; 32];
-    serve_with(store, e, d, &mut ring[..size], permits, list, from)
+    let mut all = [0usize; 32];
+    let ring = &mut all[..size];
+    let served = find_served(store, e, d);
+    ring_slots(store, e, d, ring);
+    serve_turns(store, served, ring, permits, list, from)
 }

@@ -13,7 +13,8 @@ use dispatcher::numbers::load_head;
 use dispatcher::ring::ring_count;
 use dispatcher::table::dispatcher_count;
 
-// How many dispatches a dispatcher is due, by turns; the permits are left as its service leaves them.
+// How many dispatches a dispatcher is due, by turns; the permits are left as its service leaves them. The turns are a
+// loop, since each takes the permits and numbers that the last one left.
 fn due_turns(store: &[u64], served: Served, ring: &[usize], permits: &mut [u64]) -> usize
     requires { ServedHere served store.now × (ring.now ≡ (fixed_now store.now served.d).ring)
         × ((dispatcher_now store.now served.d).next ≤ length ring.now) }
@@ -31,18 +32,6 @@ fn due_turns(store: &[u64], served: Served, ring: &[usize], permits: &mut [u64])
     count
 }
 
-// The same, of a dispatcher whose ring is to be written to `ring`, a list of its length.
-fn due_with(store: &[u64], e: usize, d: usize, ring: &mut [usize], permits: &mut [u64]) -> usize
-    requires { (spells store.now ≡ true) × (e ≡ (decode store.now).entries) × (d < length (decode store.now).dispatchers)
-        × (length ring.old ≡ length (dispatcher_now store.now d).attached) }
-    ensures count { result ≡ length (served_now store.now d permits.old).made }
-    ensures permits { permits.new ≡ (served_now store.now d permits.old).after.permits }
-{
-    let served = find_served(store, e, d);
-    ring_slots(store, e, d, ring);
-    due_turns(store, served, ring, permits)
-}
-
 // How many dispatches dispatcher `d` is due; the permits are left as its service leaves them.
 fn due_of(store: &[u64], e: usize, d: usize, permits: &mut [u64]) -> usize
     requires { (spells store.now ≡ true) × (e ≡ (decode store.now).entries) × (d < length (decode store.now).dispatchers) }
@@ -50,8 +39,11 @@ fn due_of(store: &[u64], e: usize, d: usize, permits: &mut [u64]) -> usize
     ensures permits { permits.new ≡ (served_now store.now d permits.old).after.permits }
 {
     let size = ring_count(store, e, d);
-    let mut ring = [0usize; 32];
-    due_with(store, e, d, &mut ring[..size], permits)
+    let mut all = [0usize; 32];
+    let ring = &mut all[..size];
+    let served = find_served(store, e, d);
+    ring_slots(store, e, d, ring);
+    due_turns(store, served, ring, permits)
 }
 
 // How many dispatches all dispatchers are due; the permits are left as the last service leaves them. The sum is a

@@ -17,10 +17,7 @@ fn slot_of(store: &[u64], e: usize, id: u64) -> usize
     requires { CanonStore e store.now }
     ensures { result ≡ slot by_id id (decode store.now).consumers }
 {
-    let Some(i) = find_consumer(store, e, id) else {
-        return consumer_count(store, e);
-    };
-    i
+    find_consumer(store, e, id).unwrap_or(consumer_count(store, e))
 }
 
 // The ring of dispatcher `d` as slots, in a list of its length.

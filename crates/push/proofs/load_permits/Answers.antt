@@ -1,4 +1,4 @@
--- `push::load_permits` meets its contract: the permits up to i are the consumers', those from i on as they were.
+-- `push::load_permits` meets its contract: the permits of each consumer are read from the store.
 use mathlib.Core.Path.{◌≡◌, refl, sym, ap, ap₂, ◌∙◌}
 use mathlib.Core.List.{List, ◌++◌}
 use Prim.Native.Nat.{ℕ, ◌<◌}

@@ -1,4 +1,4 @@
--- `push::load_permits` meets its contract: the permits up to i are the consumers', those from i on as they were.
+-- The loop of `load_permits`: the permits up to i are the consumers', those from i on as they were.
 use mathlib.Core.Path.{◌≡◌}
 use mathlib.Core.List.{◌++◌}
 use lib.ListN.{take, drop}

@@ -1,5 +1,4 @@
--- `push_shared::push_pending_shared` meets its contract. The loop's invariant: what is left to serve, with what is written,
--- is the whole.
+-- `push_shared::push_pending_shared` meets its contract: each dispatcher is served where it is as it was.
 use mathlib.Core.Path.{◌≡◌}
 use Prim.Native.Nat.{◌≤◌, ◌<◌}
 use native.Mathlib.Omega.{arith}

@@ -1,5 +1,4 @@
--- `push_shared::push_pending_shared` meets its contract. The loop's invariant: what is left to serve, with what is written,
--- is the whole.
+-- The loop of `push_pending_shared`: what is left to serve, with what is written, is the whole.
 use Rattle.push_shared.proofs.Sharing.{Sharing}
 use Rattle.push_shared.proofs.push_pending_shared.Given as goal
 

@@ -3,7 +3,7 @@ use Rattle.std.proofs.Common.{◌≡◌, ◌<◌, length, arith, rules, of_calls
 use Rattle.layout.specs.Layout.{decode}
 use Rattle.layout.specs.Fields.{zero_consumer, consumer_nth}
 use Rattle.layout.proofs.Placed.{consumer_in}
-use Rattle.push.specs.Bound.{waiting_for}
+use Rattle.push_plain.specs.Reading.{waiting_for}
 use Rattle.push.proofs.Most.{added_all, consumer_small}
 use Rattle.push.proofs.bound.waiting_plain.Goals as goal
 

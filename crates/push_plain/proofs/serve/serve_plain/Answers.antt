@@ -1,8 +1,9 @@
--- `push_plain::serve::serve_plain` meets its contract: the consumers before `i` are served, and the list with what is left is the list with all.
+-- `push_plain::serve::serve_plain` meets its contract: each consumer is served where it is as it was.
 use Prim.Native.Nat.{◌≤◌, ◌<◌}
 use native.Mathlib.Omega.{arith}
 use lib.ListN.{length}
 use Rattle.layout.specs.Layout.{decode}
+use Rattle.push_plain.specs.Reading.{all_served}
 use Rattle.push_plain.proofs.Served.{going_first, going_in, going_readable, going_room, going_on, going_long, going_count, going_words, going_records}
 use Rattle.push_plain.proofs.serve.serve_plain.Goals as goal
 
@@ -31,6 +32,7 @@ pub shape_of-list : goal.shape_of-list
 shape_of-list c = c.loop-i.invariant.long
 
 pub returns : goal.returns
+unfolding all_served
 returns c =
     let p = c.requires in
     let g = c.loop-i.invariant in

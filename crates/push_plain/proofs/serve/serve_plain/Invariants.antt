@@ -1,4 +1,4 @@
--- `push_plain::serve::serve_plain` meets its contract: the consumers before `i` are served, and the list with what is left is the list with all.
+-- The loop of `serve_plain`: the consumers before `i` are served, and the list with what is left is the list with all.
 use Rattle.push_plain.proofs.Served.{Going}
 use Rattle.push_plain.proofs.serve.serve_plain.Given as goal
 

@@ -1,4 +1,4 @@
--- `push_plain::serve::serve_records` meets its contract. The loop's invariant: the list with what is left is the list with all.
+-- `push_plain::serve::serve_records` meets its contract: each entry joins the list.
 use mathlib.Core.Path.{◌≡◌, sym, ap, ◌∙◌}
 use mathlib.Core.List.{List}
 use Prim.Native.Nat.{ℕ, ◌+◌, ◌-◌, ◌<◌}

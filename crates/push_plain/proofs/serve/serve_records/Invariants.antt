@@ -1,4 +1,4 @@
--- `push_plain::serve::serve_records` meets its contract. The loop's invariant: the list with what is left is the list with all.
+-- The loop of `serve_records`: the list with what is left is the list with all.
 use mathlib.Core.Path.{◌≡◌}
 use Prim.Native.Nat.{◌+◌, ◌-◌}
 use Rattle.rules.specs.Commands.{with_permits}

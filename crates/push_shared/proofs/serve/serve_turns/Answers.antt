@@ -1,5 +1,4 @@
--- `push_shared::serve::serve_turns` meets its contract. The loop's invariant: what is left, with what is written, is the whole
--- service.
+-- `push_shared::serve::serve_turns` meets its contract: each step is delivered, and where none is made the numbers are stored.
 use Prim.Native.Nat.{◌+◌, ◌≤◌}
 use native.Mathlib.Omega.{arith}
 use lib.ListN.{length}

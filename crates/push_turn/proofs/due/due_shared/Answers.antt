@@ -1,4 +1,4 @@
--- `push_turn::due::due_shared` meets its contract. The loop's invariant: what is ahead, with what was counted, is the whole.
+-- `push_turn::due::due_shared` meets its contract: each dispatcher is counted by the permits that those before it left.
 use mathlib.Core.Path.{◌≡◌, refl}
 use Prim.Native.Nat.{◌≤◌, ◌<◌}
 use native.Mathlib.Omega.{arith}

@@ -1,4 +1,4 @@
--- `push_turn::due::due_shared` meets its contract. The loop's invariant: what is ahead, with what was counted, is the whole.
+-- The loop of `due_shared`: what is ahead, with what was counted, is the whole.
 use Rattle.layout.specs.Layout.{decode}
 use Rattle.push_turn.proofs.Totals.{Carried}
 use Rattle.push_turn.proofs.due.due_shared.Given as goal

@@ -1,4 +1,4 @@
--- `push_turn::due::due_turns` meets its contract. The loop's invariant: what is left, with the steps made, is the whole service.
+-- `push_turn::due::due_turns` meets its contract: each turn counts one step, and where none is made the service is over.
 use Rattle.std.proofs.Common.{◌≤◌, sym, ap, ◌∙◌, ℕ, List, length, arith}
 use Rattle.layout.specs.Layout.{decode}
 use Rattle.layout.specs.Fields.{dispatcher_nth}

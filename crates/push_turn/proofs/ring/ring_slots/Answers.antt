@@ -1,4 +1,4 @@
--- `push_turn::ring::ring_slots` meets its contract. The loop's invariant: the first j places are written, the others as they were.
+-- `push_turn::ring::ring_slots` meets its contract: a place is the slot of the id there.
 use mathlib.Core.Path.{refl, ap, ◌∙◌}
 use Prim.Native.Nat.{ℕ, ◌<◌}
 use native.Mathlib.Omega.{arith}

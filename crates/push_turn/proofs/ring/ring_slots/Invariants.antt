@@ -1,4 +1,4 @@
--- `push_turn::ring::ring_slots` meets its contract. The loop's invariant: the first j places are written, the others as they were.
+-- The loop of `ring_slots`: the first j places are written, the others as they were.
 use mathlib.Core.Path.{◌≡◌}
 use Prim.Native.Nat.{ℕ}
 use Rattle.rules.specs.State.{by_id}

@@ -1,4 +1,4 @@
--- `push_turn::turn::take_turn` meets its contract: no ring, no total, no place, or the turn of the place that was chosen.
+-- `push_turn::turn::take_turn` meets its contract: no total, no place, or the turn of the place that was chosen.
 use mathlib.Core.Path.{refl, ap, ◌∙◌}
 use Prim.Native.Nat.{ℕ}
 use lib.ListN.{get_or}

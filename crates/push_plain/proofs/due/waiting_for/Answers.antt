@@ -1,10 +1,10 @@
--- `push::bound::waiting_for` meets its contract: nothing waits for a shared consumer.
+-- `push_plain::due::waiting_for` meets its contract: nothing waits for a shared consumer.
 use mathlib.Core.Path.{sym, ◌∙◌}
 use Rattle.layout.specs.Layout.{decode}
 use Rattle.layout.specs.Fields.{consumer_nth}
 use Rattle.consumer.proofs.Records.{flag_shared, flag_plain}
-use Rattle.push.proofs.Most.{waits_not, waits}
-use Rattle.push.proofs.bound.waiting_for.Goals as goal
+use Rattle.push_plain.proofs.Waits.{waits_not, waits}
+use Rattle.push_plain.proofs.due.waiting_for.Goals as goal
 
 pub returns-then-is_shared : goal.returns-then-is_shared
 returns-then-is_shared c =
