@@ -1,5 +1,6 @@
 // Push with a lent list of dispatches. The flat push runs into a flat list that is lent beside it, with
-// room for as many records as both hold; then the list is filled from the flat records.
+// room for as many records as both hold; then the list is filled from the flat records. The push for C
+// writes flat words, and there is no heap to put them in.
 ghost use Rattle.std.specs.Prelude.{◌≡◌, cond, ◌/◌, ◌%◌, eqb, length, replicate};
 ghost use Rattle.rules.specs.Calls.Call.{Push};
 ghost use Rattle.layout.specs.Calls.{outcome, answer, after, list_after};
