@@ -4,6 +4,7 @@ ghost use Rattle.wire_command.specs.Types.{type_number, type_from};
 
 use wire_fields::unread::Unread;
 
+// A type of BaseCommand that is read.
 #[derive(Clone, Copy, Debug, PartialEq, Eq)]
 pub enum CommandType {
     Subscribe,

@@ -1,5 +1,6 @@
 -- What the code of this crate answers, by the definitions of the wire.
-use Rattle.std.specs.Prelude.{ℕ, ◌+◌, ◌-◌, ◌*◌, ◌/◌, ◌%◌, ◌^◌, ◌<◌, ◌≤◌, ◌≡◌, Bool, false, not, cond, ◌&&◌, List, eqb, leb, ltb, length, get_or, drop, Option, Some, None}
+use Rattle.std.specs.Prelude.{ℕ, ◌+◌, ◌-◌, ◌*◌, ◌/◌, ◌%◌, ◌^◌, ◌<◌, ◌≤◌, ◌≡◌, Bool, false, not, cond, ◌&&◌, List}
+use Rattle.std.specs.Prelude.{eqb, leb, ltb, length, get_or, drop, Option, Some, None}
 use Rattle.std.proofs.Math.Option.{none, some, map}
 use Rattle.std.proofs.Math.Option as math
 use Rattle.wire.specs.Varint.{varint, varint_within}

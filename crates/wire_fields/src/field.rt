@@ -5,8 +5,8 @@ ghost use Rattle.wire_fields.specs.Found.{answered, as_field, part_field, part_t
 
 use super::varint::{MORE, varint_at};
 
-// A field as `wire/specs/Fields` has it, number by number: its number and wire type, the number of a varint, and the places where its content begins and where
-// the next field does.
+// A field as `wire/specs/Fields` has it, number by number: its number and wire type, the number of a varint, and the places where
+// its content begins and where the next field does.
 #[derive(Clone, Copy)]
 pub struct Field {
     pub number: u64,

@@ -17,7 +17,7 @@ fn lay_number(f: Field, number: u64, list: &mut [u64], to: usize) -> usize
     to + 1
 }
 
-// Lays the numbers of all fields of a number from a place on.
+// Lays the numbers of all fields of a number from a place on. A field says where the next one begins.
 pub fn lay_numbers(m: &[u8], number: u64, list: &mut [u64], to: usize)
     requires { Ready m.now number (length list.old) to }
     ensures { list.new ≡ (lay (values_of m.now number)).run to list.old }

@@ -67,7 +67,7 @@ fn first_of(f: Field) -> u64
     f.start as u64
 }
 
-// What stands under three numbers of a message that is well formed.
+// What stands under three numbers of a message that is well formed. A field says where the next one begins.
 pub fn pick(m: &[u8], a: u64, b: u64, c: u64) -> Option<(Seen, Seen, Seen)>
     ensures { result ≡ picked m.now (wanted_of a) (wanted_of b) (wanted_of c) }
 {

@@ -1,4 +1,5 @@
-// Why bytes are not read, and the number that a call for C answers then.
+// Why bytes are not read, and the number that a call for C answers then; that of bytes that are not well formed also says that a
+// record cannot be written.
 ghost use Rattle.std.specs.Prelude.{◌≡◌};
 ghost use Rattle.wire_fields.specs.Unread.{unread_number};
 

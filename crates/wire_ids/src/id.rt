@@ -70,7 +70,7 @@ impl Parts {
     }
 }
 
-// How many words the ack set of the id has whose message is `m`.
+// How many words the ack set of the id has whose message is `m`. A field says where the next one begins.
 pub fn id_words(m: &[u8]) -> Option<u64>
     ensures { result ≡ answered words_in (group_of m.now) }
 {

@@ -34,7 +34,7 @@ fn put(list: &mut [u64], to: usize, n: usize, number: u64, value: u64) -> usize
     }
 }
 
-// Lays the id whose message is `m`, and answers the place after it.
+// Lays the id whose message is `m`, and answers the place after it. A field says where the next one begins.
 fn lay_id(m: &[u8], list: &mut [u64], to: usize) -> usize
     requires { IdRoom m.now (length list.old) to }
     ensures { Laid list.old to (id_words m.now) list.new result }
@@ -78,7 +78,7 @@ fn lay_field(m: &[u8], number: u64, f: Field, list: &mut [u64], to: usize) -> us
     lay_id(&m[f.start..f.next], list, to)
 }
 
-// Lays the ids under a number of a message, from the list's start on.
+// Lays the ids under a number of a message, from the list's start on. A field says where the next one begins.
 pub fn lay_ids(m: &[u8], number: u64, list: &mut [u64])
     requires { Listed m.now number (length list.old) }
     ensures { list.new ≡ (lay (list_words (ids_there m.now number))).run 0 list.old }

@@ -47,7 +47,7 @@ fn with_field(m: &[u8], number: u64, f: Field, t: Tally) -> Option<Tally>
     with_id(m, f, t)
 }
 
-// The words that the ids under a number of a message take.
+// The words that the ids under a number of a message take. A field says where the next one begins.
 pub fn list_size(m: &[u8], number: u64) -> Option<u64>
     ensures { result ≡ answered size_of (ids_of m.now number) }
 {

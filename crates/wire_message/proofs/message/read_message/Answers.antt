@@ -30,10 +30,10 @@ pub returns-in_err-place : goal.returns-in_err-place
 returns-in_err-place c =
     let a = c.args in
     let r = err_from_is_err_and c.from_residual-in_err-place.result c.from_residual-in_err-place.ensures.1 in
-    let e = was_none _ _ c.in_err-place.ensures.value in
     let k = c.if-base-ne-MESSAGE.false in
     let b = told_base a.bytes.now _ (was_some _ _ c.in_ok-base.ensures.value ∙ c.read_base.ensures) in
     let p = b.1 ∙ ap (placed a.bytes.now) k ∙ placed_message a.bytes.now MESSAGE (omega arith) in
+    let e = was_none _ _ c.in_err-place.ensures.value in
     let d = no_message a.bytes.now a.record.now (b.0 ∙ ap some k) (told_no_place _ (e.0 ∙ p)) in
     record { answer = rw (r.1, r.2, e.1) d.answer; words = d.written }
 

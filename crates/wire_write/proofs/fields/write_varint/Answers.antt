@@ -1,5 +1,4 @@
--- `wire_write::fields::write_varint` meets its contract. The loop's invariant: the varint of what is left of the number, laid
--- from here on, finishes the varint of the number.
+-- `wire_write::fields::write_varint` meets its contract.
 use lib.ListN.{length-set}
 use borrow.Author.Rules.{rules}
 use Rattle.wire_write.proofs.Varints.{partly_start, partly_on, partly_end}

@@ -1,5 +1,4 @@
--- `wire_write::fields::write_varint` meets its contract. The loop's invariant: the varint of what is left of the number, laid
--- from here on, finishes the varint of the number.
+-- The varint of what is left of the number, laid from here on, finishes the varint of the number.
 use Rattle.wire_write.proofs.Varints.{Partly}
 use Rattle.wire_write.proofs.fields.write_varint.Given as goal
 
