@@ -1,6 +1,7 @@
 // What makers' firmware calls, as a library: the crates above use these functions, and broker_c exports them to C. Each here takes
 // the store as a slice of words, in C a pointer and a length, and answers value × 256 + number, the number 0 when done. None of
-// them requires anything; the contracts are one equation for the answer and one for every lent slice.
+// them requires anything; the contracts are one equation for the answer and one for every lent slice. Kinds, targets and switches
+// are numbers, as C hands them over; broker_c passes them on.
 // Every call here but opening first checks that the words spell a state, and answers 1 where they do not.
 #![tactic(auto)]
 

@@ -49,7 +49,7 @@ fn is_heading(line: &[u8]) -> bool {
     line.len() > 0 && line[0] == b'#'
 }
 
-// Makes the call of a line and prints what it gave.
+// Makes the call of a line and prints what it gave. Words past n are 0, and are read so where a line has too few.
 fn replay_call(rt: &impl Print, store: &mut [u64], line: &[u8]) -> io::Result<()> {
     let mut words = [0u64; 2048];
     let n = words_of(line, &mut words);
@@ -73,7 +73,8 @@ fn replay_push(rt: &impl Print, store: &mut [u64], n: usize, records: u64) -> io
     show_twin(rt, as_records(&mut twin, store, &list, room, answer))
 }
 
-// A push into the first `room` words of a list.
+// A push into the first `room` words of a list. The runner calls what makers call, whose answer is one word: its refusals, kinds
+// and targets are told by number.
 fn push_into(rt: &impl Print, store: &mut [u64], list: &mut [u64], room: usize) -> io::Result<u64>
     requires { room ≤ length list.old }
 {

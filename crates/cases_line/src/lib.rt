@@ -20,26 +20,25 @@ pub fn read_line(input: &mut impl BufRead, line: &mut [u8]) -> io::Result<usize>
     ensures { ReadsAtMost result line.new }
 {
     for n in 0..line.len() {
-        let b = next_byte(input)?;
-        if b == 0 {
+        let Some(b) = next_byte(input)? else {
             return Ok(n);
-        }
+        };
         line[n] = b;
     }
     Ok(line.len())
 }
 
-// Reads one byte; 0 at the end of the line or of the input.
-fn next_byte(input: &mut impl BufRead) -> io::Result<u8> {
+// Reads the next byte of a line, if there is one: a line ends at its newline, at a byte that is 0, or with the input.
+fn next_byte(input: &mut impl BufRead) -> io::Result<Option<u8>> {
     let b = match input.fill_buf()?.first() {
         Some(b) => *b,
-        None => return Ok(0),
+        None => return Ok(None),
     };
     input.consume(1);
-    if b == b'\n' {
-        return Ok(0);
+    if b == b'\n' || b == 0 {
+        return Ok(None);
     }
-    Ok(b)
+    Ok(Some(b))
 }
 
 // Puts the words of a line at the start of `words`, where zeros stand, as many as there is room for, and
@@ -64,7 +63,7 @@ pub fn words_of(line: &[u8], words: &mut [u64]) -> usize
 fn blanks(b: u8) -> usize
     ensures { result ≡ cond (ltb 32 b) 0 1 }
 {
-    if b <= b' ' { 1 } else { 0 }
+    usize::from(b <= b' ')
 }
 
 // What seven letters spell is below this, 2^56.

@@ -80,7 +80,8 @@ fn append_reading(
     show_answer(rt, label, answer)
 }
 
-// Flow, seek and close of a consumer that is not live, before and after the store is opened.
+// Flow, seek and close of a consumer that is not live, before and after the store is opened. Each line is a reading, written as
+// it is printed.
 pub fn consumer_readings(rt: &impl Print) -> io::Result<()> {
     println!(rt; "# a consumer that is not live")?;
     let mut store = [0u64; 8192];
@@ -132,7 +133,8 @@ fn show_word(rt: &impl Print, w: u64) -> io::Result<()> {
     print!(rt; "{w:016x} ")
 }
 
-// A line: the label, and done or the refusal's number.
+// A line: the label, and done or the refusal's number. The runner calls what makers call, whose answer is one word: its refusals
+// are told by number.
 fn show_answer(rt: &impl Print, label: &str, answer: u64) -> io::Result<()> {
     match number_in(answer) {
         0 => println!(rt; "{label}: done"),

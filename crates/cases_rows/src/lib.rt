@@ -42,7 +42,8 @@ fn at_most_64(number: u64) -> usize
     number.min(64) as usize
 }
 
-// Makes the row of a script with `a` words for answers and `room` words of a list.
+// Makes the row of a script with `a` words for answers and `room` words of a list. The runner calls what makers call, whose answer
+// is one word: its refusals are told by number.
 fn replay_script(
     rt: &impl Print,
     store: &mut [u64],

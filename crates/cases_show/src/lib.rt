@@ -1,16 +1,17 @@
-// What the runner prints of a call: the same words as reference/src/play.rs. An error of a function
-// here is that of a write.
+// What the runner prints of a call: the same words as reference/src/play.rs. It is compared and not proved. An error of a
+// function here is that of a write.
 #![tactic(auto)]
 
-ghost use Rattle.std.specs.Prelude.{◌+◌, ◌≤◌, length, IfOk};
+ghost use Rattle.std.specs.Prelude.{◌≡◌, ◌≤◌, length, IfOk};
 
 use cases_line::name::Name;
+use record::{RECORD_WORDS, signed};
 use std::io;
-use store::permits::ZERO_PERMITS;
 use told::{number_in, value_in};
 use trace_kind::Command;
 
-// Done and the value, or the refusal's number, and the end of the line.
+// Done and the value, or the refusal's number, and the end of the line. The runner calls what makers call, whose answer is one
+// word: its refusals are told by number.
 pub fn show_outcome(rt: &impl Print, name: Option<Name>, answer: u64) -> io::Result<()> {
     let value = value_in(answer);
     match number_in(answer) {
@@ -81,48 +82,48 @@ pub fn show_records(rt: &impl Print, list: &[u64], from: usize, count: u64) -> i
 {
     let mut at = from;
     for shown in 0..count {
-        if list.len() - at < 13 {
+        if list.len() - at < RECORD_WORDS {
             return Ok(at);
         }
-        show_record(rt, list, at)?;
-        at += 13;
+        show_record(rt, &list[at..at + RECORD_WORDS])?;
+        at += RECORD_WORDS;
     }
     Ok(at)
 }
 
-// The record at a place of a list.
-fn show_record(rt: &impl Print, list: &[u64], at: usize) -> io::Result<()>
-    requires { at + 13 ≤ length list.now }
+// A record, as its words.
+fn show_record(rt: &impl Print, record: &[u64]) -> io::Result<()>
+    requires { length «record».now ≡ 13 }
 {
-    show_message(rt, list, at)?;
-    show_ack_set(rt, list, at)?;
-    show_field(rt, "] redelivery_count ", list[at + 10])?;
-    show_field(rt, " cost ", list[at + 11])?;
-    println!(rt; " permits {}", list[at + 12].cast_signed())
+    show_message(rt, record)?;
+    show_ack_set(rt, record)?;
+    show_field(rt, "] redelivery_count ", record[10])?;
+    show_field(rt, " cost ", record[11])?;
+    println!(rt; " permits {}", record[12].cast_signed())
 }
 
 // Who is sent what.
-fn show_message(rt: &impl Print, list: &[u64], at: usize) -> io::Result<()>
-    requires { at + 13 ≤ length list.now }
+fn show_message(rt: &impl Print, record: &[u64]) -> io::Result<()>
+    requires { length «record».now ≡ 13 }
 {
-    show_field(rt, "  + ", list[at])?;
-    show_field(rt, ": id (", list[at + 1])?;
-    show_field(rt, ",", list[at + 2])?;
-    show_field(rt, ") handle ", list[at + 3])?;
-    show_field(rt, " batch ", list[at + 4])
+    show_field(rt, "  + ", record[0])?;
+    show_field(rt, ": id (", record[1])?;
+    show_field(rt, ",", record[2])?;
+    show_field(rt, ") handle ", record[3])?;
+    show_field(rt, " batch ", record[4])
 }
 
 // As many of the four ack set words as count.
-fn show_ack_set(rt: &impl Print, list: &[u64], at: usize) -> io::Result<()>
-    requires { at + 13 ≤ length list.now }
+fn show_ack_set(rt: &impl Print, record: &[u64]) -> io::Result<()>
+    requires { length «record».now ≡ 13 }
 {
     print!(rt; " ack_set [")?;
-    let count = list[at + 5].min(4) as usize;
+    let count = record[5].min(4) as usize;
     for i in 0..count {
         if i > 0 {
             print!(rt; ", ")?;
         }
-        print!(rt; "{}", list[at + 6 + i])?;
+        print!(rt; "{}", record[6 + i])?;
     }
     Ok(())
 }
@@ -143,12 +144,7 @@ pub fn show_balance(rt: &impl Print, dispatcher: u64, balance: u64, total: u64) 
 
 // A label and permits in excess form.
 fn show_permits(rt: &impl Print, label: &str, permits: u64) -> io::Result<()> {
-    print!(rt; "{label}")?;
-    if permits < ZERO_PERMITS {
-        show_field(rt, "-", ZERO_PERMITS - permits)
-    } else {
-        print!(rt; "{}", permits - ZERO_PERMITS)
-    }
+    print!(rt; "{label}{}", signed(permits).cast_signed())
 }
 
 // A label and a number.

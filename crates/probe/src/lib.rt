@@ -10,5 +10,5 @@ ghost use Rattle.layout.specs.Layout.{spells};
 pub extern "C" fn probe_spells(store: &[u64]) -> u64
     ensures { result ≡ bit (spells store.now) }
 {
-    if check_state::spells(store) { 1 } else { 0 }
+    u64::from(check_state::spells(store))
 }

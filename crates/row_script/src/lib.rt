@@ -40,6 +40,7 @@ fn call_end(script: &[u64], at: usize) -> Result<usize, Refusal>
 pub fn count_calls(script: &[u64]) -> Result<usize, Refusal>
     ensures { result ≡ counted 0 (script_calls script.now) }
 {
+    // A call says where the next one begins.
     let mut at = 0;
     let mut calls = 0;
     while at < script.len() {

@@ -122,20 +122,16 @@ fn make_seek(store: &mut [u64], words: &[u64]) -> Answer
     ensures answer { word_of result ≡ answered store.old (bind (seek_from words.now) that_fits) }
     ensures words { store.new ≡ words_made store.old (bind (seek_from words.now) that_fits) }
 {
-    if words[1] == 0 {
-        return seek(
-            store,
-            Seek {
-                consumer: words[0],
-                target: Target::Start,
-            },
-        );
-    }
+    let target = if words[1] == 0 {
+        Target::Start
+    } else {
+        Target::Id(words[2], words[3])
+    };
     seek(
         store,
         Seek {
             consumer: words[0],
-            target: Target::Id(words[2], words[3]),
+            target,
         },
     )
 }

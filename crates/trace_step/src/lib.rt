@@ -21,7 +21,7 @@ use trace_lines::{write_bad, write_outcome};
 use trace_read::{MOST_WORDS, Reach, header_reach, kind_of, read_words, record_reach};
 
 // What a step did: nothing, since what is held is cut off; it wrote a bad line of so many bytes, and is the last; or it took
-// so many bytes of what is held and wrote so many.
+// so many bytes of what is held and wrote so many. Bad is no error: its line is printed, and the three are what a player does.
 #[derive(Clone, Copy)]
 pub enum Did {
     Waits,
@@ -39,6 +39,7 @@ fn make_record(store: &mut [u64], bytes: &[u8], list: &mut [u64]) -> Option<Answ
     ensures words { store.new ≡ words_made store.old (record_call (record_in bytes.now)) }
     ensures records { list.new ≡ list_made store.old list.old (record_call (record_in bytes.now)) }
 {
+    // A record has at most 1,217 words, and there is no heap.
     let mut words = [0u64; MOST_WORDS];
     let n = read_words(bytes, &mut words);
     let kind = kind_of(bytes);
@@ -81,7 +82,7 @@ fn step_record(store: &mut [u64], number: u64, held: &[u8], out: &mut [u8]) -> D
     }
 }
 
-// A step of a player that stands at the header.
+// A step of a player that stands at the header, which takes no store.
 fn step_header(held: &[u8], out: &mut [u8]) -> Did
     requires { lines_bytes ≤ length out.old }
     ensures { HeaderStepped held.now out.old result out.new }
@@ -97,7 +98,8 @@ fn step_header(held: &[u8], out: &mut [u8]) -> Did
     }
 }
 
-// A step: `number` is that of the record at the front of what is held, 0 for the header.
+// A step: `number` is that of the record at the front of what is held. The header is number 0, as its bad line prints it. The
+// player lends what is left of its buffer, of no fixed length.
 pub fn step(store: &mut [u64], number: u64, held: &[u8], out: &mut [u8]) -> Did
     requires { (spells store.old ≡ true) × (lines_bytes ≤ length out.old) }
     ensures answer { result ≡ step_answer (reach number held.now) (player_after store.old number held.now) }
