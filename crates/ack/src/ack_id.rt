@@ -12,7 +12,6 @@ ghost use Rattle.layout.specs.Canon.{CanonStore};
 ghost use Rattle.layout.specs.Fields.{dispatcher_now, dispatcher_changed};
 ghost use Rattle.layout.specs.Placed.{DispatcherIn};
 ghost use Rattle.groups.specs.Lent.{group_of, groups_in};
-ghost use Rattle.topic.specs.Ids.{id_of};
 ghost use Rattle.dispatcher.specs.Values.{mark_of};
 ghost use Rattle.ack.specs.Ackable.{Ackable, outside_with, OutsideFits};
 
@@ -22,6 +21,7 @@ use dispatcher::marks::{Mark, load_mark, save_mark};
 use dispatcher::outside::insert_outside;
 use groups::group::Group;
 use groups::list::Groups;
+use message_id::Id;
 use topic::message::batch_size;
 use topic::position::position_in;
 use topic::table::find_topic;
@@ -44,12 +44,7 @@ fn acked_whole(mark: Mark) -> Mark
     Mark {
         complete: true,
         redelivery_count: mark.redelivery_count,
-        unacked: UnackedBits {
-            w0: 0,
-            w1: 0,
-            w2: 0,
-            w3: 0,
-        },
+        unacked: UnackedBits::default(),
     }
 }
 
@@ -109,13 +104,13 @@ fn ack_entry(store: &mut [u64], e: usize, d: usize, topic: u64, k: usize, group:
 
 // Dispatcher `d` acknowledges an id that is not in the ledger: it joins the outside ids once, in its
 // place.
-fn ack_outside(store: &mut [u64], e: usize, d: usize, ledger: u64, entry: u64)
-    requires { DispatcherIn e store.old d × (length (outside_with (id_of ledger entry) (dispatcher_now store.old d)) ≤ 64) }
+fn ack_outside(store: &mut [u64], e: usize, d: usize, id: Id)
+    requires { DispatcherIn e store.old d × (length (outside_with id (dispatcher_now store.old d)) ≤ 64) }
     ensures { store.new ≡ dispatcher_changed store.old d
-        (λ x. with_marks x x.marks (outside_with (id_of ledger entry) x)) }
+        (λ x. with_marks x x.marks (outside_with id x)) }
 {
-    if !is_outside(store, e, d, ledger, entry) {
-        insert_outside(store, e, d, ledger, entry);
+    if !is_outside(store, e, d, id) {
+        insert_outside(store, e, d, id);
     }
 }
 
@@ -130,7 +125,7 @@ fn ack_here(store: &mut [u64], e: usize, d: usize, topic: u64, group: Group)
     if let Some(k) = position_in(store, e, topic, group) {
         ack_entry(store, e, d, topic, k, group);
     } else {
-        ack_outside(store, e, d, group.ledger, group.entry);
+        ack_outside(store, e, d, group.id());
     }
 }
 

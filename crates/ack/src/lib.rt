@@ -22,7 +22,7 @@ ghost use Rattle.consumer.specs.Live.{Live};
 ghost use Rattle.ack.specs.Ackable.{Ackable, OutsideFits};
 
 use ack_id::ack_all;
-use consumer::fields::{is_shared, shared_dispatcher, topic};
+use consumer::fields::{consumer_id, is_shared, shared_dispatcher, topic};
 use consumer::lookup::find_consumer;
 use dispatcher::completion::{advance_mark_delete, drop_complete};
 use dispatcher::numbers::mark_delete;
@@ -45,26 +45,26 @@ pub fn ack(store: &mut [u64], consumer: u64, list: &[u64]) -> Answer
     let Some(groups) = Groups::of(list) else {
         return Err(Refusal::BadList);
     };
-    ack_live(store, e, i, consumer, groups)
+    ack_live(store, e, i, groups)
 }
 
 // An ack of the live consumer `i`.
-fn ack_live(store: &mut [u64], e: usize, i: usize, consumer: u64, groups: Groups) -> Answer
-    requires { Live e store.old i × ((consumer_now store.old i).id ≡ consumer) }
-    ensures answer { word_of result ≡ answer store.old (Ack consumer groups.entry.list.now) }
-    ensures words { store.new ≡ after store.old (Ack consumer groups.entry.list.now) }
+fn ack_live(store: &mut [u64], e: usize, i: usize, groups: Groups) -> Answer
+    requires { Live e store.old i }
+    ensures answer { word_of result ≡ answer store.old (Ack (consumer_now store.old i).id groups.entry.list.now) }
+    ensures words { store.new ≡ after store.old (Ack (consumer_now store.old i).id groups.entry.list.now) }
 {
     if is_shared(store, e, i) {
-        return ack_shared(store, e, i, consumer, groups);
+        return ack_shared(store, e, i, groups);
     }
     Ok(0)
 }
 
 // An ack of the live shared consumer `i`.
-fn ack_shared(store: &mut [u64], e: usize, i: usize, consumer: u64, groups: Groups) -> Answer
-    requires { Live e store.old i × ((consumer_now store.old i).id ≡ consumer) × ((consumer_now store.old i).kind ≡ shared) }
-    ensures answer { word_of result ≡ answer store.old (Ack consumer groups.entry.list.now) }
-    ensures words { store.new ≡ after store.old (Ack consumer groups.entry.list.now) }
+fn ack_shared(store: &mut [u64], e: usize, i: usize, groups: Groups) -> Answer
+    requires { Live e store.old i × ((consumer_now store.old i).kind ≡ shared) }
+    ensures answer { word_of result ≡ answer store.old (Ack (consumer_now store.old i).id groups.entry.list.now) }
+    ensures words { store.new ≡ after store.old (Ack (consumer_now store.old i).id groups.entry.list.now) }
 {
     let d = shared_dispatcher(store, e, i);
     let number = topic(store, e, i);
@@ -72,20 +72,21 @@ fn ack_shared(store: &mut [u64], e: usize, i: usize, consumer: u64, groups: Grou
         return Err(Refusal::IdsFull);
     }
     let from = mark_delete(store, e, d);
-    complete(store, e, d, consumer, number, groups);
+    let id = consumer_id(store, e, i);
+    complete(store, e, d, id, number, groups);
     Ok(moved(from, mark_delete(store, e, d)))
 }
 
-// Dispatcher `d` acknowledges the ids of a list, `consumer` drops its complete entries, and
+// Dispatcher `d` acknowledges the ids of a list, consumer `id` drops its complete entries, and
 // mark-delete advances.
-fn complete(store: &mut [u64], e: usize, d: usize, consumer: u64, topic: u64, groups: Groups)
+fn complete(store: &mut [u64], e: usize, d: usize, id: u64, topic: u64, groups: Groups)
     requires { Ackable e store.old d topic × OutsideFits store.old d topic (groups_in groups)
         × Marked (dispatcher_now store.old d) }
-    ensures { store.new ≡ dispatcher_changed store.old d (λ x. advance_mark_delete (drop_complete consumer
+    ensures { store.new ≡ dispatcher_changed store.old d (λ x. advance_mark_delete (drop_complete id
         (ack_groups (ledger_of (decode store.old) topic) x (groups_in groups.entry)))) }
 {
     ack_all(store, e, d, topic, groups);
-    drop_complete(store, e, d, consumer);
+    drop_complete(store, e, d, id);
     advance_mark_delete(store, e, d);
 }
 
@@ -94,6 +95,5 @@ fn moved(from: usize, to: usize) -> u64
     requires { to ≤ 4096 }
     ensures { result ≡ to * 2 + bit_of (not (eqb from to)) }
 {
-    let twice = to as u64 * 2;
-    if from == to { twice } else { twice + 1 }
+    to as u64 * 2 + u64::from(from != to)
 }

@@ -10,12 +10,12 @@ ghost use Rattle.layout.specs.Canon.{CanonStore};
 ghost use Rattle.layout.specs.Fields.{dispatcher_now};
 ghost use Rattle.layout.specs.Placed.{DispatcherIn};
 ghost use Rattle.groups.specs.Lent.{group_of, groups_in};
-ghost use Rattle.topic.specs.Ids.{id_of};
 ghost use Rattle.ack.specs.NewIds.{named, new_bit, new_count};
 
 use dispatcher::outside::{find_outside, outside_count};
 use groups::group::Group;
 use groups::list::Groups;
+use message_id::Id;
 use store::limits::MOST_OUTSIDE;
 use topic::position::position_in;
 
@@ -28,19 +28,19 @@ fn in_ledger(store: &[u64], e: usize, topic: u64, group: Group) -> bool
 }
 
 // Whether an id is among the outside ids of dispatcher `d`.
-pub(crate) fn is_outside(store: &[u64], e: usize, d: usize, ledger: u64, entry: u64) -> bool
+pub(crate) fn is_outside(store: &[u64], e: usize, d: usize, id: Id) -> bool
     requires { DispatcherIn e store.now d }
-    ensures { result ≡ is_outside (id_of ledger entry) (dispatcher_now store.now d) }
+    ensures { result ≡ is_outside id (dispatcher_now store.now d) }
 {
-    find_outside(store, e, d, ledger, entry).is_some()
+    find_outside(store, e, d, id).is_some()
 }
 
-// Whether some group of those that are left has the id of `group`.
-fn names(left: Groups, group: Group) -> bool
-    ensures { result ≡ named (group_of group.entry).id (groups_in left.entry) }
+// Whether some group of those that are left has an id.
+fn names(left: Groups, id: Id) -> bool
+    ensures { result ≡ named id (groups_in left.entry) }
 {
     for later in left {
-        if group.same_id(later) {
+        if id == later.id() {
             return true;
         }
     }
@@ -53,16 +53,9 @@ fn new_here(store: &[u64], e: usize, d: usize, topic: u64, group: Group, left: G
     ensures { result ≡ new_bit (ledger_of (decode store.now) topic) (dispatcher_now store.now d).outside
         (group_of group.entry) (groups_in left.entry) }
 {
-    if in_ledger(store, e, topic, group) {
-        return 0;
-    }
-    if is_outside(store, e, d, group.ledger, group.entry) {
-        return 0;
-    }
-    if names(left, group) {
-        return 0;
-    }
-    1
+    let id = group.id();
+    let known = in_ledger(store, e, topic, group) || is_outside(store, e, d, id);
+    usize::from(!(known || names(left, id)))
 }
 
 // How many groups count.

@@ -1,6 +1,6 @@
 -- The rule of append by the slot of its topic, and the state after in the steps of the code.
 use mathlib.Core.Path.{◌≡◌, refl, sym, ap, ◌∙◌, subst}
-use mathlib.Core.Bool.{not}
+use mathlib.Core.Bool.{true, false, not}
 use mathlib.Core.List.{List, [], ◌∷◌, ◌++◌, map}
 use mathlib.Core.Option.{none, some}
 use Prim.Native.Nat.{ℕ, ◌≤◌, ◌<◌}
@@ -55,20 +55,18 @@ module _ (s : State) (t : ℕ) (i : Id) where
     refusal_new k = rw (le-ltb t (length s.topics) h, lt-leb 8 (length s.topics) k)
 
   module _ (h : t < length s.topics) where
-    pub refusal_7 : position_of i (topic_nth s t).messages < length (topic_nth s t).messages → 7 ≡ append_refusal s t i
-    unfolding append_refusal holds_id
-    refusal_7 k = rw (lt-ltb t (length s.topics) h, lt-ltb (position_of i (topic_nth s t).messages) (length (topic_nth s t).messages) k)
+    pub refusal_7 : holds_id i (topic_nth s t).messages ≡ true → 7 ≡ append_refusal s t i
+    unfolding append_refusal
+    refusal_7 k = rw (lt-ltb t (length s.topics) h, k)
 
-    module _ (k : length (topic_nth s t).messages ≤ position_of i (topic_nth s t).messages) where
+    module _ (k : holds_id i (topic_nth s t).messages ≡ false) where
       pub refusal_6 : s.entries ≤ length (topic_nth s t).messages → 6 ≡ append_refusal s t i
-      unfolding append_refusal holds_id
-      refusal_6 l =
-          rw (lt-ltb t (length s.topics) h, le-ltb (position_of i (topic_nth s t).messages) (length (topic_nth s t).messages) k, le-leb s.entries (length (topic_nth s t).messages) l)
+      unfolding append_refusal
+      refusal_6 l = rw (lt-ltb t (length s.topics) h, k, le-leb s.entries (length (topic_nth s t).messages) l)
 
       pub refusal_none : length (topic_nth s t).messages < s.entries → 0 ≡ append_refusal s t i
-      unfolding append_refusal holds_id
-      refusal_none l =
-          rw (lt-ltb t (length s.topics) h, le-ltb (position_of i (topic_nth s t).messages) (length (topic_nth s t).messages) k, lt-leb s.entries (length (topic_nth s t).messages) l)
+      unfolding append_refusal
+      refusal_none l = rw (lt-ltb t (length s.topics) h, k, lt-leb s.entries (length (topic_nth s t).messages) l)
 
 module _ (s : State) (t topic : ℕ) (e : t ≡ slot by_number topic s.topics) where
   -- the topic exists

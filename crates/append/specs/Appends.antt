@@ -8,7 +8,8 @@ use Rattle.layout.specs.Layout.{decode, spells}
 use Rattle.layout.specs.Fields.{topic_nth}
 use Rattle.store.specs.Find.{slot}
 
--- 7 if the topic at a slot holds the id, 6 if it has E entries; 5 if no topic stands there and 8 exist; else 0
+-- 7 if the topic at a slot holds the id, 6 if it has E entries; 5 if no topic stands there and 8 exist; else 0.
+-- A number, as the rules' `refused` has one; 0 is none.
 unfoldable pub append_refusal : State → ℕ → Id → ℕ
 append_refusal s t i =
     cond (ltb t (length s.topics))

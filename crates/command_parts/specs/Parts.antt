@@ -6,6 +6,7 @@ use Rattle.rules.specs.State.Kind.{plain, shared}
 use Rattle.rules.specs.Commands.{Target}
 use Rattle.rules.specs.Commands.Target.{start, to_id}
 use Rattle.layout.specs.Records.{flag_of}
+use Rattle.message_id.specs.Ids.{id_of}
 use Rattle.command_parts.specs.declared.Kind as kind
 use Rattle.command_parts.specs.declared.Kind.TheVariants as kinds
 use Rattle.command_parts.specs.declared.Target as target
@@ -23,4 +24,4 @@ kind_number k = bit (flag_of (kind_of k))
 -- the target that the code's enum stands for
 unfoldable pub target_of : target.Target → Target
 target_of targets.Start = start
-target_of (targets.Id ledger entry) = to_id (record { ledger = ledger; entry = entry })
+target_of (targets.Id ledger entry) = to_id (id_of ledger entry)

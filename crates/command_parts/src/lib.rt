@@ -8,15 +8,15 @@ pub enum Kind {
     Shared,
 }
 
-impl Kind {
+// Its number, as a store has it: 0 for plain, 1 for shared.
+impl From<Kind> for u64 {
     ghost use Rattle.std.specs.Prelude.{◌≡◌};
     ghost use Rattle.command_parts.specs.Parts.{kind_number};
 
-    // Its number, as a store has it.
-    pub fn number(self) -> u64
-        ensures { result ≡ kind_number self }
-    {
-        match self {
+    ghost from_gives = { λ kind number. number ≡ kind_number kind };
+
+    fn from(kind: Kind) -> u64 {
+        match kind {
             Kind::Plain => 0,
             Kind::Shared => 1,
         }
@@ -40,7 +40,7 @@ impl From<u64> for Kind {
     }
 }
 
-// Where a seek goes: the start, or a message id.
+// Where a seek goes: the start, or the id of a message, by ledger and entry.
 #[derive(Clone, Copy, Debug, PartialEq, Eq)]
 pub enum Target {
     Start,
@@ -52,7 +52,7 @@ impl Target {
     ghost use Rattle.rules.specs.Calls.{target_from};
     ghost use Rattle.command_parts.specs.Parts.{target_of};
 
-    // From numbers: 0 is the start, anything else the id.
+    // From numbers: 0 is the start, anything else the id. Not a `From`: three words are no value of one type.
     pub fn from_words(target: u64, ledger: u64, entry: u64) -> Target
         ensures { target_of result ≡ target_from target ledger entry }
     {

@@ -19,7 +19,7 @@ pub fn make_consumer(store: &mut [u64], e: usize, i: usize, id: u64, kind: Kind,
     requires { ConsumerIn e store.old i }
     ensures { store.new ≡ put_consumer_at store.old i (new_consumer id (kind_of kind) (pair_of pair.topic pair.subscription)) }
 {
-    let word = kind.number();
+    let word = u64::from(kind);
     clear_nacked(store, e, i);
     let at = consumer_at(i);
     store[at] = id;

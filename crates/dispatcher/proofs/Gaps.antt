@@ -1,15 +1,12 @@
 -- Words of a dispatcher's lists as the code reads and writes them.
-use mathlib.Core.Path.{◌≡◌, sym, ap₂, ◌∙◌}
-use mathlib.Core.Bool.{true, or-false}
+use mathlib.Core.Path.{◌≡◌, ap₂, ◌∙◌}
+use mathlib.Core.Bool.{true}
 use mathlib.Core.List.{List, [], ◌∷◌, ◌++◌}
 use Prim.Native.Nat.{ℕ, suc, ◌+◌, ◌-◌, ◌*◌, ◌^◌, ◌<◌, min}
 use native.Mathlib.Omega.{arith}
-use lib.Dec.{ltb}
 use lib.ListN.{length, get_or, set, take, drop}
-use borrow.Author.Tests.{le-ltb, eq-eqb, ne_eqb}
 use Rattle.words.specs.Act.{close}
-use Rattle.rules.specs.State.{Id, new_mark}
-use Rattle.rules.specs.Ledger.{after_id}
+use Rattle.rules.specs.State.{new_mark}
 use Rattle.rules.specs.Dispatcher.{with_marks, mark_at}
 use Rattle.rules.specs.Commands.{raised}
 use Rattle.layout.specs.Layout.{decode, put}
@@ -19,16 +16,6 @@ use Rattle.layout.specs.Placed.{DispatcherIn}
 use Rattle.layout.proofs.GetsDispatcher.{read_outside_count, read_outside_ledger, read_outside_entry, read_mark_count, read_redelivery_count}
 use Rattle.layout.proofs.SetsDispatcher as layout
 use Rattle.topic.specs.Ids.{id_of, id_at}
-
--- an id comes after another of the same ledger by its entry
-pub after_same : (a b : Id) → a.ledger ≡ b.ledger → ltb b.entry a.entry ≡ after_id a b
-unfolding after_id
-after_same a b e = rw (le-ltb b.ledger a.ledger (omega arith), eq-eqb a.ledger b.ledger e)
-
--- and after one of another ledger by its ledger
-pub after_other : (a b : Id) → (a.ledger ≡ b.ledger → ⊥) → ltb b.ledger a.ledger ≡ after_id a b
-unfolding after_id
-after_other a b f = rw (ne_eqb a.ledger b.ledger f) (sym (or-false (ltb b.ledger a.ledger)))
 
 module _ {e : ℕ} {ws : List ℕ} (d at : ℕ) (h : DispatcherIn e ws d) (a : at ≡ dispatcher_at e d) where
   -- the number of outside ids

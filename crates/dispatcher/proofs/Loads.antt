@@ -28,7 +28,6 @@ use Rattle.layout.proofs.SetsDispatcher as layout
 use Rattle.store.specs.Find.{slot}
 use Rattle.store.proofs.Finding.{slot_le}
 use Rattle.operation_laws.proofs.Frame.{dispatcher_twice, dispatcher_set_in}
-use Rattle.topic.specs.Ids.{id_of}
 use Rattle.dispatcher.specs.Held.{held_of}
 use Rattle.dispatcher.specs.Outside.{by_order}
 use Rattle.dispatcher.specs.Values.{mark_of, head_of, with_head}
@@ -106,18 +105,18 @@ module _ {e : ℕ} {ws : List ℕ} (d at : ℕ) (h : DispatcherIn e ws d) (a : a
       rw a (rw (read_next h.canon d h.there, read_cursor h.canon d h.there, read_mark_delete h.canon d h.there, read_total h.canon d h.there))
 
   -- an id written in its place, those from there on moved up, then their count raised
-  pub inserted_outside : {us : List ℕ} (n j i k : ℕ) → n ≡ length D.outside → j ≡ slot by_order (id_of i k) D.outside → length D.outside < 64
+  pub inserted_outside : {us : List ℕ} (n j : ℕ) (i : Id) → n ≡ length D.outside → j ≡ slot by_order i D.outside → length D.outside < 64
       → us ≡ (up 2 ((n - j) * 2)).run (at + 45 + j * 2) ws
-      → set (set (set us (at + 45 + j * 2) i) (at + 45 + j * 2 + 1) k) (at + 44) (n + 1)
-      ≡ put ws (set_dispatcher (decode ws) d (with_marks D D.marks (insert_id (id_of i k) D.outside)))
+      → set (set (set us (at + 45 + j * 2) i.ledger) (at + 45 + j * 2 + 1) i.entry) (at + 44) (n + 1)
+      ≡ put ws (set_dispatcher (decode ws) d (with_marks D D.marks (insert_id i D.outside)))
   unfolding both
-  inserted_outside {us} n j i k c p l w =
+  inserted_outside {us} n j i c p l w =
       let to : at + 45 + j * 2 ≡ dispatcher_at e d + outside_id_in j = omega arith in
-      let few = slot_le by_order (id_of i k) D.outside in
-      rw (two_words i k (at + 45 + j * 2) us, w, to, a, c)
-      (layout.insert_outside h.canon d h.there j (id_of i k) (omega arith) l
+      let few = slot_le by_order i D.outside in
+      rw (two_words i.ledger i.entry (at + 45 + j * 2) us, w, to, a, c)
+      (layout.insert_outside h.canon d h.there j i (omega arith) l
       ∙ ap (λ (ids : List Id). put ws (set_dispatcher (decode ws) d (with_marks D D.marks ids)))
-      (ap (λ (m : ℕ). take m D.outside ++ id_of i k ∷ drop m D.outside) p ∙ sym (placed (id_of i k) D.outside)))
+      (ap (λ (m : ℕ). take m D.outside ++ i ∷ drop m D.outside) p ∙ sym (placed i D.outside)))
 
   -- ---- the four numbers written
 

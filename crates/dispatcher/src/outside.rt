@@ -1,22 +1,21 @@
 // The complete ids of a dispatcher that are not in the ledger. They ascend by ledger, then by entry.
 ghost use Rattle.std.specs.Prelude.{◌≡◌, ◌++◌, ◌+◌, ◌≤◌, ◌<◌, length, get_or, take, drop};
-ghost use Rattle.rules.specs.State.{same_id};
-ghost use Rattle.rules.specs.Ledger.{after_id, insert_id};
+ghost use Rattle.rules.specs.Ledger.{insert_id};
 ghost use Rattle.rules.specs.Dispatcher.{with_marks};
 ghost use Rattle.layout.specs.Fields.{zero_id, dispatcher_now, dispatcher_changed};
 ghost use Rattle.layout.specs.Placed.{DispatcherIn};
 ghost use Rattle.store.specs.Find.{slot};
 ghost use Rattle.store.specs.Found.{found};
-ghost use Rattle.topic.specs.Ids.{id_of};
 ghost use Rattle.dispatcher.specs.Lists.{outside_list};
 ghost use Rattle.dispatcher.specs.Outside.{by_itself, by_order};
 
+use message_id::Id;
 use search::first_row;
 use store::counted::Counted;
 use store::movers::move_up;
 use store::offsets::{ENTRY_IN, ID_WORDS, OUTSIDE_IDS_IN, OUTSIDE_IN, dispatcher_at};
 use store::stretch::word;
-use topic::find::same_id;
+use topic::find::id_at;
 
 // The outside ids of dispatcher `d`, as a list in a store.
 fn outside_list(e: usize, d: usize) -> Counted
@@ -39,22 +38,22 @@ pub fn outside_count(store: &[u64], e: usize, d: usize) -> usize
     outside_list(e, d).count(store)
 }
 
-// Whether outside id `j` of dispatcher `d` is (`ledger`, `entry`).
-fn is_id(store: &[u64], e: usize, d: usize, j: usize, ledger: u64, entry: u64) -> bool
+// Outside id `j` of dispatcher `d`.
+fn outside_id(store: &[u64], e: usize, d: usize, j: usize) -> Id
     requires { DispatcherIn e store.now d × (j < length (dispatcher_now store.now d).outside) }
-    ensures { result ≡ same_id (id_of ledger entry) (get_or (dispatcher_now store.now d).outside j zero_id) }
+    ensures { result ≡ get_or (dispatcher_now store.now d).outside j zero_id }
 {
     let at = dispatcher_at(e, d);
-    same_id(store, at + OUTSIDE_IDS_IN + j * ID_WORDS, ledger, entry)
+    id_at(store, at + OUTSIDE_IDS_IN + j * ID_WORDS)
 }
 
 // The place of an id among the outside ids of dispatcher `d`.
-pub fn find_outside(store: &[u64], e: usize, d: usize, ledger: u64, entry: u64) -> Option<usize>
+pub fn find_outside(store: &[u64], e: usize, d: usize, id: Id) -> Option<usize>
     requires { DispatcherIn e store.now d }
-    ensures { result ≡ found by_itself (id_of ledger entry) (dispatcher_now store.now d).outside }
+    ensures { result ≡ found by_itself id (dispatcher_now store.now d).outside }
 {
     first_row(outside_count(store, e, d), |j| {
-        is_id(store, e, d, j, ledger, entry)
+        id == outside_id(store, e, d, j)
     })
 }
 
@@ -67,41 +66,28 @@ pub fn remove_outside(store: &mut [u64], e: usize, d: usize, j: usize)
     outside_list(e, d).remove(store, j);
 }
 
-// Whether outside id `j` of dispatcher `d` comes after (`ledger`, `entry`).
-fn is_after(store: &[u64], e: usize, d: usize, j: usize, ledger: u64, entry: u64) -> bool
-    requires { DispatcherIn e store.now d × (j < length (dispatcher_now store.now d).outside) }
-    ensures { result ≡ after_id (get_or (dispatcher_now store.now d).outside j zero_id) (id_of ledger entry) }
-{
-    let at = dispatcher_at(e, d) + OUTSIDE_IDS_IN + j * ID_WORDS;
-    if store[at] == ledger {
-        entry < store[at + ENTRY_IN]
-    } else {
-        ledger < store[at]
-    }
-}
-
 // The place for an id among the outside ids of dispatcher `d`: that of the first which comes after it,
 // or else their end.
-fn place_for_outside(store: &[u64], e: usize, d: usize, ledger: u64, entry: u64) -> usize
+fn place_for_outside(store: &[u64], e: usize, d: usize, id: Id) -> usize
     requires { DispatcherIn e store.now d }
-    ensures { result ≡ slot by_order (id_of ledger entry) (dispatcher_now store.now d).outside }
+    ensures { result ≡ slot by_order id (dispatcher_now store.now d).outside }
 {
     let n = outside_count(store, e, d);
-    first_row(n, |j| is_after(store, e, d, j, ledger, entry)).unwrap_or(n)
+    first_row(n, |j| id < outside_id(store, e, d, j)).unwrap_or(n)
 }
 
 // An id joins the outside ids of dispatcher `d`, which have room, in its place among them.
-pub fn insert_outside(store: &mut [u64], e: usize, d: usize, ledger: u64, entry: u64)
+pub fn insert_outside(store: &mut [u64], e: usize, d: usize, id: Id)
     requires { DispatcherIn e store.old d × (length (dispatcher_now store.old d).outside < 64) }
     ensures { store.new ≡ dispatcher_changed store.old d
-        (λ x. with_marks x x.marks (insert_id (id_of ledger entry) x.outside)) }
+        (λ x. with_marks x x.marks (insert_id id x.outside)) }
 {
     let at = dispatcher_at(e, d);
     let n = word(store, at + OUTSIDE_IN);
-    let j = place_for_outside(store, e, d, ledger, entry);
+    let j = place_for_outside(store, e, d, id);
     let free = at + OUTSIDE_IDS_IN + j * ID_WORDS;
     move_up(store, free, ID_WORDS, (n - j) * ID_WORDS);
-    store[free] = ledger;
-    store[free + 1] = entry;
+    store[free] = id.ledger;
+    store[free + ENTRY_IN] = id.entry;
     store[at + OUTSIDE_IN] = (n + 1) as u64;
 }

@@ -13,7 +13,7 @@ use lib.Seq.{drop-cons, drop-drop}
 use borrow.Author.Tests.{leb-true, leb-false, le-leb, lt-leb}
 use Rattle.rules.specs.Groups.{Group, at_most_groups}
 use Rattle.rules.proofs.Table.{by_test}
-use Rattle.groups.specs.Walk.{words_at, end_at, group_at, group_fits, Fits}
+use Rattle.groups.specs.Walk.{words_at, end_at, group_at, group_fits}
 
 -- no words are no groups
 empty : (k : ℕ) → at_most_groups k [] ≡ some []
@@ -69,6 +69,12 @@ step k list at h =
     let l = leb-false (at + 3) (length list) t in
     let n = length-drop at list in
     rw t (short (suc k) (drop at list) (omega arith) (omega arith)))
+
+-- a group of at most 16 words stands at an offset, whole
+pub record Fits (list : List ℕ) (at : ℕ) : Type 0 where
+  pub head_inside : at + 3 ≤ length list
+  pub few : words_at list at ≤ 16
+  pub ends : end_at list at ≤ length list
 
 -- what the test of a group says
 pub says_fits : (list : List ℕ) (at : ℕ) → group_fits list at ≡ true → Fits list at

@@ -11,8 +11,8 @@ use lib.ListN.{length, take, drop}
 use Rattle.rules.specs.Table.{is_some, or_else}
 use Rattle.rules.specs.Groups.{Group, at_most_groups, groups}
 use Rattle.rules.proofs.Table.{by_test}
-use Rattle.groups.specs.Walk.{end_at, group_at, group_fits, Fits, groups_from, Stands}
-use Rattle.groups.proofs.Steps.{none_left, step, says_fits}
+use Rattle.groups.specs.Walk.{end_at, group_at, group_fits, groups_from}
+use Rattle.groups.proofs.Steps.{none_left, step, Fits, says_fits}
 
 -- ---- more room for groups reads the same groups
 
@@ -69,6 +69,11 @@ at_most (suc k) (ledger ∷ entry ∷ n ∷ list) gs e =
 read_from : (list : List ℕ) (at : ℕ) (gs : List Group) → groups (drop at list) ≡ some gs → groups_from list at ≡ gs
 unfolding groups_from or_else
 read_from list at gs e = rw e
+
+-- an offset at which a group begins or the list ends: the words from there on are of the form
+pub record Stands (list : List ℕ) (at : ℕ) : Type 0 where
+  pub inside : at ≤ length list
+  pub reads : groups (drop at list) ≡ some (groups_from list at)
 
 -- an offset stands where groups were read from it
 stood : (list : List ℕ) (at : ℕ) (gs : List Group) → at ≤ length list → groups (drop at list) ≡ some gs → Stands list at

@@ -2,13 +2,14 @@
 use Rattle.std.specs.Prelude.{ℕ, ◌≡◌, false, true, List, drop, MatchOption, Option}
 use Rattle.std.specs.Borrow.{Bor}
 use Rattle.rules.specs.Groups.{Group}
+use Rattle.message_id.specs.Ids.{id_of}
 use Rattle.groups.specs.declared.group.Group.{Group as Lent}
 use Rattle.groups.specs.declared.list.Groups.{Groups}
 use Rattle.groups.specs.Walk.{group_fits, group_at, end_at, groups_from}
 
 -- a group
 abbrev pub group_of : Lent → Group
-group_of g = record { id = record { ledger = g.ledger; entry = g.entry }; words = g.words.now }
+group_of g = record { id = id_of g.ledger g.entry; words = g.words.now }
 
 -- the groups that are left
 abbrev pub groups_in : Groups → List Group

@@ -1,3 +1,4 @@
--- What the code of this crate means. The rules have the groups of a list; here they are read one by one.
+-- What the code of this crate means: its groups as the rules have them. The groups by their offset in a list, as the rules'
+-- reading of it finds them, are for proofs alone.
 pub mod Walk
 pub mod Lent

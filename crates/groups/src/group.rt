@@ -1,16 +1,16 @@
 // One group of a lent list, a message id and its words, and what stands before the first group that is left.
-ghost use Rattle.std.specs.Prelude.{◌≡◌, false, true, MatchOption};
+ghost use Rattle.std.specs.Prelude.{◌≡◌};
 ghost use Rattle.bits.specs.Bits.{and_into};
 ghost use Rattle.bits.specs.Four.{four, words};
-ghost use Rattle.rules.specs.State.{same_id};
-ghost use Rattle.groups.specs.Walk.{group_fits, end_at, group_at};
 ghost use Rattle.groups.specs.Lent.{group_of, SplitsGroup};
 
 use bits::UnackedBits;
+use message_id::Id;
 
 // The most words of a group.
 const MOST_ACK_SET_WORDS: u64 = 16;
 
+// Its id stands as two numbers: the borrow checker has no rule yet for a struct by value with a borrow and a model in it.
 #[derive(Clone, Copy)]
 pub struct Group<'a> {
     pub ledger: u64,
@@ -42,11 +42,14 @@ pub(crate) fn split_group(list: &[u64]) -> Option<(Group, &[u64])>
 }
 
 impl<'a> Group<'a> {
-    // Whether another group has the same id.
-    pub fn same_id(self, other: Group) -> bool
-        ensures { result ≡ same_id (group_of self.entry).id (group_of other.entry).id }
+    // Its id.
+    pub fn id(self) -> Id
+        ensures { result ≡ (group_of self.entry).id }
     {
-        self.ledger == other.ledger && self.entry == other.entry
+        Id {
+            ledger: self.ledger,
+            entry: self.entry,
+        }
     }
 
     // The bits that are also set in the words of the group.

@@ -50,7 +50,8 @@ fn list_right(list: &[u64]) -> bool
 impl<'a> Groups<'a> {
     ghost use Rattle.std.specs.Prelude.{false, MatchOption};
 
-    // The groups of a list; none where it is not of the form.
+    // The groups of a list; none where it is not of the form. `then_some` would make the value before the test that its
+    // ghost field needs.
     pub fn of(list: &'a [u64]) -> Option<Groups<'a>>
         ensures { MatchOption result (is_some (groups list.now) ≡ false) (λ g. g.list.now ≡ list.now) }
     {

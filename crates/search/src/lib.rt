@@ -9,10 +9,9 @@ pub fn first_row<F: Fn(usize) -> bool>(count: usize, passes: F) -> Option<usize>
     requires { (i : ℕ) → i < count → F.pre passes i }
     ensures { First count (F.post passes) result }
 {
-    for i in 0..count {
-        if passes(i) {
-            return Some(i);
-        }
-    }
-    None
+    (0..count).find(
+        |i|
+            requires { F.pre passes i.now }
+        { passes(*i) },
+    )
 }

@@ -13,7 +13,6 @@ ghost use Rattle.layout.specs.Calls.{answer, after};
 ghost use Rattle.layout.specs.Canon.{CanonStore};
 ghost use Rattle.layout.specs.Fields.{consumer_now};
 ghost use Rattle.refusal.specs.Words.{word_of};
-ghost use Rattle.topic.specs.Ids.{id_of};
 ghost use Rattle.consumer.specs.Live.{Live};
 ghost use Rattle.command_parts.specs.Parts.{target_of};
 ghost use Rattle.seek.specs.Targets.{seek_to, seek_call};
@@ -23,6 +22,7 @@ use command_parts::Target;
 use consumer::fields::{set_cursor, topic};
 use consumer::lookup::find_consumer;
 use consumer::nacked::clear_nacked;
+use message_id::Id;
 use refusal::{Answer, Refusal};
 use store::answers::entries;
 use topic::find::first_at_or_after;
@@ -38,8 +38,7 @@ pub fn seek(store: &mut [u64], command: Seek) -> Answer
     let Some(i) = find_consumer(store, e, command.consumer) else {
         return Err(Refusal::NotLive);
     };
-    let target = command.target;
-    seek_live(store, e, i, target)
+    seek_live(store, e, i, command.target)
 }
 
 // A seek of the live consumer `i`.
@@ -62,17 +61,17 @@ fn target_position(store: &[u64], e: usize, topic: u64, target: Target) -> usize
 {
     match target {
         Target::Start => 0,
-        Target::Id(ledger, entry) => seek_position(store, e, topic, ledger, entry),
+        Target::Id(ledger, entry) => seek_position(store, e, topic, Id { ledger, entry }),
     }
 }
 
 // The first position in the ledger of a topic at or after an id, else its length: 0 where the topic does not exist.
-fn seek_position(store: &[u64], e: usize, topic: u64, ledger: u64, entry: u64) -> usize
+fn seek_position(store: &[u64], e: usize, topic: u64, id: Id) -> usize
     requires { CanonStore e store.now }
-    ensures { result ≡ seek_position (id_of ledger entry) (ledger_of (decode store.now) topic) }
+    ensures { result ≡ seek_position id (ledger_of (decode store.now) topic) }
 {
     let Some(t) = existing_topic(store, e, topic) else {
         return 0;
     };
-    first_at_or_after(store, e, t, ledger, entry)
+    first_at_or_after(store, e, t, id)
 }

@@ -2,7 +2,6 @@ pub mod Blank
 pub mod Clear
 pub mod Finding
 pub mod Founds
-pub mod Places
 pub mod Inside
 pub mod Moving
 pub mod Opened

@@ -1,15 +1,16 @@
 -- A message sought position by position: what the loops of `find.rt` turn on.
-use mathlib.Core.Path.{◌≡◌, refl, ap₂, ◌∙◌}
+use mathlib.Core.Path.{◌≡◌, refl, ap, ap₂, ◌∙◌}
+use mathlib.Core.Bool.{Bool}
 use mathlib.Core.List.{List, [], ◌∷◌}
-use Prim.Native.Nat.{ℕ, suc, ◌+◌, ◌*◌, ◌<◌}
+use Prim.Native.Nat.{ℕ, suc, ◌+◌, ◌*◌, ◌≤◌, ◌<◌}
 use native.Mathlib.Omega.{arith}
-use lib.Dec.{leb, ltb}
 use lib.ListN.{length, get_or, set}
-use borrow.Author.Tests.{eq-eqb, ne_eqb, le-ltb}
+use Rattle.std.specs.Option.{is_some}
+use Rattle.std.specs.declared.option.Option.{Option}
+use Rattle.std.specs.declared.option.Option.TheVariants.{None, Some}
 use Rattle.rules.specs.Table.{Key}
-use Rattle.rules.specs.State.{Id, same_id, StoredMessage}
-use Rattle.rules.specs.Ledger.{position_of, at_or_after, first_at_or_after, seek_position, appended, no_message, message_at}
-use Rattle.rules.proofs.Table.{by_test}
+use Rattle.rules.specs.State.{Id, StoredMessage}
+use Rattle.rules.specs.Ledger.{position_of, holds_id, at_or_after, first_at_or_after, seek_position, appended, no_message, message_at}
 use Rattle.rules.proofs.Ledger.{seek_position_cons}
 use Rattle.words.specs.Act.{lay}
 use Rattle.layout.specs.Layout.{decode, put}
@@ -19,17 +20,27 @@ use Rattle.layout.specs.Placed.{TopicIn}
 use Rattle.layout.proofs.Gets.{read_message_count, read_message_ledger, read_message_entry, read_message_handle, read_message_batch}
 use Rattle.layout.proofs.Sets.{append_message}
 use Rattle.store.specs.Find.{slot}
-use Rattle.topic.specs.Ids.{id_of, id_at, message_of}
-
--- messages are found by their ids
-abbrev pub by_message_id : Key StoredMessage Id
-by_message_id = record { key = λ m. m.id; same = same_id }
+use Rattle.store.specs.Found.{found}
+use Rattle.store.proofs.Founds.{found_some, found_none, found_is}
+use Rattle.topic.specs.Ids.{id_of, id_at, message_of, by_message_id}
 
 -- the position of an id is its slot
 pub position_slot : (i : Id) (l : List StoredMessage) → position_of i l ≡ slot by_message_id i l
 unfolding position_of slot
 position_slot i [] = refl
 position_slot i (m ∷ l) = rw (position_slot i l)
+
+-- what a search for an id tells is its position, and none where the ledger does not hold it
+pub position_found : {k : ℕ} (i : Id) (l : List StoredMessage) → Some k ≡ found by_message_id i l → (k ≡ position_of i l) × (k < length l)
+position_found i l e = let f = found_some by_message_id i l e in (rw (position_slot i l) f.0, f.1)
+
+pub position_missing : (i : Id) (l : List StoredMessage) → None ≡ found by_message_id i l → length l ≤ position_of i l
+position_missing i l e = rw (position_slot i l) (found_none by_message_id i l e)
+
+-- whether a search for an id told a position is whether the ledger holds it
+pub found_held : {b : Bool} {r : Option ℕ} (i : Id) (l : List StoredMessage) → b ≡ is_some r → r ≡ found by_message_id i l → b ≡ holds_id i l
+unfolding holds_id
+found_held i l t e = t ∙ ap (λ (o : Option ℕ). is_some o) e ∙ found_is by_message_id i l ∙ rw (position_slot i l)
 
 -- and by ids that they are at or after
 abbrev pub by_later_id : Key StoredMessage Id
@@ -40,18 +51,6 @@ pub seek_slot : (i : Id) (l : List StoredMessage) → seek_position i l ≡ slot
 unfolding seek_position first_at_or_after slot
 seek_slot i [] = refl
 seek_slot i (m ∷ l) = seek_position_cons i m l ∙ rw (seek_slot i l)
-
--- ---- one comparison
-
--- ids of one ledger are compared by their entries
-pub after_same : (a b : Id) → a.ledger ≡ b.ledger → at_or_after a b ≡ leb b.entry a.entry
-unfolding at_or_after
-after_same a b e = rw (eq-eqb a.ledger b.ledger e, le-ltb b.ledger a.ledger (omega arith))
-
--- others by their ledgers
-pub after_other : (a b : Id) → (a.ledger ≡ b.ledger → ⊥) → at_or_after a b ≡ ltb b.ledger a.ledger
-unfolding at_or_after
-after_other a b e = rw (ne_eqb a.ledger b.ledger e) (by_test (ltb b.ledger a.ledger) (λ t. rw t) (λ t. rw t))
 
 -- ---- a message in the words
 
@@ -65,6 +64,11 @@ id_here {e} {ws} t at k h a l =
 -- the number of messages, where the code reads it
 pub count_here : {e : ℕ} {ws : List ℕ} (t at : ℕ) → TopicIn e ws t → at ≡ topic_at e t → get_or ws (at + 3) 0 ≡ length (topic_nth (decode ws) t).messages
 count_here t at h a = rw a (read_message_count h.canon t h.there)
+
+-- the words of one message more lie in the store
+pub room_here : {e : ℕ} {ws : List ℕ} (t at n : ℕ) → TopicIn e ws t → at ≡ topic_at e t → n ≡ length (topic_nth (decode ws) t).messages
+    → length (topic_nth (decode ws) t).messages < e → at + 4 + n * 4 + 4 ≤ length ws
+room_here t at n h a c r = let i = h.inside in let l = h.canon.long in omega arith
 
 -- four stores are one run of stores
 pub four_words : (a b c d to : ℕ) (ws : List ℕ) → set (set (set (set ws to a) (to + 1) b) (to + 2) c) (to + 3) d ≡ (lay (a ∷ b ∷ c ∷ d ∷ [])).run to ws

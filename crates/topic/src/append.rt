@@ -5,30 +5,24 @@ ghost use Rattle.layout.specs.Fields.{topic_now, topic_changed};
 ghost use Rattle.layout.specs.Placed.{TopicIn};
 ghost use Rattle.topic.specs.Ids.{message_of};
 
+use super::message::StoredMessage;
 use store::offsets::{
     BATCH_IN, ENTRY_IN, HANDLE_IN, MESSAGE_IN, MESSAGE_WORDS, MESSAGES_IN, topic_at,
 };
 use store::stretch::word;
 
 // Topic `t`, which has room, gains a message at its end.
-pub fn append_message(
-    store: &mut [u64],
-    e: usize,
-    t: usize,
-    ledger: u64,
-    entry: u64,
-    handle: u64,
-    batch: u64,
-)
+pub fn append_message(store: &mut [u64], e: usize, t: usize, message: StoredMessage)
     requires { TopicIn e store.old t × (length (topic_now store.old t).messages < e) }
-    ensures { store.new ≡ topic_changed store.old t (appended (message_of ledger entry handle batch)) }
+    ensures { store.new ≡ topic_changed store.old t
+        (appended (message_of message.ledger message.entry message.handle message.batch_size)) }
 {
     let at = topic_at(e, t);
     let n = word(store, at + MESSAGES_IN);
     let to = at + MESSAGE_IN + n * MESSAGE_WORDS;
-    store[to] = ledger;
-    store[to + ENTRY_IN] = entry;
-    store[to + HANDLE_IN] = handle;
-    store[to + BATCH_IN] = batch;
+    store[to] = message.ledger;
+    store[to + ENTRY_IN] = message.entry;
+    store[to + HANDLE_IN] = message.handle;
+    store[to + BATCH_IN] = message.batch_size;
     store[at + MESSAGES_IN] = (n + 1) as u64;
 }

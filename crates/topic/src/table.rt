@@ -5,7 +5,8 @@ ghost use Rattle.layout.specs.Layout.{decode};
 ghost use Rattle.layout.specs.Canon.{CanonStore};
 ghost use Rattle.layout.specs.Fields.{zero_topic, topic_now, state_changed, topic_changed, with_number};
 ghost use Rattle.layout.specs.Placed.{TopicIn};
-ghost use Rattle.store.specs.Find.{slot, FoundAt};
+ghost use Rattle.store.specs.Find.{slot};
+ghost use Rattle.store.specs.Found.{found};
 
 use search::first_row;
 use store::offsets::{MESSAGES_IN, TOPIC_COUNT_AT, topic_at};
@@ -21,10 +22,21 @@ pub fn topic_count(store: &[u64], e: usize) -> usize
 
 // The number of topic `t`.
 fn topic_number(store: &[u64], e: usize, t: usize) -> u64
-    requires { CanonStore e store.now × (t < length (decode store.now).topics) }
+    requires { TopicIn e store.now t }
     ensures { result ≡ (topic_now store.now t).number }
 {
     store[topic_at(e, t)]
+}
+
+// The slot of a topic that exists.
+pub fn existing_topic(store: &[u64], e: usize, topic: u64) -> Option<usize>
+    requires { CanonStore e store.now }
+    ensures { result ≡ found by_number topic (decode store.now).topics }
+{
+    first_row(
+        topic_count(store, e),
+        |t| topic == topic_number(store, e, t),
+    )
 }
 
 // The slot of a topic: where it stands, or where it is made if it does not exist.
@@ -32,21 +44,7 @@ pub fn find_topic(store: &[u64], e: usize, topic: u64) -> usize
     requires { CanonStore e store.now }
     ensures { result ≡ slot by_number topic (decode store.now).topics }
 {
-    let n = topic_count(store, e);
-    first_row(n, |t| topic == topic_number(store, e, t)).unwrap_or(n)
-}
-
-// The slot of a topic that exists.
-pub fn existing_topic(store: &[u64], e: usize, topic: u64) -> Option<usize>
-    requires { CanonStore e store.now }
-    ensures { FoundAt result (slot by_number topic (decode store.now).topics) (length (decode store.now).topics) }
-{
-    let t = find_topic(store, e, topic);
-    if t < topic_count(store, e) {
-        Some(t)
-    } else {
-        None
-    }
+    existing_topic(store, e, topic).unwrap_or(topic_count(store, e))
 }
 
 // The number of entries of a topic; none where the topic does not exist.
@@ -69,11 +67,12 @@ pub fn message_count(store: &[u64], e: usize, t: usize) -> usize
     word(store, at + MESSAGES_IN)
 }
 
-// The table, which has `n` topics and room, gains one at its end: the words there are 0 already.
-pub fn raise_topics(store: &mut [u64], e: usize, n: usize)
-    requires { CanonStore e store.old × (n ≡ length (decode store.old).topics) × (n < 8) }
+// The table, which has room, gains a topic at its end: the words there are 0 already.
+pub fn raise_topics(store: &mut [u64], e: usize)
+    requires { CanonStore e store.old × (length (decode store.old).topics < 8) }
     ensures { store.new ≡ state_changed store.old (λ s. with_topics s (s.topics ++ zero_topic ∷ [])) }
 {
+    let n = topic_count(store, e);
     store[TOPIC_COUNT_AT] = (n + 1) as u64;
 }
 

@@ -1,6 +1,10 @@
 -- `ack::ack` meets its contract: the id is not live, the list is not of the form, or the ack of the consumer at its slot.
-use mathlib.Core.Path.{sym, ◌∙◌}
+use mathlib.Core.Path.{sym, ap₂, ◌∙◌}
+use mathlib.Core.List.{List}
+use Prim.Native.Nat.{ℕ}
+use Rattle.rules.specs.Calls.Call.{Ack}
 use Rattle.layout.specs.Layout.{decode}
+use Rattle.layout.specs.Calls.{answer, after}
 use Rattle.operation_laws.proofs.Frame.{canon_of, refused_with, consumer_found_id}
 use Rattle.ack.proofs.Outcomes.{ack_dead, ack_formless}
 use Rattle.rules.specs.State.{by_id}
@@ -27,7 +31,16 @@ returns-in_default-of c =
 pub ack_live-requires : goal.ack_live-requires
 ack_live-requires c =
     let a = c.args in
-    let s = decode a.store.now in
-    let i = c.in-Some.i in
-    let f = found_some by_id a.consumer s.consumers (sym c.in-Some.is ∙ c.find_consumer.ensures.slot) in
-    (record { spelt = c.requires; E = c.entries-e.ensures; there = f.1 }, consumer_found_id s i a.consumer f.0 f.1)
+    let f = found_some by_id a.consumer (decode a.store.now).consumers (sym c.in-Some.is ∙ c.find_consumer.ensures.slot) in
+    record { spelt = c.requires; E = c.entries-e.ensures; there = f.1 }
+
+pub returns : goal.returns
+returns c =
+    let a = c.args in
+    let ws = a.store.now in
+    let f = found_some by_id a.consumer (decode ws).consumers (sym c.in-Some.is ∙ c.find_consumer.ensures.slot) in
+    let q = consumer_found_id (decode ws) c.in-Some.i a.consumer f.0 f.1 in
+    record {
+      answer = c.ack_live.ensures.answer ∙ ap₂ (λ (j : ℕ) (list : List ℕ). answer ws (Ack j list)) q c.in-Some-of.ensures;
+      words = c.ack_live.ensures.words ∙ ap₂ (λ (j : ℕ) (list : List ℕ). after ws (Ack j list)) q c.in-Some-of.ensures;
+    }

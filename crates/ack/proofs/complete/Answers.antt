@@ -15,8 +15,8 @@ drop_complete-requires c =
     let p = c.requires in
     let k = (kept_groups (ledger_of (decode a.store.now) a.topic) (dispatcher_nth (decode a.store.now) a.d) (groups_in a.groups)) in
     let f = kept_fits k p.0.within.lists_fit p.1 in (
-      written_in a.d a.consumer (ack_groups (ledger_of (decode a.store.now) a.topic) (dispatcher_nth (decode a.store.now) a.d) (groups_in a.groups)) p.0.within f c.ack_all.ensures,
-      written_marked a.d a.consumer (ack_groups (ledger_of (decode a.store.now) a.topic) (dispatcher_nth (decode a.store.now) a.d) (groups_in a.groups)) p.0.within f c.ack_all.ensures (kept_marked k p.2),
+      written_in a.d a.id (ack_groups (ledger_of (decode a.store.now) a.topic) (dispatcher_nth (decode a.store.now) a.d) (groups_in a.groups)) p.0.within f c.ack_all.ensures,
+      written_marked a.d a.id (ack_groups (ledger_of (decode a.store.now) a.topic) (dispatcher_nth (decode a.store.now) a.d) (groups_in a.groups)) p.0.within f c.ack_all.ensures (kept_marked k p.2),
     )
 
 pub advance_mark_delete-requires : goal.advance_mark_delete-requires
@@ -24,13 +24,13 @@ advance_mark_delete-requires c =
     let a = c.args in
     let p = c.requires in
     let f = kept_fits (kept_groups (ledger_of (decode a.store.now) a.topic) (dispatcher_nth (decode a.store.now) a.d) (groups_in a.groups)) p.0.within.lists_fit p.1 in
-    let w = dropped a.d a.consumer (ack_groups (ledger_of (decode a.store.now) a.topic) (dispatcher_nth (decode a.store.now) a.d) (groups_in a.groups)) p.0.within f c.ack_all.ensures c.drop_complete.ensures in
-    (written_in a.d a.consumer (drop_complete a.consumer (ack_groups (ledger_of (decode a.store.now) a.topic) (dispatcher_nth (decode a.store.now) a.d) (groups_in a.groups))) p.0.within (drop_fits a.consumer (ack_groups (ledger_of (decode a.store.now) a.topic) (dispatcher_nth (decode a.store.now) a.d) (groups_in a.groups)) f) w)
+    let w = dropped a.d a.id (ack_groups (ledger_of (decode a.store.now) a.topic) (dispatcher_nth (decode a.store.now) a.d) (groups_in a.groups)) p.0.within f c.ack_all.ensures c.drop_complete.ensures in
+    (written_in a.d a.id (drop_complete a.id (ack_groups (ledger_of (decode a.store.now) a.topic) (dispatcher_nth (decode a.store.now) a.d) (groups_in a.groups))) p.0.within (drop_fits a.id (ack_groups (ledger_of (decode a.store.now) a.topic) (dispatcher_nth (decode a.store.now) a.d) (groups_in a.groups)) f) w)
 
 pub returns : goal.returns
 returns c =
     let a = c.args in
     let p = c.requires in
     let f = kept_fits (kept_groups (ledger_of (decode a.store.now) a.topic) (dispatcher_nth (decode a.store.now) a.d) (groups_in a.groups)) p.0.within.lists_fit p.1 in
-    let w = dropped a.d a.consumer (ack_groups (ledger_of (decode a.store.now) a.topic) (dispatcher_nth (decode a.store.now) a.d) (groups_in a.groups)) p.0.within f c.ack_all.ensures c.drop_complete.ensures in
-    advanced a.d a.consumer (drop_complete a.consumer (ack_groups (ledger_of (decode a.store.now) a.topic) (dispatcher_nth (decode a.store.now) a.d) (groups_in a.groups))) p.0.within (drop_fits a.consumer (ack_groups (ledger_of (decode a.store.now) a.topic) (dispatcher_nth (decode a.store.now) a.d) (groups_in a.groups)) f) w c.advance_mark_delete.ensures
+    let w = dropped a.d a.id (ack_groups (ledger_of (decode a.store.now) a.topic) (dispatcher_nth (decode a.store.now) a.d) (groups_in a.groups)) p.0.within f c.ack_all.ensures c.drop_complete.ensures in
+    advanced a.d a.id (drop_complete a.id (ack_groups (ledger_of (decode a.store.now) a.topic) (dispatcher_nth (decode a.store.now) a.d) (groups_in a.groups))) p.0.within (drop_fits a.id (ack_groups (ledger_of (decode a.store.now) a.topic) (dispatcher_nth (decode a.store.now) a.d) (groups_in a.groups)) f) w c.advance_mark_delete.ensures

@@ -2,7 +2,6 @@
 use mathlib.Core.Path.{sym, ◌∙◌}
 use Rattle.layout.specs.Layout.{decode}
 use Rattle.layout.specs.Fields.{dispatcher_nth}
-use Rattle.topic.specs.Ids.{id_of}
 use Rattle.ack.proofs.Marking.{last_room, unchanged}
 use Rattle.ack.proofs.ack_id.ack_outside.Goals as goal
 
@@ -10,7 +9,7 @@ pub insert_outside-requires : goal.insert_outside-requires
 insert_outside-requires c =
     let a = c.args in
     let n = sym c.is_outside.ensures ∙ c.if-not-is_outside.true in
-    (c.requires.0, last_room (id_of a.ledger a.entry) (dispatcher_nth (decode a.store.now) a.d) n c.requires.1)
+    (c.requires.0, last_room a.id (dispatcher_nth (decode a.store.now) a.d) n c.requires.1)
 
 pub returns-then-not-is_outside : goal.returns-then-not-is_outside
 returns-then-not-is_outside c = let n = sym c.is_outside.ensures ∙ c.if-not-is_outside.true in rw n c.insert_outside.ensures

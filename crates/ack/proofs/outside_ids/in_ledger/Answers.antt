@@ -1,9 +1,9 @@
 -- `ack::outside_ids::in_ledger` meets its contract: a position was told, or not.
-use mathlib.Core.Path.{◌∙◌}
-use Rattle.rules.specs.Ledger.{holds_id}
-use Rattle.store.proofs.Places.{found_test}
+use Rattle.rules.specs.State.{ledger_of}
+use Rattle.layout.specs.Layout.{decode}
+use Rattle.groups.specs.Lent.{group_of}
+use Rattle.topic.proofs.Positions.{found_held}
 use Rattle.ack.proofs.outside_ids.in_ledger.Goals as goal
 
 pub returns : goal.returns
-unfolding holds_id
-returns c = c.is_some.ensures ∙ found_test c.position_in.result _ _ c.position_in.ensures
+returns c = found_held (group_of c.args.group).id (ledger_of (decode c.args.store.now) c.args.topic) c.is_some.ensures c.position_in.ensures

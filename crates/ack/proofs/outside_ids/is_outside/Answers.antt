@@ -5,7 +5,6 @@ use Rattle.std.specs.Prelude.{is_some}
 use Rattle.std.specs.declared.option.Option.{Option}
 use Rattle.layout.specs.Layout.{decode}
 use Rattle.layout.specs.Fields.{dispatcher_nth}
-use Rattle.topic.specs.Ids.{id_of}
 use Rattle.rules.specs.Dispatcher.{is_outside}
 use Rattle.store.proofs.Founds.{found_is}
 use Rattle.dispatcher.specs.Outside.{by_itself}
@@ -15,6 +14,6 @@ use Rattle.ack.proofs.outside_ids.is_outside.Goals as goal
 pub returns : goal.returns
 unfolding is_outside
 returns c =
-    let i = id_of c.args.ledger c.args.entry in
+    let i = c.args.id in
     let l = (dispatcher_nth (decode c.args.store.now) c.args.d).outside in
     c.is_some.ensures ∙ ap (λ (o : Option ℕ). is_some o) c.find_outside.ensures ∙ found_is by_itself i l ∙ slot_any i l

@@ -1,8 +1,8 @@
 -- What is ahead names the id exactly if the whole does.
 use Rattle.std.proofs.Common.{◌≡◌}
-use Rattle.groups.specs.Lent.{group_of, groups_in}
+use Rattle.groups.specs.Lent.{groups_in}
 use Rattle.ack.specs.NewIds.{named}
 use Rattle.ack.proofs.outside_ids.names.Given as goal
 
 abbrev pub invariant-loop-later : goal.invariant-loop-later
-invariant-loop-later l = named (group_of l.fn.group).id (groups_in l.fn.left) ≡ named (group_of l.fn.group).id (groups_in l.later-iterator)
+invariant-loop-later l = named l.fn.id (groups_in l.fn.left) ≡ named l.fn.id (groups_in l.later-iterator)

@@ -2,9 +2,8 @@
 -- those of the state in which the first d have the new entry.
 use mathlib.Core.Path.{◌≡◌}
 use lib.ListN.{length}
-use Rattle.topic.specs.Ids.{id_of}
 use Rattle.append.proofs.Entries.{Stepped}
 use Rattle.append.proofs.entry.new_entries.Given as goal
 
 abbrev pub invariant-loop-d : goal.invariant-loop-d
-invariant-loop-d l = (length l.store ≡ length l.initial.store) × Stepped l.topic (id_of l.ledger l.entry) l.initial.store l.store l.d
+invariant-loop-d l = (length l.store ≡ length l.initial.store) × Stepped l.topic l.id l.initial.store l.store l.d

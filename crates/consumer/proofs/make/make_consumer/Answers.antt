@@ -31,4 +31,4 @@ pub bounds-store-at-6 : goal.bounds-store-at-6
 bounds-store-at-6 c = let k = room c in simp length-set (omega arith)
 
 pub returns : goal.returns
-returns c = rw c.consumer_at-at.ensures (made_consumer c.args.i c.requires c.args.id c.number-word.result c.args.pair.topic c.args.pair.subscription (kind_of c.args.kind) c.number-word.ensures c.clear_nacked.ensures)
+returns c = rw c.consumer_at-at.ensures (made_consumer c.args.i c.requires c.args.id c.from-word.result c.args.pair.topic c.args.pair.subscription (kind_of c.args.kind) c.from-word.ensures c.clear_nacked.ensures)

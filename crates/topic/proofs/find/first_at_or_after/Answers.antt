@@ -3,8 +3,8 @@ use Rattle.std.proofs.Common.{sym, ◌∙◌}
 use Rattle.rules.specs.Ledger.{no_message, message_at}
 use Rattle.layout.specs.Layout.{decode}
 use Rattle.layout.specs.Fields.{topic_nth}
-use Rattle.store.proofs.Places.{first_slot}
-use Rattle.topic.specs.Ids.{id_of}
+use Rattle.message_id.proofs.Orders.{upto_is}
+use Rattle.store.proofs.Founds.{first_found, found_or_count}
 use Rattle.topic.proofs.Positions.{by_later_id, seek_slot}
 use borrow.Author.Rules.{rules}
 use Rattle.topic.proofs.find.first_at_or_after.Goals as goal
@@ -12,8 +12,8 @@ use Rattle.topic.proofs.find.first_at_or_after.Goals as goal
 pub returns : goal.returns
 unfolding message_at
 returns c =
-    let i = id_of c.args.ledger c.args.entry in
+    let i = c.args.id in
     let l = (topic_nth (decode c.args.store.now) c.args.t).messages in
     c.unwrap_or.ensures
-    ∙ first_slot by_later_id i l no_message _ c.first_row.ensures c.message_count-n.ensures (λ k b h p. search rules)
+    ∙ found_or_count by_later_id i l (first_found by_later_id i l no_message _ c.first_row.ensures c.message_count-n.ensures (λ k b h p. search (rules, upto_is))) c.message_count-n.ensures
     ∙ sym (seek_slot i l)

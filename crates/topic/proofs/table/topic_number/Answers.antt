@@ -4,4 +4,4 @@ use Rattle.layout.proofs.Gets.{read_topic_number}
 use Rattle.topic.proofs.table.topic_number.Goals as goal
 
 pub returns : goal.returns
-returns c = ap (λ (i : ℕ). get_or c.args.store.now i 0) c.topic_at.ensures ∙ read_topic_number c.requires.0 c.args.t c.requires.1
+returns c = ap (λ (i : ℕ). get_or c.args.store.now i 0) c.topic_at.ensures ∙ read_topic_number c.requires.canon c.args.t c.requires.there

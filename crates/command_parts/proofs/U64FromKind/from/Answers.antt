@@ -1,6 +1,6 @@
--- `command_parts::Kind::number` meets its contract, kind by kind.
+-- `command_parts::U64FromKind::from` meets its contract, kind by kind.
 use Rattle.command_parts.specs.Parts.{kind_of}
-use Rattle.command_parts.proofs.Kind.number.Goals as goal
+use Rattle.command_parts.proofs.U64FromKind.from.Goals as goal
 
 pub returns-in-Plain : goal.returns-in-Plain
 unfolding kind_of
