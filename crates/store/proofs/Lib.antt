@@ -4,6 +4,7 @@ pub mod Finding
 pub mod Founds
 pub mod Places
 pub mod Inside
+pub mod Listed
 pub mod Moving
 pub mod Opened
 pub mod Prefixes

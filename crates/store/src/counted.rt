@@ -1,8 +1,13 @@
-// A list of records in a store, with a word for how many there are. Nothing here knows what the records mean.
-ghost use Rattle.std.specs.Prelude.{◌≡◌, ◌+◌, ◌≤◌, ◌<◌, length};
-ghost use Rattle.store.specs.Counted.{Inside, size, without, without_first, cut_to, with_word};
+// A list of records in a store, with a word for how many there are. Nothing here knows what the records mean, so a list's
+// own functions stand with it: each says in its contract which list of the rules its words are.
+//
+// The value has places alone and no borrow, so that other words may be written between two of its calls; that its words
+// lie in the store is asked at each.
+ghost use Rattle.std.specs.Prelude.{◌≡◌, ◌+◌, ◌*◌, ◌≤◌, ◌<◌, length, replicate};
+ghost use Rattle.words.specs.Act.{lay};
+ghost use Rattle.store.specs.Counted.{Inside, HasRoom, size, without, without_first, cut_to, with_last, with_inserted, one_more};
 
-use super::movers::close_gap;
+use super::movers::{close_gap, move_up, open_gap};
 use super::stretch::{clear_words, word};
 
 // Where the word of the count is, where record 0 starts, and how many words a record has.
@@ -57,13 +62,56 @@ impl Counted {
         store[self.count_at] = k as u64;
     }
 
-    // A word joins a list of words, at its end.
-    pub fn push(self, store: &mut [u64], value: u64)
-        requires { Inside self store.old × (self.first + size self store.old < length store.old) }
-        ensures { store.new ≡ with_word self value store.old }
+    // A record joins at the end.
+    pub fn push<const N: usize>(self, store: &mut [u64], words: [u64; N])
+        requires { Inside self store.old × (size self store.old < length store.old)
+            × (self.first + size self store.old * self.width + N ≤ length store.old) }
+        ensures { store.new ≡ with_last self words.entry store.old }
     {
         let n = self.count(store);
-        store[self.first + n] = value;
+        write_words(store, self.first + n * self.width, words);
         store[self.count_at] = (n + 1) as u64;
+    }
+
+    // A record is put in at `j`; those from there on come after it.
+    pub fn insert<const N: usize>(self, store: &mut [u64], j: usize, words: [u64; N])
+        requires { HasRoom self store.old × (j ≤ size self store.old) × (N ≤ self.width) }
+        ensures { store.new ≡ with_inserted self j words.entry store.old }
+    {
+        let n = self.count(store);
+        let at = self.first + j * self.width;
+        move_up(store, at, self.width, (n - j) * self.width);
+        write_words(store, at, words);
+        store[self.count_at] = (n + 1) as u64;
+    }
+
+    // A record of zeros is put in at `j`; those from there on come after it.
+    pub fn insert_blank(self, store: &mut [u64], j: usize)
+        requires { HasRoom self store.old × (j ≤ size self store.old) }
+        ensures { store.new ≡ with_inserted self j (replicate self.width 0) store.old }
+    {
+        let n = self.count(store);
+        let at = self.first + j * self.width;
+        open_gap(store, at, self.width, (n - j) * self.width);
+        store[self.count_at] = (n + 1) as u64;
+    }
+
+    // The words behind the last record become one more.
+    pub fn raise(self, store: &mut [u64])
+        requires { Inside self store.old × (size self store.old < length store.old) }
+        ensures { store.new ≡ one_more self store.old }
+    {
+        let more = self.count(store) + 1;
+        store[self.count_at] = more as u64;
+    }
+}
+
+// Some words stand from `at` on.
+fn write_words<const N: usize>(store: &mut [u64], at: usize, words: [u64; N])
+    requires { at + N ≤ length store.old }
+    ensures { store.new ≡ (lay words.entry).run at store.old }
+{
+    for i in 0..N {
+        store[at + i] = words[i];
     }
 }

@@ -16,10 +16,7 @@ pub fn open(store: &mut [u64], entries: u64, leak: u64, noop: u64) -> Answer
     ensures answer { word_of result ≡ open_answer store.old entries leak noop }
     ensures words { store.new ≡ open_after store.old entries leak noop }
 {
-    if entries < 1 {
-        return Err(Refusal::BadEntries);
-    }
-    if MOST_ENTRIES < entries {
+    if !(1..=MOST_ENTRIES).contains(&entries) {
         return Err(Refusal::BadEntries);
     }
     let needed = NEEDED_WORDS + NEEDED_WORDS_E * (entries as usize);
