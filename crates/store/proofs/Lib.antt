@@ -1,5 +1,4 @@
 pub mod Blank
-pub mod Clear
 pub mod Finding
 pub mod Founds
 pub mod Places
@@ -9,4 +8,5 @@ pub mod Moving
 pub mod Opened
 pub mod Prefixes
 pub mod Rooms
+pub mod Slots
 pub mod Tests

@@ -3,12 +3,12 @@
 //
 // The value has places alone and no borrow, so that other words may be written between two of its calls; that its words
 // lie in the store is asked at each.
-ghost use Rattle.std.specs.Prelude.{◌≡◌, ◌+◌, ◌*◌, ◌≤◌, ◌<◌, length, replicate};
+ghost use Rattle.std.specs.Prelude.{◌≡◌, ◌+◌, ◌*◌, ◌^◌, ◌≤◌, ◌<◌, length, replicate};
 ghost use Rattle.words.specs.Act.{lay};
 ghost use Rattle.store.specs.Counted.{Inside, HasRoom, size, without, without_first, cut_to, with_last, with_inserted, one_more};
 
-use super::movers::{close_gap, move_up, open_gap};
-use super::stretch::{clear_words, word};
+use super::movers::{close_gap, open_gap};
+use super::stretch::word;
 
 // Where the word of the count is, where record 0 starts, and how many words a record has.
 #[derive(Clone, Copy)]
@@ -27,14 +27,22 @@ impl Counted {
         word(store, self.count_at)
     }
 
+    // Where record `j` starts.
+    fn place(self, j: usize) -> usize
+        requires { self.first + j * self.width < 2 ^ 63 }
+        ensures { result ≡ self.first + j * self.width }
+    {
+        self.first + j * self.width
+    }
+
     // Record `j` is left out; those after it keep their order.
     pub fn remove(self, store: &mut [u64], j: usize)
         requires { Inside self store.old × (j < size self store.old) }
         ensures { store.new ≡ without self j store.old }
     {
         let n = self.count(store);
-        let behind = (n - (j + 1)) * self.width;
-        close_gap(store, self.first + j * self.width, self.width, behind);
+        let part = &mut store[self.place(j)..self.place(n)];
+        close_gap(part, self.width);
         store[self.count_at] = (n - 1) as u64;
     }
 
@@ -44,7 +52,8 @@ impl Counted {
         ensures { store.new ≡ without_first self k store.old }
     {
         let n = self.count(store);
-        close_gap(store, self.first, k * self.width, (n - k) * self.width);
+        let part = &mut store[self.first..self.place(n)];
+        close_gap(part, k * self.width);
         store[self.count_at] = (n - k) as u64;
     }
 
@@ -54,11 +63,8 @@ impl Counted {
         ensures { store.new ≡ cut_to self k store.old }
     {
         let n = self.count(store);
-        clear_words(
-            store,
-            self.first + k * self.width,
-            self.first + n * self.width,
-        );
+        let part = &mut store[self.place(k)..self.place(n)];
+        part.fill(0);
         store[self.count_at] = k as u64;
     }
 
@@ -69,7 +75,7 @@ impl Counted {
         ensures { store.new ≡ with_last self words.entry store.old }
     {
         let n = self.count(store);
-        write_words(store, self.first + n * self.width, words);
+        write_words(store, self.place(n), words);
         store[self.count_at] = (n + 1) as u64;
     }
 
@@ -79,9 +85,9 @@ impl Counted {
         ensures { store.new ≡ with_inserted self j words.entry store.old }
     {
         let n = self.count(store);
-        let at = self.first + j * self.width;
-        move_up(store, at, self.width, (n - j) * self.width);
-        write_words(store, at, words);
+        let part = &mut store[self.place(j)..self.place(n + 1)];
+        open_gap(part, self.width);
+        write_words(store, self.place(j), words);
         store[self.count_at] = (n + 1) as u64;
     }
 
@@ -91,8 +97,9 @@ impl Counted {
         ensures { store.new ≡ with_inserted self j (replicate self.width 0) store.old }
     {
         let n = self.count(store);
-        let at = self.first + j * self.width;
-        open_gap(store, at, self.width, (n - j) * self.width);
+        let part = &mut store[self.place(j)..self.place(n + 1)];
+        open_gap(part, self.width);
+        store[self.place(j)..self.place(j + 1)].fill(0);
         store[self.count_at] = (n + 1) as u64;
     }
 

@@ -7,7 +7,6 @@ ghost use Rattle.store.specs.Open.{opened_words};
 
 use super::limits::MOST_ENTRIES;
 use super::offsets::{ENTRIES_AT, LAYOUT_TAG, LEAK_AT, NEEDED_WORDS, NEEDED_WORDS_E, NOOP_AT};
-use super::stretch::clear_words;
 use refusal::{Answer, Refusal};
 
 // The words become those of a store just opened, or stay as they are: 2 if E is not 1 to 4,096,
@@ -32,7 +31,7 @@ fn open_words(store: &mut [u64], entries: u64, needed: usize, leak: u64, noop: u
     requires { (4 ≤ needed) × (needed ≤ length store.old) }
     ensures { store.new ≡ opened_words store.old entries needed leak noop }
 {
-    clear_words(store, 0, needed);
+    store[..needed].fill(0);
     store[0] = LAYOUT_TAG;
     store[ENTRIES_AT] = entries;
     store[LEAK_AT] = leak;

@@ -30,4 +30,4 @@ ack_live-requires c =
     let s = decode a.store.now in
     let i = c.in-Some.i in
     let f = found_some by_id a.consumer s.consumers (sym c.in-Some.is ∙ c.find_consumer.ensures.slot) in
-    (record { spelt = c.requires; E = c.entries-e.ensures; there = f.1 }, consumer_found_id s i a.consumer f.0 f.1)
+    (record { opened = record { spelt = c.requires; E = c.entries-e.ensures }; there = f.1 }, consumer_found_id s i a.consumer f.0 f.1)

@@ -26,6 +26,6 @@ returns c =
     let h = p.0 in
     let s = decode a.store.now in
     let k = flag_plain _ (sym c.is_shared.ensures ∙ c.if-is_shared.false) in
-    done_with a.store.now _ h.spelt 0 0
+    done_with a.store.now _ h.opened.spelt 0 0
     (ack_plain s a.i a.consumer a.groups.list.now (live_slot h ∙ ap (λ (j : ℕ). slot by_id j s.consumers) p.1) h.there (groups_in a.groups) (groups_read a.groups) k)
     value_plain refl (sym (put_decode (live_canon h)))

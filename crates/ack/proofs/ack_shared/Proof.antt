@@ -91,7 +91,7 @@ returns c =
     let p = c.requires in
     let h = p.0 in
     let s = decode a.store.now in
-    both (refused_with a.store.now _ h.spelt
+    both (refused_with a.store.now _ h.opened.spelt
     (ack_over s a.i a.consumer a.groups.list.now (own_slot c.before.before) h.there (groups_in a.groups) (groups_read a.groups) p.2
     c.shared_dispatcher-d.result c.topic-number.result c.shared_dispatcher-d.ensures.0 (there c.before.before.before) c.topic-number.ensures (sym c.passes_64.ensures ∙ c.if-passes_64.true)))
 
@@ -123,7 +123,7 @@ returns_2 c =
     let s = decode a.store.now in
     let from = c.mark_delete-from.ensures in
     let to = c.mark_delete.ensures ∙ after_is c.before.before.before.before in
-    both (done_with a.store.now _ h.spelt _ _
+    both (done_with a.store.now _ h.opened.spelt _ _
     (ack_done s a.i a.consumer a.groups.list.now (own_slot c.before.before.before.before.before.before.before.before.before) h.there (groups_in a.groups) (groups_read a.groups) p.2
     c.shared_dispatcher-d.result c.topic-number.result c.shared_dispatcher-d.ensures.0 (there c.before.before.before.before.before.before.before.before.before.before) c.topic-number.ensures (sym c.passes_64.ensures ∙ c.if-passes_64.false))
     (value_moved _ _) (ap (λ (n : ℕ). n % 2 ^ 56 * 256) (c.moved.ensures ∙ rw (from, to))) c.complete.ensures)

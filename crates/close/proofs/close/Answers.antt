@@ -25,7 +25,7 @@ returns-in_default c =
 pub close_live-requires : goal.close_live-requires
 close_live-requires c =
     let f = found_some by_id c.args.consumer (decode c.args.store.now).consumers (sym c.in-Some.is ∙ c.find_consumer.ensures.slot) in
-    record { spelt = c.requires; E = c.entries-e.ensures; there = f.1 }
+    record { opened = record { spelt = c.requires; E = c.entries-e.ensures }; there = f.1 }
 
 pub returns : goal.returns
 returns c =

@@ -20,6 +20,6 @@ pub returns-in-Plain : goal.returns-in-Plain
 returns-in-Plain c =
     let a = c.args in
     let h = c.requires in
-    done_with a.store.now _ h.spelt 1 256
+    done_with a.store.now _ h.opened.spelt 1 256
     (close_plain (decode a.store.now) a.i _ (live_slot h) refl (live_valid h) h.there (told_plain c.in-Plain.is c.kind.ensures))
     value_closed refl c.remove_consumer.ensures

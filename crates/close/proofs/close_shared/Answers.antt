@@ -74,7 +74,7 @@ returns-then-in_range c =
     let r = room_for_all a.e s (dispatcher_nth s d) v there_in.lists_fit.marks_fit in
     let t = c.total_without-total.result in
     let o = sym c.in_range.ensures ∙ c.if-in_range.true in
-    rw (← q) (done_with a.store.now _ h.spelt 1 256
+    rw (← q) (done_with a.store.now _ h.opened.spelt 1 256
     (close_shared s a.i id g q (live_valid h) h.there c.requires.1 d t f l c.total_without-total.ensures o)
     value_closed refl
     (closed_words a.store.now a.i d (left_by id t (dispatcher_nth s d)) (live_canon h) (left_fits id d there_in m r t) (canon_entries (live_canon h)) c.leave.ensures c.remove_consumer.ensures))
@@ -87,5 +87,5 @@ returns c =
     let q = c.consumer_id-id.ensures in
     let s = decode a.store.now in
     let o = sym c.in_range.ensures ∙ c.if-in_range.false in
-    rw (← q) (refused_with a.store.now _ h.spelt
+    rw (← q) (refused_with a.store.now _ h.opened.spelt
     (close_over s a.i id (slot_of s a.i id (live_slot h) q) q (live_valid h) h.there c.requires.1 c.shared_dispatcher-d.result c.total_without-total.result c.shared_dispatcher-d.ensures.0 c.shared_dispatcher-d.ensures.1 c.total_without-total.ensures o))

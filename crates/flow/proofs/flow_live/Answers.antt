@@ -27,7 +27,7 @@ returns-then-granted-gt-MOST_PERMITS c =
     let h = c.requires.0 in
     let p = c.permits.ensures in
     let over : most_permits < (consumer_nth (decode ws) c.args.i).permits + c.args.grant = let t = c.if-granted-gt-MOST_PERMITS.true in omega arith in
-    refused_with ws _ h.spelt (flow_over (decode ws) c.args.i _ c.args.grant (live_slot h) refl (live_valid h) h.there over)
+    refused_with ws _ h.opened.spelt (flow_over (decode ws) c.args.i _ c.args.grant (live_slot h) refl (live_valid h) h.there over)
 
 pub kind-requires : goal.kind-requires
 kind-requires c = live_in c.requires.0
@@ -50,6 +50,6 @@ returns-in-Plain c =
     let p : n ≡ (consumer_nth (decode ws) c.args.i).permits + c.args.grant = let q = c.permits.ensures in omega arith in
     let le : n ≤ most_permits = let t = c.if-granted-gt-MOST_PERMITS.false in omega arith in
     let k = told_plain c.in-Plain.is c.kind.ensures in
-    done_with ws _ h.spelt n _
+    done_with ws _ h.opened.spelt n _
     (flow_plain (decode ws) c.args.i _ c.args.grant (live_slot h) refl (live_valid h) h.there n p le k)
     (value_permits n) refl c.set_permits.ensures

@@ -47,7 +47,7 @@ returns-then-n-gt-MOST_NACKED c =
     let n1 = c.nacked_count.ensures in
     let n2 : c.found_count.result ≡ length fp = c.found_count.ensures in
     let n3 = length-append nk fp in
-    refused_with a.store.now _ h.spelt
+    refused_with a.store.now _ h.opened.spelt
     (plain_over s a.i _ a.groups.list.now (live_slot h) refl (live_valid h) h.there (groups_in a.groups) (groups_read a.groups) c.requires.1
     (let t = c.if-n-gt-MOST_NACKED.true in omega arith))
 
@@ -73,7 +73,7 @@ returns c =
     let n1 = c.nacked_count.ensures in
     let n2 : c.found_count.result ≡ length fp = c.found_count.ensures in
     let n3 = length-append nk fp in
-    done_with_nothing a.store.now _ h.spelt
+    done_with_nothing a.store.now _ h.opened.spelt
     (plain_joins s a.i _ a.groups.list.now (live_slot h) refl (live_valid h) h.there (groups_in a.groups) (groups_read a.groups) c.requires.1
     (let t = c.if-n-gt-MOST_NACKED.false in omega arith))
     c.join_found.ensures

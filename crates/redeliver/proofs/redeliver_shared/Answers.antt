@@ -33,6 +33,6 @@ returns c =
     let d = c.shared_dispatcher-d in
     let g = d.ensures.1 in
     let p = dispatcher_found_pair s d.result _ d.ensures.0 g in
-    done_with_nothing a.store.now _ h.spelt
+    done_with_nothing a.store.now _ h.opened.spelt
     (shared_hands s a.i _ a.groups.list.now (live_slot h) (live_valid h) h.there (groups_in a.groups) (groups_read a.groups) c.requires.1 d.result d.ensures.0 g)
     (rw (← c.consumer_id-id.ensures, ← p) c.hand_back_all.ensures)

@@ -12,4 +12,4 @@ seat_consumer-requires c =
 pub returns : goal.returns
 unfolding kind_of
 returns c =
-    done_with_nothing c.args.store.now _ c.requires.spelt (subscribe_plain c.requires (pair_in c.args.pair)) c.seat_consumer.ensures
+    done_with_nothing c.args.store.now _ c.requires.opened.spelt (subscribe_plain c.requires (pair_in c.args.pair)) c.seat_consumer.ensures

@@ -7,19 +7,19 @@ use Rattle.subscribe.proofs.subscribe_shared.Goals as goal
 
 pub pairs_full-requires : goal.pairs_full-requires
 pairs_full-requires c =
-    canon_of c.args.e c.args.store.now c.requires.spelt c.requires.E
+    canon_of c.args.e c.args.store.now c.requires.opened.spelt c.requires.opened.E
 
 pub returns-then-pairs_full : goal.returns-then-pairs_full
 returns-then-pairs_full c =
-    refused_with c.args.store.now _ c.requires.spelt (subscribe_pairs c.requires (pair_in c.args.pair) (sym c.pairs_full.ensures ∙ c.if-pairs_full.true))
+    refused_with c.args.store.now _ c.requires.opened.spelt (subscribe_pairs c.requires (pair_in c.args.pair) (sym c.pairs_full.ensures ∙ c.if-pairs_full.true))
 
 pub ring_full-requires : goal.ring_full-requires
 ring_full-requires c =
-    canon_of c.args.e c.args.store.now c.requires.spelt c.requires.E
+    canon_of c.args.e c.args.store.now c.requires.opened.spelt c.requires.opened.E
 
 pub returns-then-ring_full : goal.returns-then-ring_full
 returns-then-ring_full c =
-    refused_with c.args.store.now _ c.requires.spelt (subscribe_ring c.requires (pair_in c.args.pair) (sym c.pairs_full.ensures ∙ c.if-pairs_full.false) (sym c.ring_full.ensures ∙ c.if-ring_full.true))
+    refused_with c.args.store.now _ c.requires.opened.spelt (subscribe_ring c.requires (pair_in c.args.pair) (sym c.pairs_full.ensures ∙ c.if-pairs_full.false) (sym c.ring_full.ensures ∙ c.if-ring_full.true))
 
 pub enter-requires : goal.enter-requires
 enter-requires c =
@@ -27,4 +27,4 @@ enter-requires c =
 
 pub returns : goal.returns
 returns c =
-    done_with_nothing c.args.store.now _ c.requires.spelt (subscribe_shared c.requires (pair_in c.args.pair) (sym c.pairs_full.ensures ∙ c.if-pairs_full.false) (sym c.ring_full.ensures ∙ c.if-ring_full.false)) c.enter.ensures
+    done_with_nothing c.args.store.now _ c.requires.opened.spelt (subscribe_shared c.requires (pair_in c.args.pair) (sym c.pairs_full.ensures ∙ c.if-pairs_full.false) (sym c.ring_full.ensures ∙ c.if-ring_full.false)) c.enter.ensures
