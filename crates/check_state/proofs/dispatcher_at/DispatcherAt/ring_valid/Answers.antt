@@ -1,8 +1,8 @@
--- `check_state::valid_dispatchers::ring_valid` meets its contract: the ids are distinct, and next is right.
+-- `check_state::dispatcher_at::DispatcherAt::ring_valid` meets its contract: the ids are distinct, and next is right.
 use mathlib.Core.Path.{sym, ◌∙◌}
 use Rattle.check_state.specs.Dispatchers.{ring_right}
 use Rattle.store.proofs.Tests.{fails, passes}
-use Rattle.check_state.proofs.valid_dispatchers.ring_valid.Goals as goal
+use Rattle.check_state.proofs.dispatcher_at.DispatcherAt.ring_valid.Goals as goal
 
 pub returns-then-distinct : goal.returns-then-distinct
 unfolding ring_right

@@ -1,14 +1,14 @@
--- `check_state::valid_marks::outside_valid` meets its contract: the ids ascend, and none is in the ledger.
+-- `check_state::dispatcher_at::DispatcherAt::outside_valid` meets its contract: the ids ascend, and none is in the ledger.
 use mathlib.Core.Path.{refl, sym, ◌∙◌}
 use Rattle.check_state.specs.Marks.{outside_right}
 use Rattle.store.proofs.Tests.{fails, passes}
-use Rattle.check_state.proofs.valid_marks.outside_valid.Goals as goal
+use Rattle.check_state.proofs.dispatcher_at.DispatcherAt.outside_valid.Goals as goal
 
 pub ids_absent-requires : goal.ids_absent-requires
 ids_absent-requires c =
     record {
-      width = (refl, c.requires.ledger.1);
-      store = sym c.requires.ledger.0;
+      width = (refl, c.args.self.now.ledger_in.width);
+      store = sym c.args.self.now.ledger_in.same_store;
       ids = sym c.pairs_ascend.ensures ∙ c.if-pairs_ascend.true;
     }
 
