@@ -1,6 +1,6 @@
 -- The tests of the check, grouped as the code makes them: those of a state by table, those of words in order.
 use mathlib.Core.Path.{◌≡◌, refl, sym, subst, ◌∙◌}
-use mathlib.Core.Bool.{Bool, true, false, ◌&&◌}
+use mathlib.Core.Bool.{Bool, true, ◌&&◌, and_assoc}
 use mathlib.Core.List.{List, map}
 use Prim.Native.Nat.{ℕ, ◌+◌, ◌*◌, ◌≤◌, ◌<◌}
 use native.Mathlib.Omega.{arith}
@@ -9,8 +9,8 @@ use lib.ListN.{length, get_or, drop}
 use borrow.Author.Tests.{le-leb}
 use Rattle.words.specs.Store.{canonical}
 use Rattle.rules.specs.Table.{all, distinct}
-use Rattle.rules.specs.State.{Topic, Dispatcher, State, same_pair}
-use Rattle.rules.specs.Valid.{valid_topic, ascending, valid_consumer, valid_dispatcher, sound, valid}
+use Rattle.rules.specs.State.{Topic, State}
+use Rattle.rules.specs.Valid.{valid_topic, ascending, valid_consumer, sound, valid}
 use Rattle.rules.specs.Calls.{needed}
 use Rattle.layout.specs.Layout.{body_codec, decode, spells}
 use Rattle.layout.specs.Whole.{Shaped}
@@ -22,14 +22,6 @@ use Rattle.layout.proofs.Spells.{says_header, says_canon, spells_parts}
 use Rattle.check_state.specs.Dispatchers.{dispatchers_right}
 
 -- ---- a state
-
--- the tests of topics, consumers and dispatchers
-grouped : (a b c d e f : Bool) → ((a && b) && ((c && d) && (e && f))) ≡ (a && b && true && c && d && true && e && f)
-grouped true true true true e f = refl
-grouped true true true false e f = refl
-grouped true true false d e f = refl
-grouped true false c d e f = refl
-grouped false b c d e f = refl
 
 -- topics whose numbers are distinct and that are each valid
 abbrev topics_right : ℕ → State → Bool
@@ -48,9 +40,7 @@ by_tables s h =
       le-leb (length s.consumers) 32 h.consumers_fit,
       le-leb (length s.dispatchers) 8 h.dispatchers_fit,
     )
-    (grouped (distinct eqb (map (λ (t : Topic). t.number) s.topics)) (all (valid_topic s.entries) s.topics)
-    (ascending s.consumers) (all (valid_consumer s) s.consumers)
-    (distinct same_pair (map (λ (d : Dispatcher). d.pair) s.dispatchers)) (all (valid_dispatcher s) s.dispatchers))
+    (simp and_assoc refl)
 
 -- with E in its range they are all the rules
 by_parts : (s : State) → Shaped s → sound s ≡ valid s
@@ -66,12 +56,6 @@ state_by_tables {e} {ws} h =
 
 -- ---- words
 
--- four tests, one after the other
-in_order : (a b c d : Bool) → (a && (b && (c && d))) ≡ (a && b && c && d)
-in_order true true c d = refl
-in_order true false c d = refl
-in_order false b c d = refl
-
 module _ (ws : List ℕ) where
   -- what a right header allows: reading E, and computing with it
   pub header_gives : header_right ws ≡ true → (1 < length ws) × (get_or ws 1 0 ≤ 4096)
@@ -84,7 +68,7 @@ module _ (ws : List ℕ) where
     -- that words spell a state, as the code tests it: the header, the length that E needs, the body, the rules
     pub spells_tests : (header_right ws && (leb (4096 + 128 * e) (length ws) && (canonical (body_codec e) (drop 16 ws) && valid (decode ws)))) ≡ spells ws
     unfolding needed
-    spells_tests = rw q (in_order (header_right ws) _ _ _ ∙ sym (spells_parts ws))
+    spells_tests = let s = simp and_assoc at spells_parts ws in rw q (sym s)
 
     -- words that pass the first three tests are well spelt
     pub well_spelt : header_right ws ≡ true → 4096 + 128 * e ≤ length ws → canonical (body_codec e) (drop 16 ws) ≡ true → CanonStore e ws

@@ -1,29 +1,27 @@
 -- The rules for a consumer by the parts that the check tests, and what its words come to.
-use mathlib.Core.Path.{◌≡◌, refl, sym, ◌∙◌}
-use mathlib.Core.Bool.{Bool, true, false, ◌&&◌}
-use Prim.Native.Nat.{ℕ, ◌^◌, ◌≤◌, ◌<◌}
-use native.Mathlib.Omega.{arith}
+use mathlib.Core.Path.{◌≡◌, refl, sym, ap, ◌∙◌}
+use mathlib.Core.Bool.{Bool, true, ◌&&◌, and_assoc}
+use mathlib.Core.List.{List}
+use Prim.Native.Nat.{ℕ, ◌+◌, ◌^◌, ◌≤◌, ◌<◌}
 use lib.Dec.{leb}
-use lib.ListN.{length}
-use borrow.Author.Tests.{le-leb}
+use lib.ListN.{length, get_or}
+use borrow.Author.Tests.{le-leb, leb-true, leb-false}
+use Rattle.rules.proofs.Table.{by_test}
+use Rattle.layout.proofs.Slices.{byte_over, byte_fits}
 use Rattle.words.specs.Codec.{bit}
 use Rattle.rules.specs.Permits.{least_permits, most_permits}
 use Rattle.rules.specs.Table.{member}
 use Rattle.rules.specs.State.{Kind, by_kind, Consumer, State, ledger_of, dispatcher}
 use Rattle.rules.specs.State.Kind.{plain, shared}
+use Rattle.rules.specs.Calls.{kind_from}
 use Rattle.rules.specs.Valid.{is_byte, valid_consumer}
 use Rattle.rules.proofs.Valid.{says_word}
 use Rattle.layout.specs.Records.{flag_of}
+use Rattle.layout.specs.Offsets.{consumer_at}
+use Rattle.layout.specs.Fields.{consumer_now}
+use Rattle.layout.specs.Placed.{ConsumerIn}
+use Rattle.layout.proofs.Gets.{read_consumer_topic, read_consumer_subscription, read_consumer_permits}
 use Rattle.check_state.specs.ValidConsumers.{numbers_valid, nacked_valid, places_valid, attached_valid}
-
--- the tests of a consumer, grouped by the functions that make them
-grouped : (a b p q u n r : Bool) → (a && b && p && q && u && true && n && r) ≡ (a && (b && (p && q)) && (u && n && r))
-grouped true true true true true n r = refl
-grouped true true true true false n r = refl
-grouped true true true false u n r = refl
-grouped true true false q u n r = refl
-grouped true false p q u n r = refl
-grouped false b p q u n r = refl
 
 -- a consumer whose id is a word and whose nacked positions fit
 pub consumer_by_parts : (s : State) (c : Consumer) → c.id < 2 ^ 64 → length c.nacked ≤ 64
@@ -33,30 +31,47 @@ consumer_by_parts s c w f =
     let n = length (ledger_of s c.pair.topic) in
     sym
     (rw ((says_word c.id).given w, le-leb (length c.nacked) 64 f)
-    (grouped (is_byte c.pair.topic) (is_byte c.pair.subscription) (leb least_permits c.permits) (leb c.permits most_permits)
-    (leb c.cursor n) (nacked_valid n c) (attached_valid s c)))
+    (simp and_assoc refl))
 
--- a plain consumer, whose kind is the word 0, is asked nothing
-plain_kind : (k : Kind) (t : Bool) → bit (flag_of k) ≡ 0 → true ≡ by_kind k true t
-unfolding by_kind
-plain_kind plain t e = refl
-plain_kind shared t e = absurd (omega arith)
+-- the kind that a store has of a consumer is read back
+kind_read : (k : Kind) → kind_from (bit (flag_of k)) ≡ k
+unfolding kind_from
+kind_read plain = refl
+kind_read shared = refl
 
--- a shared one is asked the test
-shared_kind : (k : Kind) (t : Bool) → (bit (flag_of k) ≡ 0 → ⊥) → t ≡ by_kind k true t
-unfolding by_kind
-shared_kind plain t f = absurd (f refl)
-shared_kind shared t f = refl
+module _ (s : State) (c : Consumer) {w : ℕ} {k : Kind} (word : w ≡ bit (flag_of c.kind)) (kind : k ≡ kind_from w) where
+  -- the consumer's kind
+  kind_is : c.kind ≡ k
+  kind_is = sym (kind ∙ ap kind_from word ∙ kind_read c.kind)
 
-module _ (s : State) (c : Consumer) where
   -- a plain consumer passes
-  pub plain_passes : bit (flag_of c.kind) ≡ 0 → true ≡ attached_valid s c
-  unfolding attached_valid
-  plain_passes e = plain_kind c.kind (member c.id (dispatcher s c.pair).attached) e
+  pub plain_passes : k ≡ plain → true ≡ attached_valid s c
+  unfolding attached_valid by_kind
+  plain_passes e = rw (kind_is ∙ e)
 
   -- of a shared one the ring decides, asked by the words read
-  pub ring_decides : {r : Bool} {i t u : ℕ} → (bit (flag_of c.kind) ≡ 0 → ⊥) → i ≡ c.id → t ≡ c.pair.topic → u ≡ c.pair.subscription
+  pub ring_decides : {r : Bool} {i t u : ℕ} → k ≡ shared → i ≡ c.id → t ≡ c.pair.topic → u ≡ c.pair.subscription
       → r ≡ member i (dispatcher s (record { topic = t; subscription = u })).attached → r ≡ attached_valid s c
-  unfolding attached_valid
-  ring_decides f x y z e =
-      (rw (x, y, z) at e) ∙ shared_kind c.kind (member c.id (dispatcher s c.pair).attached) f
+  unfolding attached_valid by_kind
+  ring_decides f x y z e = rw (kind_is ∙ f) (rw (x, y, z) at e)
+
+-- a byte, as the code tests it
+byte_tested : (n : ℕ) → leb n 255 ≡ is_byte n
+byte_tested n =
+    by_test (leb n 255) (λ t. t ∙ sym (byte_fits n (leb-true n 255 t))) (λ t. t ∙ sym (byte_over n (leb-false n 255 t)))
+
+-- the numbers of a consumer, by the words that are read of it
+pub numbers_read : {e : ℕ} {ws : List ℕ} {i at : ℕ} → ConsumerIn e ws i → at ≡ consumer_at i
+    → (leb (get_or ws (at + 1) 0) 255 && (leb (get_or ws (at + 2) 0) 255
+    && (leb least_permits (get_or ws (at + 4) 0) && leb (get_or ws (at + 4) 0) most_permits)))
+    ≡ numbers_valid (consumer_now ws i)
+unfolding numbers_valid
+numbers_read {ws = ws} {i = i} h p =
+    rw (
+      p,
+      read_consumer_topic h.canon _ h.there,
+      read_consumer_subscription h.canon _ h.there,
+      read_consumer_permits h.canon _ h.there,
+      byte_tested (consumer_now ws i).pair.topic,
+      byte_tested (consumer_now ws i).pair.subscription,
+    )

@@ -8,4 +8,4 @@ pub mod MarkRuns
 pub mod MarkWords
 pub mod Pairs
 pub mod Ranges
-pub mod Stamps
+pub mod StampSteps

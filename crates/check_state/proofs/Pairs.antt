@@ -12,7 +12,7 @@ use Rattle.layout.specs.Canon.{CanonStore}
 use Rattle.layout.specs.Fields.{zero_pair, zero_dispatcher}
 use Rattle.layout.proofs.GetsDispatcher.{read_dispatcher_topic, read_dispatcher_subscription}
 use Rattle.check_rows.specs.Rows.{row, row_second, twos_distinct}
-use Rattle.check_state.specs.Places.{Under}
+use Rattle.check_state.specs.Stamps.{Under}
 use Rattle.store.proofs.Rooms.{room_le}
 use Rattle.check_rows.proofs.Zeros.{zeros}
 use Rattle.check_rows.proofs.RowLists.{twos_list}

@@ -1,6 +1,6 @@
 -- Numbers in their ranges, as the code tests them: next in a ring, and what a passed head says of the cursor.
-use mathlib.Core.Path.{◌≡◌, refl}
-use mathlib.Core.Bool.{Bool, true, false, ◌&&◌, false≢true}
+use mathlib.Core.Path.{◌≡◌}
+use mathlib.Core.Bool.{Bool, true, ◌&&◌, and-eq-true_iff}
 use mathlib.Core.List.{List}
 use Prim.Native.Nat.{ℕ, ◌+◌, ◌≤◌}
 use native.Mathlib.Omega.{arith}
@@ -26,19 +26,14 @@ next_slot next n f = rw (ne_eqb n 0 f) (by_test (ltb next n) (λ t. rw t) (λ t.
 
 -- ---- a head that passed
 
--- the fifth of six tests
-fifth : (a b c d f g : Bool) → (a && (b && (c && (d && (f && g))))) ≡ true → f ≡ true
-fifth false b c d f g e = absurd (false≢true e)
-fifth true false c d f g e = absurd (false≢true e)
-fifth true true false d f g e = absurd (false≢true e)
-fifth true true true false f g e = absurd (false≢true e)
-fifth true true true true false g e = e
-fifth true true true true true g e = refl
+-- the tests after the first pass where all do
+later : (a : Bool) {b : Bool} → (a && b) ≡ true → b ≡ true
+later a {b} e = ((and-eq-true_iff a b).0 e).1
 
 -- its cursor is not past the entries
 pub head_cursor : (ws : List ℕ) (at n : ℕ) → head_right ws at n ≡ true → get_or ws (at + 3) 0 ≤ n
 unfolding head_right
 head_cursor ws at n e =
     leb-true (get_or ws (at + 3) 0) n
-    (fifth (is_byte (get_or ws at 0)) (is_byte (get_or ws (at + 1) 0)) (leb least_total (get_or ws (at + 5) 0)) (leb (get_or ws (at + 5) 0) most_total)
-    (leb (get_or ws (at + 3) 0) n) (leb (get_or ws (at + 4) 0) n) e)
+    ((and-eq-true_iff (leb (get_or ws (at + 3) 0) n) (leb (get_or ws (at + 4) 0) n)).0 (later (leb (get_or ws (at + 5) 0) most_total)
+    (later (leb least_total (get_or ws (at + 5) 0)) (later (is_byte (get_or ws (at + 1) 0)) (later (is_byte (get_or ws at 0)) e))))).0

@@ -1,10 +1,11 @@
 -- A dispatcher tested over words, part by part, and the room that its words take.
-use Rattle.std.specs.Prelude.{ℕ, ◌+◌, ◌*◌, ◌≤◌, Bool, ◌&&◌, ◌||◌, List, map, eqb, leb, ltb, length, get_or}
+use Rattle.std.specs.Prelude.{ℕ, ◌+◌, ◌*◌, ◌≤◌, ◌≡◌, Bool, ◌&&◌, ◌||◌, List, map, eqb, leb, ltb, length, get_or}
 use Rattle.rules.specs.Permits.{least_total, most_total}
 use Rattle.rules.specs.Table.{all, distinct}
 use Rattle.rules.specs.State.{Dispatcher, State, same_pair}
 use Rattle.rules.specs.Valid.{is_byte, valid_dispatcher}
 use Rattle.check_rows.specs.Rows.{rows_distinct}
+use Rattle.check_rows.specs.declared.PairRows.{PairRows}
 use Rattle.check_state.specs.Places.{places_right}
 use Rattle.check_state.specs.Marks.{marks_right, outside_right}
 
@@ -16,6 +17,12 @@ pub record DispatcherRoom (e : ℕ) (ws : List ℕ) (at : ℕ) : Type 0 where
   pub outside_count : get_or ws (at + 44) 0 ≤ 64
   pub queue_count : get_or ws (at + 173) 0 ≤ e
   pub flight_count : get_or ws (at + 174 + e) 0 ≤ e
+
+-- rows that are a ledger of the same store
+pub record LedgerIn (e : ℕ) (ws : List ℕ) (r : PairRows) : Type 0 where
+  pub same_store : r.rows.store.now ≡ ws
+  pub width : r.rows.width ≡ 4
+  pub few : r.rows.count ≤ e
 
 -- its head: topic and subscription are bytes, the total is in range, cursor and mark-delete are not past the entries
 unfoldable pub head_right : List ℕ → ℕ → ℕ → Bool

@@ -1,4 +1,5 @@
 pub mod Dispatchers
 pub mod Marks
 pub mod Places
+pub mod Stamps
 pub mod ValidConsumers

@@ -1,8 +1,10 @@
 -- The places of a dispatcher, tested over words: positions in flight and queued, told apart by the stamps that a pass puts
--- on them, one stamp for each dispatcher.
-use Rattle.std.specs.Prelude.{ℕ, ◌+◌, ◌<◌, ◌≡◌, Bool, true, false, not, ◌&&◌, ◌||◌, List, eqb, ltb, length, get_or}
+-- on them.
+use Rattle.std.specs.Prelude.{ℕ, ◌+◌, ◌<◌, ◌≡◌, Bool, true, false, not, ◌&&◌, ◌||◌, List, ltb, get_or, set}
 use Rattle.check_rows.specs.Below.{each_below}
 use Rattle.check_rows.specs.Rows.{row, among}
+use Rattle.check_state.specs.Stamps.{stamped, Under}
+use Rattle.check_state.specs.declared.stamps.Stamps.{Stamps}
 
 -- whether the holder of entry j is a ring id
 abbrev pub held_right : List ℕ → ℕ → ℕ → ℕ → ℕ → Bool
@@ -21,25 +23,28 @@ fresh_place ws first w cursor seen j =
 unfoldable pub fresh_places : List ℕ → ℕ → ℕ → ℕ → ℕ → (ℕ → Bool) → Bool
 fresh_places ws first w n cursor seen = each_below (fresh_place ws first w cursor seen) n
 
--- whether a position carries a stamp
-unfoldable pub stamped : List ℕ → ℕ → ℕ → Bool
-stamped stamps stamp p = eqb (get_or stamps p 0) stamp
+-- no position carries the stamp that is put on now
+abbrev pub Unused : Stamps → Type 0
+Unused s = Under s.list s.stamp
 
--- every stamp is below a number
-abbrev pub Under : List ℕ → ℕ → Type 0
-Under stamps b = (p : ℕ) → get_or stamps p 0 < b
+-- what is answered of one position and left: a fresh one is stamped
+pub record Stepped (p cursor : ℕ) (before after : Stamps) (r : Bool) : Type 0 where
+  pub answer : r ≡ (ltb p cursor && not (stamped before.list before.stamp p))
+  pub put : r ≡ true → after.list ≡ set before.list p before.stamp
+  pub same : after.stamp ≡ before.stamp
 
 -- what a pass over n positions answers and leaves: where all are fresh, they are stamped besides those that were
-pub record Placed (ws : List ℕ) (first w n cursor stamp : ℕ) (before after : List ℕ) (r : Bool) : Type 0 where
-  pub answer : r ≡ fresh_places ws first w n cursor (stamped before stamp)
-  pub seen : r ≡ true → (p : ℕ) → p < length before → stamped after stamp p ≡ (stamped before stamp p || among ws first w n p)
-  pub others : Under before (stamp + 1) → Under after (stamp + 1)
+pub record Placed (ws : List ℕ) (first w n cursor : ℕ) (before after : Stamps) (r : Bool) : Type 0 where
+  pub answer : r ≡ fresh_places ws first w n cursor (stamped before.list before.stamp)
+  pub seen : r ≡ true → (p : ℕ) → p < 4096
+      → stamped after.list after.stamp p ≡ (stamped before.list before.stamp p || among ws first w n p)
+  pub same : after.stamp ≡ before.stamp
 
 -- what a pass over n entries in flight, a holder and a position each, answers and leaves
-pub record Flown (ws : List ℕ) (ring count first n cursor stamp : ℕ) (before after : List ℕ) (r : Bool) : Type 0 where
-  pub answer : r ≡ (holders_right ws ring count first n && fresh_places ws (first + 1) 2 n cursor (stamped before stamp))
-  pub seen : r ≡ true → (p : ℕ) → p < length before → stamped after stamp p ≡ (stamped before stamp p || among ws (first + 1) 2 n p)
-  pub others : Under before (stamp + 1) → Under after (stamp + 1)
+pub record Flown (ws : List ℕ) (ring count first n cursor : ℕ) (before after : Stamps) (r : Bool) : Type 0 where
+  pub answer : r ≡ (holders_right ws ring count first n && fresh_places ws (first + 1) 2 n cursor (stamped before.list before.stamp))
+  pub placed : r ≡ true → Placed ws (first + 1) 2 n cursor before after true
+  pub same : after.stamp ≡ before.stamp
 
 -- the places of the dispatcher at an offset: holders in the ring, positions in flight and then queued fresh
 unfoldable pub places_right : List ℕ → ℕ → ℕ → Bool
@@ -49,7 +54,12 @@ places_right ws e at =
     && fresh_places ws (at + 174) 1 (get_or ws (at + 173) 0) (get_or ws (at + 3) 0)
     (λ p. among ws (at + 176 + e) 2 (get_or ws (at + 174 + e) 0) p))
 
--- what a test that stamps positions answers, and that it puts no stamp above its own
-pub record Tested (stamp : ℕ) (after : List ℕ) (r right : Bool) : Type 0 where
+-- what a test that stamps positions answers, and that it keeps to its stamp
+pub record Tested (before after : Stamps) (r right : Bool) : Type 0 where
   pub answer : r ≡ right
-  pub others : Under after (stamp + 1)
+  pub same : after.stamp ≡ before.stamp
+
+-- what the test of dispatcher d answers, and that it took the next stamp
+pub record Counted (d : ℕ) (after : Stamps) (r right : Bool) : Type 0 where
+  pub answer : r ≡ right
+  pub stamp : after.stamp ≡ d + 1

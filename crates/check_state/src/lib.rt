@@ -3,6 +3,8 @@
 // the rules on states. Nothing is required of the words.
 #![tactic(auto)]
 
+mod dispatcher_at;
+mod stamps;
 mod valid_consumers;
 mod valid_dispatchers;
 mod valid_marks;
@@ -27,10 +29,10 @@ fn state_valid(store: &[u64], e: usize) -> bool
     requires { CanonStore e store.now }
     ensures { result ≡ valid (decode store.now) }
 {
-    let mut ascend = [false; 9];
-    topics_valid(store, e, &mut ascend)
-        && consumers_valid(store, e)
-        && dispatchers_valid(store, e, &ascend)
+    let Some(topics) = topics_valid(store, e) else {
+        return false;
+    };
+    consumers_valid(store, e) && dispatchers_valid(&topics)
 }
 
 // Whether the words spell a state.
@@ -41,11 +43,7 @@ pub fn spells(store: &[u64]) -> bool
         return false;
     }
     let e = word(store, ENTRIES_AT);
-    if store.len() < NEEDED_WORDS + NEEDED_WORDS_E * e {
-        return false;
-    }
-    if !body_canonical(store, e) {
-        return false;
-    }
-    state_valid(store, e)
+    NEEDED_WORDS + NEEDED_WORDS_E * e <= store.len()
+        && body_canonical(store, e)
+        && state_valid(store, e)
 }

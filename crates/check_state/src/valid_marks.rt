@@ -4,9 +4,9 @@ ghost use Rattle.std.specs.Prelude.{◌≡◌, true, ◌+◌, ◌*◌, ◌≤◌
 ghost use Rattle.bits.specs.Four.{words};
 ghost use Rattle.check_rows.specs.Rows.{twos_ascend};
 ghost use Rattle.check_state.specs.Marks.{mark_fits, joined, marks_right, absent, outside_right};
-ghost use Rattle.check_state.specs.Dispatchers.{DispatcherRoom, rest_right};
-ghost use Rattle.layout.specs.Offsets.{outside_in};
+ghost use Rattle.check_state.specs.Dispatchers.{rest_right};
 
+use super::dispatcher_at::DispatcherAt;
 use bits::UnackedBits;
 use check_rows::{PairRows, Rows};
 use store::limits::MOST_REDELIVERIES;
@@ -46,36 +46,6 @@ fn joined(bits: UnackedBits, store: &[u64], at: usize) -> UnackedBits
     }
 }
 
-// Whether n marks are one for each entry, and each suits its entry. The marks of entries that follow
-// each other and have one batch size are or-ed together and tested once: no count or-ed is too great,
-// and no bit too high, unless one mark's is.
-fn marks_valid(store: &[u64], ledger: usize, entries: usize, first: usize, n: usize) -> bool
-    requires { (ledger + entries * 4 ≤ length store.now) × (first + entries * 6 ≤ length store.now) }
-    ensures { result ≡ marks_right store.now ledger entries first n }
-{
-    if n != entries {
-        return false;
-    }
-    let mut batch = 0;
-    let mut count = 0;
-    let mut bits = UnackedBits::fresh_unacked_bits(0);
-    for i in 0..n {
-        let next = store[ledger + i * MESSAGE_WORDS + BATCH_IN];
-        if next != batch {
-            if !mark_fits(count, bits, batch) {
-                return false;
-            }
-            batch = next;
-            count = 0;
-            bits = UnackedBits::fresh_unacked_bits(0);
-        }
-        let at = first + i * MARK_WORDS;
-        count |= store[at + REDELIVERY_COUNT_IN];
-        bits = joined(bits, store, at);
-    }
-    mark_fits(count, bits, batch)
-}
-
 // Whether none of the ids, which ascend, stands in the ledger. Where the ledger's ids ascend too, as
 // they mostly do, ids above the last entry are told by the first of them, and others are searched for
 // by halves.
@@ -94,32 +64,57 @@ fn ids_absent(ids: &Rows, ledger: &PairRows) -> bool
     (0..ids.count).all(|j| !ledger.has(ids.word(j), ids.second(j)))
 }
 
-// Whether the outside ids of the dispatcher at `at` ascend and none stands in the ledger.
-fn outside_valid(store: &[u64], at: usize, ledger: &PairRows) -> bool
-    requires room { (get_or store.now (at + outside_in) 0 ≤ 64) × (at + 176 ≤ length store.now) }
-    requires ledger { (ledger.now.rows.store.now ≡ store.now) × (ledger.now.rows.width ≡ 4) }
-    ensures { result ≡ outside_right store.now at ledger.now.rows.first ledger.now.rows.count }
-{
-    let ids = Rows {
-        store,
-        first: at + OUTSIDE_IDS_IN,
-        width: ID_WORDS,
-        count: word(store, at + OUTSIDE_IN),
-    };
-    ids.pairs_ascend() && ids_absent(&ids, ledger)
-}
+impl DispatcherAt<'_> {
+    // Whether its marks are one for each entry, and each suits its entry. The marks of entries that follow
+    // each other and have one batch size are or-ed together and tested once: no count or-ed is too great,
+    // and no bit too high, unless one mark's is.
+    fn marks_valid(&self) -> bool
+        ensures { result ≡ marks_right self.now.store.now self.now.ledger.rows.first self.now.ledger.rows.count
+            (self.now.at + 176 + 3 * self.now.e) (get_or self.now.store.now (self.now.at + 175 + 3 * self.now.e) 0) }
+    {
+        let ledger = self.ledger.rows.first;
+        let n = word(self.store, self.at + MARKS_IN + MARKS_IN_E * self.e);
+        if n != self.ledger.rows.count {
+            return false;
+        }
+        let first = self.at + MARK_IN + MARKS_IN_E * self.e;
+        let mut batch = 0;
+        let mut count = 0;
+        let mut bits = UnackedBits::fresh_unacked_bits(0);
+        for i in 0..n {
+            let next = self.store[ledger + i * MESSAGE_WORDS + BATCH_IN];
+            if next != batch {
+                if !mark_fits(count, bits, batch) {
+                    return false;
+                }
+                batch = next;
+                count = 0;
+                bits = UnackedBits::fresh_unacked_bits(0);
+            }
+            let at = first + i * MARK_WORDS;
+            count |= self.store[at + REDELIVERY_COUNT_IN];
+            bits = joined(bits, self.store, at);
+        }
+        mark_fits(count, bits, batch)
+    }
 
-// What looks into the ledger: marks and outside ids.
-pub(crate) fn rest_valid(store: &[u64], e: usize, at: usize, ledger: &PairRows) -> bool
-    requires room { DispatcherRoom e store.now at }
-    requires ledger { (ledger.now.rows.store.now ≡ store.now) × (ledger.now.rows.width ≡ 4) × (ledger.now.rows.count ≤ e) }
-    ensures { result ≡ rest_right store.now e at ledger.now.rows.first ledger.now.rows.count }
-{
-    marks_valid(
-        store,
-        ledger.rows.first,
-        ledger.rows.count,
-        at + MARK_IN + MARKS_IN_E * e,
-        word(store, at + MARKS_IN + MARKS_IN_E * e),
-    ) && outside_valid(store, at, ledger)
+    // Whether its outside ids ascend and none stands in the ledger.
+    fn outside_valid(&self) -> bool
+        ensures { result ≡ outside_right self.now.store.now self.now.at self.now.ledger.rows.first self.now.ledger.rows.count }
+    {
+        let ids = Rows {
+            store: self.store,
+            first: self.at + OUTSIDE_IDS_IN,
+            width: ID_WORDS,
+            count: word(self.store, self.at + OUTSIDE_IN),
+        };
+        ids.pairs_ascend() && ids_absent(&ids, &self.ledger)
+    }
+
+    // What looks into the ledger: marks and outside ids.
+    pub(crate) fn rest_valid(&self) -> bool
+        ensures { result ≡ rest_right self.now.store.now self.now.e self.now.at self.now.ledger.rows.first self.now.ledger.rows.count }
+    {
+        self.marks_valid() && self.outside_valid()
+    }
 }

@@ -1,8 +1,8 @@
 -- Topics whose ids ascend are valid ones, and what is known of their order.
-use mathlib.Core.Path.{◌≡◌, refl, sym, ap, ◌∙◌}
-use mathlib.Core.Bool.{Bool, true, false, and-eq-true_iff}
+use mathlib.Core.Path.{◌≡◌, refl, sym, ap, ap₂, ◌∙◌, subst}
+use mathlib.Core.Bool.{Bool, true, false, ◌&&◌, and-eq-true_iff}
 use mathlib.Core.List.{List}
-use Prim.Native.Nat.{ℕ, ◌+◌, ◌*◌, ◌≤◌, ◌<◌}
+use Prim.Native.Nat.{ℕ, ◌+◌, ◌≤◌, ◌<◌}
 use native.Mathlib.Omega.{arith}
 use lib.Dec.{eqb, leb, ltb}
 use lib.ListN.{length, get_or, set, replicate, length-map, get_or-map, get_or-replicate, length-replicate, get_or-eq_default}
@@ -11,7 +11,7 @@ use borrow.Author.Tests.{eqb-true, eqb-false, ltb-true, ltb-false}
 use Rattle.std.proofs.Common.{Some, None}
 use Rattle.bits.specs.Bits.{AreWords}
 use Rattle.rules.specs.Table.{all, distinct}
-use Rattle.rules.specs.State.{Id, same_id, StoredMessage, by_number, ledger_of}
+use Rattle.rules.specs.State.{Id, same_id, StoredMessage}
 use Rattle.rules.specs.Ledger.{no_message}
 use Rattle.rules.specs.Valid.{valid_message, valid_topic}
 use Rattle.rules.proofs.Table.{by_test}
@@ -19,15 +19,13 @@ use Rattle.rules.proofs.State.{decides_ids}
 use Rattle.layout.specs.Layout.{decode}
 use Rattle.layout.specs.Canon.{CanonStore}
 use Rattle.layout.specs.Fields.{topic_nth}
-use Rattle.layout.specs.Offsets.{topic_at, message_in}
+use Rattle.layout.specs.Offsets.{topic_at, messages_in, message_in}
 use Rattle.layout.proofs.Gets.{read_message_count, read_message_ledger, read_message_entry, read_message_handle, read_message_batch}
 use Rattle.check_rows.specs.Below.{each_below}
-use Rattle.store.specs.Find.{slot}
-use Rattle.check_rows.specs.Rows.{row, row_second, twos_ascend}
-use Rattle.check_topics.specs.Orders.{batch_right, messages_ascend, ledger_ascends, topic_order, Known}
+use Rattle.check_rows.specs.Rows.{row, row_second, twos_distinct, twos_ascend}
+use Rattle.check_topics.specs.Orders.{batch_right, messages_ascend, messages_distinct, ledger_ascends, topic_order, Known}
 use Rattle.check_rows.proofs.Below.{each_same}
 use Rattle.check_rows.proofs.Elements.{all_each}
-use Rattle.topic.proofs.Ledgers.{ledger_at, ledger_none}
 use Rattle.check_rows.proofs.RowLists.{twos_list}
 use Rattle.check_rows.proofs.RowOrder.{ascend_distinct}
 use Rattle.check_topics.proofs.Topics.{ids, messages_valid, message_words}
@@ -39,15 +37,15 @@ module _ {e : ℕ} {ws : List ℕ} (h : CanonStore e ws) (t : ℕ) (k : t < leng
 
   -- where they stand
   abbrev first : ℕ
-  first = 2326 + t * (4 + 4 * e)
+  first = topic_at e t + message_in 0
 
   -- a word of message j
   word_of : {n : ℕ} {v : ℕ} (place : ℕ) → n ≡ place → get_or ws place 0 ≡ v → get_or ws n 0 ≡ v
   word_of place p r = ap (λ (i : ℕ). get_or ws i 0) p ∙ r
 
   -- as many as the count says
-  pub order_count : get_or ws (2325 + t * (4 + 4 * e)) 0 ≡ length messages
-  order_count = word_of (topic_at e t + 3) (omega arith) (read_message_count h t k)
+  pub order_count : get_or ws (topic_at e t + messages_in) 0 ≡ length messages
+  order_count = read_message_count h t k
 
   -- the ids
   spell : (j : ℕ) → j < length (ids messages)
@@ -59,14 +57,12 @@ module _ {e : ℕ} {ws : List ℕ} (h : CanonStore e ws) (t : ℕ) (k : t < leng
         word_of (topic_at e t + message_in j + 1) (omega arith) (read_message_entry h t k j m) ∙ ap (λ (i : Id). i.entry) s,
       )
 
-  -- ids that ascend are distinct
-  ids_apart : twos_ascend ws first 4 (length messages) ≡ true → distinct same_id (ids messages) ≡ true
+  -- whether no id stands twice
+  ids_read : twos_distinct ws first 4 (length messages) ≡ distinct same_id (ids messages)
   unfolding same_id
-  ids_apart a =
-      let n = length-map messages (λ (m : StoredMessage). m.id) in
-      let b : twos_ascend ws first 4 (length (ids messages)) ≡ true = rw n a in
-      sym (twos_list same_id decides_ids (λ i. i.ledger) (λ i. i.entry) (λ a b. refl) ws first 4 (ids messages) no_message.id spell)
-      ∙ ascend_distinct ws first 4 (length (ids messages)) b
+  ids_read =
+      subst (λ (n : ℕ). twos_distinct ws first 4 n ≡ distinct same_id (ids messages)) (length-map messages (λ (m : StoredMessage). m.id))
+      (twos_list same_id decides_ids (λ i. i.ledger) (λ i. i.entry) (λ a b. refl) ws first 4 (ids messages) no_message.id spell)
 
   module _ (are_words : AreWords ws) where
     -- the tests of the batch sizes are those of the messages
@@ -82,12 +78,17 @@ module _ {e : ℕ} {ws : List ℕ} (h : CanonStore e ws) (t : ℕ) (k : t < leng
         (omega (arith, are_words (at + 2), read_message_handle h t k j l)))
         ∙ sym (all_each valid_message messages no_message)
 
-    -- messages of right sizes whose ids ascend are valid
+    -- messages of right sizes whose ids are distinct are the valid ones
+    pub distinct_valid : messages_distinct ws first (length messages) ≡ messages_valid messages
+    unfolding messages_distinct
+    distinct_valid = ap₂ ◌&&◌ batches ids_read
+
+    -- those whose ids ascend are valid
     pub ascend_valid : messages_ascend ws first (length messages) ≡ true → (messages_valid messages ≡ true) × (ledger_ascends e ws t ≡ true)
     unfolding messages_ascend
     ascend_valid a =
         let p = (and-eq-true_iff (each_below (batch_right ws first) (length messages)) (twos_ascend ws first 4 (length messages))).0 a in
-        (rw (sym batches ∙ p.0, ids_apart p.1), rw order_count p.1)
+        (rw (sym batches ∙ p.0, sym ids_read ∙ ascend_distinct ws first 4 (length messages) p.1), rw order_count p.1)
 
     -- those that are valid and not of that kind have ids that do not ascend
     pub valid_mixed : messages_ascend ws first (length messages) ≡ false → messages_valid messages ≡ true → ledger_ascends e ws t ≡ false
@@ -142,25 +143,3 @@ known_more e ws ascend t b l q f j h =
     let s : j ≡ t = eqb-true j t u in
     rw s ((order_some e ws t q).1 ∙ sym (get_or-set_same ascend t b false l) ∙ (rw s at h)))
     (λ u. f j (sym (get_or-set_other ascend t j b false (eqb-false j t u)) ∙ h))
-
--- no rows ascend
-none_ascend : (ws : List ℕ) (first : ℕ) → twos_ascend ws first 4 0 ≡ true
-unfolding twos_ascend each_below
-none_ascend ws first = refl
-
--- a topic known to ascend, by the ledger of its number
-pub known_ledger : {e : ℕ} {ws : List ℕ} → CanonStore e ws → (ascend : List Bool) (topic t n : ℕ) → Known e ws ascend
-    → t ≡ slot by_number topic (decode ws).topics → n ≡ length (ledger_of (decode ws) topic)
-    → get_or ascend t false ≡ true → twos_ascend ws (2326 + t * (4 + 4 * e)) 4 n ≡ true
-known_ledger {e} {ws} h ascend topic t n f s q u =
-    by_test (ltb (slot by_number topic (decode ws).topics) (length (decode ws).topics))
-    (λ x.
-    let l = ltb-true (slot by_number topic (decode ws).topics) (length (decode ws).topics) x in
-    let m : n ≡ get_or ws (2325 + t * (4 + 4 * e)) 0 =
-    q ∙ ap (λ (a : List StoredMessage). length a) (ledger_at (decode ws) topic l)
-    ∙ sym (rw s (order_count h (slot by_number topic (decode ws).topics) l)) in
-    rw m (f t u))
-    (λ x.
-    let l = ltb-false (slot by_number topic (decode ws).topics) (length (decode ws).topics) x in
-    let m : n ≡ 0 = q ∙ ap (λ (a : List StoredMessage). length a) (ledger_none (decode ws) topic l) in
-    rw m (none_ascend ws (2326 + t * (4 + 4 * e))))

@@ -1,1 +1,2 @@
+pub mod Ledgers
 pub mod Orders

@@ -3,8 +3,9 @@ use Rattle.std.specs.Prelude.{ℕ, ◌+◌, ◌*◌, ◌≡◌, Bool, true, fals
 use Rattle.rules.specs.Valid.{valid_topic}
 use Rattle.layout.specs.Layout.{decode}
 use Rattle.layout.specs.Fields.{topic_nth}
+use Rattle.layout.specs.Offsets.{topic_at, messages_in, message_in}
 use Rattle.check_rows.specs.Below.{each_below}
-use Rattle.check_rows.specs.Rows.{twos_ascend}
+use Rattle.check_rows.specs.Rows.{twos_distinct, twos_ascend}
 
 -- whether the batch size of message j, of those from an offset on, is at most 256
 abbrev pub batch_right : List ℕ → ℕ → ℕ → Bool
@@ -14,9 +15,13 @@ batch_right ws first j = leb (get_or ws (first + j * 4 + 3) 0) 256
 unfoldable pub messages_ascend : List ℕ → ℕ → ℕ → Bool
 messages_ascend ws first n = each_below (batch_right ws first) n && twos_ascend ws first 4 n
 
+-- whether n messages have batch sizes of at most 256 and no id twice
+unfoldable pub messages_distinct : List ℕ → ℕ → ℕ → Bool
+messages_distinct ws first n = each_below (batch_right ws first) n && twos_distinct ws first 4 n
+
 -- whether the ids of the ledger in slot t ascend
 abbrev pub ledger_ascends : ℕ → List ℕ → ℕ → Bool
-ledger_ascends e ws t = twos_ascend ws (2326 + t * (4 + 4 * e)) 4 (get_or ws (2325 + t * (4 + 4 * e)) 0)
+ledger_ascends e ws t = twos_ascend ws (topic_at e t + message_in 0) 4 (get_or ws (topic_at e t + messages_in) 0)
 
 -- whether the ids of the ledger in slot t ascend, if its topic is valid
 unfoldable pub topic_order : ℕ → List ℕ → ℕ → Option Bool
@@ -25,8 +30,3 @@ topic_order e ws t = cond (valid_topic e (topic_nth (decode ws) t)) (Some (ledge
 -- each topic that is known to has ids that ascend
 abbrev pub Known : ℕ → List ℕ → List Bool → Type 0
 Known e ws ascend = (t : ℕ) → get_or ascend t false ≡ true → ledger_ascends e ws t ≡ true
-
--- what a test that tells the orders of topics answers and leaves
-pub record Ordered (e : ℕ) (ws : List ℕ) (after : List Bool) (r right : Bool) : Type 0 where
-  pub answer : r ≡ right
-  pub known : Known e ws after

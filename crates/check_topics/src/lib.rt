@@ -3,74 +3,50 @@
 // be, so that counts are within their room; every word is below 2^64.
 #![tactic(auto)]
 
-ghost use Rattle.std.specs.Prelude.{◌≡◌, not, ◌&&◌, map, ◌+◌, ◌*◌, ◌≤◌, ◌<◌, eqb, length, get_or, take};
-ghost use Rattle.rules.specs.Table.{all, any, distinct};
-ghost use Rattle.rules.specs.State.{same_id, StoredMessage, Topic};
-ghost use Rattle.rules.specs.Valid.{valid_message, valid_topic};
+pub mod valid_topics;
+
+ghost use Rattle.std.specs.Prelude.{◌≡◌, ◌&&◌, map, ◌+◌, ◌*◌, ◌≤◌, eqb, length};
+ghost use Rattle.rules.specs.Table.{all, distinct};
+ghost use Rattle.rules.specs.State.{Topic};
+ghost use Rattle.rules.specs.Valid.{valid_topic};
 ghost use Rattle.layout.specs.Layout.{decode};
 ghost use Rattle.layout.specs.Canon.{CanonStore};
-ghost use Rattle.layout.specs.Fields.{topic_now};
-ghost use Rattle.check_topics.specs.Orders.{messages_ascend, topic_order, Known, Ordered};
+ghost use Rattle.layout.specs.Placed.{TopicIn};
+ghost use Rattle.check_rows.specs.Below.{each_below};
+ghost use Rattle.check_topics.specs.Orders.{batch_right, messages_ascend, messages_distinct, topic_order};
+ghost use Rattle.check_topics.specs.Ledgers.{Ordered};
 
-use check_rows::is_above;
-use store::limits::{MOST_BATCH, MOST_NUMBER};
+use check_rows::Rows;
+use store::limits::{MOST_BATCH, MOST_NUMBER, MOST_TOPICS};
 use store::offsets::{
-    BATCH_IN, ENTRY_IN, MESSAGE_IN, MESSAGE_WORDS, MESSAGES_AT, MESSAGES_IN, TOPIC_COUNT_AT,
-    TOPIC_WORDS, TOPIC_WORDS_E, TOPICS_AT,
+    BATCH_IN, ENTRY_IN, MESSAGE_IN, MESSAGE_WORDS, MESSAGES_IN, TOPIC_COUNT_AT, topic_at,
 };
 use store::stretch::word;
 use topic::table::find_topic;
+use valid_topics::ValidTopics;
 
-// Whether the two words at `at` are another id than the given one.
-fn is_other(store: &[u64], at: usize, ledger: u64, entry: u64) -> bool
-    requires { at + 1 < length store.now }
-    ensures { result ≡ not (same_id (record { ledger = ledger; entry = entry })
-        (record { ledger = get_or store.now at 0; entry = get_or store.now (at + 1) 0 })) }
+// Whether the n messages from `first` on have batch sizes of at most 256.
+fn batches_right(store: &[u64], first: usize, n: usize) -> bool
+    requires { first + n * 4 ≤ length store.now }
+    ensures { result ≡ each_below (batch_right store.now first) n }
 {
-    store[at] != ledger || store[at + ENTRY_IN] != entry
+    (0..n).all(|m| store[first + m * MESSAGE_WORDS + BATCH_IN] <= MOST_BATCH)
 }
 
-// Whether none of the first m messages of topic t has an id.
-fn is_new(store: &[u64], e: usize, t: usize, m: usize, ledger: u64, entry: u64) -> bool
-    requires { CanonStore e store.now × (t < length (decode store.now).topics) × (m ≤ length (topic_now store.now t).messages) }
-    ensures { result ≡ not (any (same_id (record { ledger = ledger; entry = entry }))
-        (map (λ (x : StoredMessage). x.id) (take m (topic_now store.now t).messages))) }
+// Whether the n messages from `first` on have batch sizes of at most 256 and no id twice, in whatever
+// order they come.
+#[tactic(auto, unfolding(crate::specs::Orders::messages_distinct))]
+fn messages_distinct(store: &[u64], first: usize, n: usize) -> bool
+    requires { first + n * 4 ≤ length store.now }
+    ensures { result ≡ messages_distinct store.now first n }
 {
-    let first = MESSAGES_AT + t * (TOPIC_WORDS + TOPIC_WORDS_E * e);
-    for j in 0..m {
-        if !is_other(store, first + j * MESSAGE_WORDS, ledger, entry) {
-            return false;
-        }
-    }
-    true
-}
-
-// Whether the messages of topic t are valid and no id stands twice, in whatever order they come. An id
-// greater than all before it is new; only one that is not greater is compared with each of them.
-fn messages_valid(store: &[u64], e: usize, t: usize) -> bool
-    requires { CanonStore e store.now × (t < length (decode store.now).topics) }
-    ensures { result ≡ (all valid_message (topic_now store.now t).messages
-        && distinct same_id (map (λ (x : StoredMessage). x.id) (topic_now store.now t).messages)) }
-{
-    let first = MESSAGES_AT + t * (TOPIC_WORDS + TOPIC_WORDS_E * e);
-    let n = word(store, first - 1);
-    let mut ledger = 0;
-    let mut entry = 0;
-    for m in 0..n {
-        let at = first + m * MESSAGE_WORDS;
-        if MOST_BATCH < store[at + BATCH_IN] {
-            return false;
-        }
-        let x = store[at];
-        let y = store[at + ENTRY_IN];
-        if is_above(x, y, ledger, entry) {
-            ledger = x;
-            entry = y;
-        } else if !is_new(store, e, t, m, x, y) {
-            return false;
-        }
-    }
-    true
+    let ids = Rows {
+        store,
+        first,
+        width: MESSAGE_WORDS,
+        count: n,
+    };
+    batches_right(store, first, n) && ids.pairs_distinct()
 }
 
 // Whether the n messages from `first` on, one at least, have batch sizes of at most 256 and ids that
@@ -109,38 +85,38 @@ fn messages_ascend(store: &[u64], first: usize, n: usize) -> bool
 
 // Whether the ids of topic t ascend, if it is valid.
 fn topic_order(store: &[u64], e: usize, t: usize) -> Option<bool>
-    requires { CanonStore e store.now × (t < length (decode store.now).topics) }
+    requires { TopicIn e store.now t }
     ensures { result ≡ topic_order e store.now t }
 {
-    let at = TOPICS_AT + t * (TOPIC_WORDS + TOPIC_WORDS_E * e);
-    if MOST_NUMBER < store[at] || store[at + MESSAGES_IN] < 1 {
+    let at = topic_at(e, t);
+    let n = word(store, at + MESSAGES_IN);
+    if MOST_NUMBER < store[at] || n < 1 {
         return None;
     }
-    if messages_ascend(store, at + MESSAGE_IN, word(store, at + MESSAGES_IN)) {
+    let first = at + MESSAGE_IN;
+    if messages_ascend(store, first, n) {
         return Some(true);
     }
-    messages_valid(store, e, t).then_some(false)
+    messages_distinct(store, first, n).then_some(false)
 }
 
-// Whether the topics are valid and their numbers distinct: each is found at its own slot. `ascend` says of
-// each then whether its ids are known to ascend.
-pub fn topics_valid(store: &[u64], e: usize, ascend: &mut [bool]) -> bool
-    requires canon { CanonStore e store.now }
-    requires ascend { (length ascend.old ≡ 9) × Known e store.now ascend.old }
-    ensures { Ordered e store.now ascend.new result
+// The topics, if they are valid and their numbers distinct: each is found at its own slot.
+pub fn topics_valid(store: &[u64], e: usize) -> Option<ValidTopics<'_>>
+    requires { CanonStore e store.now }
+    ensures { Ordered e store.now result
         (distinct eqb (map (λ (t : Topic). t.number) (decode store.now).topics)
         && all (valid_topic e) (decode store.now).topics) }
 {
+    let mut ascend = [false; MOST_TOPICS];
     let n = word(store, TOPIC_COUNT_AT);
-    let width = TOPIC_WORDS + TOPIC_WORDS_E * e;
     for t in 0..n {
-        if find_topic(store, e, store[TOPICS_AT + t * width]) < t {
-            return false;
+        if find_topic(store, e, store[topic_at(e, t)]) < t {
+            return None;
         }
         let Some(known) = topic_order(store, e, t) else {
-            return false;
+            return None;
         };
         ascend[t] = known;
     }
-    true
+    Some(ValidTopics { store, e, ascend })
 }

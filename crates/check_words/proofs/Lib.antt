@@ -1,4 +1,3 @@
-pub mod Headers
 pub mod Parts
 pub mod Spelt
 pub mod Tables

@@ -1,7 +1,7 @@
 -- Each record of a store tested by parts, as the functions of `canonical.rt` do it: the equations of the layout, said with
 -- the tests that the code calls.
 use mathlib.Core.Path.{◌≡◌, refl, sym, ap, ap₂, ◌∙◌}
-use mathlib.Core.Bool.{Bool, true, false, ◌&&◌}
+use mathlib.Core.Bool.{Bool, ◌&&◌, and_assoc}
 use mathlib.Core.List.{List}
 use Prim.Native.Nat.{ℕ, ◌+◌, ◌*◌, ◌≤◌}
 use native.Mathlib.Omega.{arith}
@@ -31,13 +31,6 @@ pub topic_parts : (ws : List ℕ) (e at : ℕ) → at + (4 + 4 * e) ≤ length w
 topic_parts ws e at h =
     check_topic e at ws h ∙ ap (λ (x : Bool). blank 2 (drop (at + 1) ws) && x) (sym (list_of_slots ws (at + 3) (at + 4) e 4 (omega arith)))
 
--- four tests and a fifth, grouped either way
-regroup : (a b c d f : Bool) → (a && (b && (c && (d && f)))) ≡ (a && (b && (c && d)) && f)
-regroup true true true d f = refl
-regroup true true false d f = refl
-regroup true false c d f = refl
-regroup false b c d f = refl
-
 -- a dispatcher
 pub dispatcher_parts : (ws : List ℕ) (e at : ℕ) → at + (176 + 9 * e) ≤ length ws
     → canonical (dispatcher_codec e) (drop at ws)
@@ -45,14 +38,11 @@ pub dispatcher_parts : (ws : List ℕ) (e at : ℕ) → at + (176 + 9 * e) ≤ l
 unfolding lists_canonical
 dispatcher_parts ws e at h =
     let m : at + marks_in e ≡ at + 175 + 3 * e = omega arith in
-    let f : at + flight_in e ≡ at + 174 + e = omega arith in
     check_dispatcher e at ws h
     ∙ ap (λ (x : Bool). blank 5 (drop (at + 6) ws) && x)
     (ap₂ {A = Bool} {B = Bool} ◌&&◌ (sym (list_of_words ws (at + 11) (at + 12) 32 (omega arith)))
     (ap₂ {A = Bool} {B = Bool} ◌&&◌ (sym (list_of_slots ws (at + 44) (at + 45) 64 2 (omega arith)))
     (ap₂ {A = Bool} {B = Bool} ◌&&◌ (sym (list_of_words ws (at + 173) (at + 174) e (omega arith)))
-    (ap₂ {A = Bool} {B = Bool} ◌&&◌
-    (sym (list_of_slots ws (at + flight_in e) (at + held_in e 0) e 2 (omega arith)) ∙ ap (λ (k : ℕ). list_canonical ws k e 2) f)
+    (ap₂ {A = Bool} {B = Bool} ◌&&◌ (sym (list_of_slots ws (at + flight_in e) (at + held_in e 0) e 2 (omega arith)))
     (ap (λ (k : ℕ). canonical (upto mark_codec e) (drop k ws)) m))))
-    ∙ regroup (list_canonical ws (at + 11) 32 1) (list_canonical ws (at + 44) 64 2) (list_canonical ws (at + 173) e 1)
-    (list_canonical ws (at + 174 + e) e 2) (canonical (upto mark_codec e) (drop (at + 175 + 3 * e) ws)))
+    ∙ simp and_assoc refl)

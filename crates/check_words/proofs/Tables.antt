@@ -1,20 +1,21 @@
 -- A table tested slot by slot: what the loops of `canonical.rt` turn on, for any codec of a slot.
-use mathlib.Core.Path.{◌≡◌, refl, sym, ap, ◌∙◌}
-use mathlib.Core.Bool.{Bool, true, false, ◌&&◌, and-eq-true_iff, and-false}
+use mathlib.Core.Path.{◌≡◌, sym, ap, ◌∙◌}
+use mathlib.Core.Bool.{Bool, true, false, ◌&&◌, and_assoc, and_comm, and-eq-true_iff}
 use mathlib.Core.List.{List}
 use Prim.Native.Nat.{ℕ, zero, suc, ◌+◌, ◌-◌, ◌*◌, ◌≤◌, ◌<◌}
 use native.Mathlib.Nat.{sub-zero, zero-mul, add-zero}
 use native.Mathlib.Omega.{arith}
-use lib.Dec.{leb, ltb}
+use lib.Dec.{leb}
 use lib.ListN.{length, get_or, drop}
-use borrow.Author.Tests.{leb-true, ltb-true, ltb-false}
+use borrow.Author.Tests.{leb-true}
 use native.Mathlib.Numerals.{add-one}
 use Rattle.rules.proofs.Table.{by_test}
 use Rattle.words.specs.Words.{blank}
 use Rattle.words.specs.Codec.{Codec, upto}
 use Rattle.words.specs.Store.{canonical, canonicals}
 use Rattle.words.proofs.Check.{canonical_upto, canonicals_none, canonicals_turn}
-use Rattle.check_words.specs.Canonical.{list_canonical, each_slot, table_canonical}
+use Rattle.check_rows.specs.Below.{each_below}
+use Rattle.check_words.specs.Canonical.{list_canonical, table_canonical}
 
 -- a list that is spelt as it should be counts no more than its room
 pub list_few : (ws : List ℕ) (at most w : ℕ) → list_canonical ws at most w ≡ true → get_or ws at 0 ≤ most
@@ -22,22 +23,6 @@ unfolding list_canonical
 list_few ws at most w e =
     leb-true (get_or ws at 0) most
     ((and-eq-true_iff (leb (get_or ws at 0) most) (blank ((most - get_or ws at 0) * w) (drop (at + 1 + get_or ws at 0 * w) ws))).0 e).0
-
--- ---- slots tested one after the other
-
-module _ (right : ℕ → Bool) where
-  -- one slot more
-  pub slot_turn : (i : ℕ) → each_slot right i ≡ true → right i ≡ true → each_slot right (i + 1) ≡ true
-  unfolding each_slot
-  slot_turn i e t = rw (add-one i, e, t)
-
-  -- one that is not right
-  pub slot_stop : (n i : ℕ) → i < n → right i ≡ false → each_slot right n ≡ false
-  unfolding each_slot
-  slot_stop zero i h f = absurd (omega arith)
-  slot_stop (suc n) i h f =
-      by_test (ltb i n) (λ t. rw (slot_stop n i (ltb-true i n t) f))
-      (λ t. let k = ltb-false i n t in let e : i ≡ n = omega arith in rw (← e, f) (and-false (each_slot right i)))
 
 -- the slots from i on are canonical exactly where all n are
 abbrev pub Left : {A : Type 0} → Codec A → ℕ → List ℕ → ℕ → ℕ → ℕ → Type 0
@@ -50,31 +35,31 @@ module _ {A : Type 0} (c : Codec A) {w : ℕ} (sized : c.width ≡ w) (ws : List
 
   module _ (n : ℕ) where
     -- each slot before i is right, so those from i on decide
-    so_far : (i : ℕ) → i ≤ n → each_slot (λ j. canonical c (drop (first + j * w) ws)) i ≡ true → Left c w ws first n i
-    unfolding each_slot
+    so_far : (i : ℕ) → i ≤ n → each_below (λ j. canonical c (drop (first + j * w) ws)) i ≡ true → Left c w ws first n i
+    unfolding each_below
     so_far zero h e = rw (sub-zero n, zero-mul w, add-zero first)
     so_far (suc i) h e =
-        let t = (and-eq-true_iff (each_slot (λ j. canonical c (drop (first + j * w) ws)) i) (canonical c (drop (first + i * w) ws))).0 e in
+        let t = (and-eq-true_iff (each_below (λ j. canonical c (drop (first + j * w) ws)) i) (canonical c (drop (first + i * w) ws))).0 e in
         let k : Left c w ws first n i = so_far i (omega arith) t.0 in
         let q : Left c w ws first n (i + 1) =
         sym (canonicals_turn c sized n i first ws (omega arith) ∙ ap (λ (b : Bool). b && canonicals c (n - (i + 1)) (drop (first + (i + 1) * w) ws)) t.1) ∙ k in
         rw add-one at q
 
     -- one before i is not
-    stopped : (i : ℕ) → i ≤ n → each_slot (λ j. canonical c (drop (first + j * w) ws)) i ≡ false → canonicals c n (drop first ws) ≡ false
-    unfolding each_slot
+    stopped : (i : ℕ) → i ≤ n → each_below (λ j. canonical c (drop (first + j * w) ws)) i ≡ false → canonicals c n (drop first ws) ≡ false
+    unfolding each_below
     stopped zero h e = absurd (cc)
     stopped (suc i) h e =
-        by_test (each_slot (λ j. canonical c (drop (first + j * w) ws)) i)
+        by_test (each_below (λ j. canonical c (drop (first + j * w) ws)) i)
         (λ t.
         let f : canonical c (drop (first + i * w) ws) ≡ false = rw t at e in
         sym (so_far i (omega arith) t) ∙ canonicals_turn c sized n i first ws (omega arith) ∙ ap (λ (b : Bool). b && canonicals c (n - (i + 1)) (drop (first + (i + 1) * w) ws)) f)
         (stopped i (omega arith))
 
     -- the slots one after the other
-    slots : canonicals c n (drop first ws) ≡ each_slot (λ j. canonical c (drop (first + j * w) ws)) n
+    slots : canonicals c n (drop first ws) ≡ each_below (λ j. canonical c (drop (first + j * w) ws)) n
     slots =
-        by_test (each_slot (λ j. canonical c (drop (first + j * w) ws)) n)
+        by_test (each_below (λ j. canonical c (drop (first + j * w) ws)) n)
         (λ t.
         let gone : n - n ≡ 0 = omega arith in
         rw t
@@ -86,12 +71,7 @@ module _ {A : Type 0} (c : Codec A) {w : ℕ} (sized : c.width ≡ w) (ws : List
   unfolding table_canonical list_canonical
   table_answer q =
       q ∙ rw (parts, slots (get_or ws off 0), next)
-      (swapped (leb (get_or ws off 0) most) (blank ((most - get_or ws off 0) * w) (drop (first + get_or ws off 0 * w) ws))
-      (each_slot (λ j. canonical c (drop (first + j * w) ws)) (get_or ws off 0)))
-    where
-      swapped : (a b d : Bool) → (a && b && d) ≡ (a && d && b)
-      swapped true true true = refl
-      swapped true true false = refl
-      swapped true false true = refl
-      swapped true false false = refl
-      swapped false b d = refl
+      (let count = leb (get_or ws off 0) most in
+      let rest = blank ((most - get_or ws off 0) * w) (drop (first + get_or ws off 0 * w) ws) in
+      let each = each_below (λ j. canonical c (drop (first + j * w) ws)) (get_or ws off 0) in
+      and_assoc count rest each ∙ ap (λ (b : Bool). count && b) (and_comm rest each) ∙ sym (and_assoc count each rest))

@@ -13,11 +13,12 @@ use store::limits::{
     MOST_CONSUMERS, MOST_DISPATCHERS, MOST_NACKED, MOST_OUTSIDE, MOST_RING_IDS, MOST_TOPICS,
 };
 use store::offsets::{
-    CONSUMER_COUNT_AT, CONSUMER_RESERVED_IN, CONSUMER_WORDS, CONSUMERS_AT, DISPATCHER_COUNT_AT,
+    CONSUMER_COUNT_AT, CONSUMER_RESERVED_IN, CONSUMER_WORDS, DISPATCHER_COUNT_AT,
     DISPATCHER_RESERVED_IN, DISPATCHER_WORDS, DISPATCHER_WORDS_E, DISPATCHERS_AT_E, FLIGHT_IN,
     HELD_WORDS, ID_WORDS, KIND_IN, MARK_WORDS, MARKS_IN, MARKS_IN_E, MESSAGE_WORDS, MESSAGES_IN,
     NACKED_IN, NEEDED_WORDS, NEEDED_WORDS_E, OUTSIDE_IN, QUEUE_IN, RESERVED_AT, RESERVED_AT_E,
-    RING_IN, TOPIC_COUNT_AT, TOPIC_RESERVED_IN, TOPIC_WORDS, TOPIC_WORDS_E, TOPICS_AT,
+    RING_IN, TOPIC_COUNT_AT, TOPIC_RESERVED_IN, TOPIC_WORDS, TOPIC_WORDS_E, consumer_at,
+    dispatcher_at, topic_at,
 };
 use store::stretch::{is_blank, word};
 
@@ -28,11 +29,8 @@ fn list_canonical(store: &[u64], at: usize, most: usize, width: usize) -> bool
     ensures { result ≡ list_canonical store.now at most width }
 {
     let n = word(store, at);
-    if most < n {
-        return false;
-    }
     let first = at + 1;
-    is_blank(store, first + n * width, first + most * width)
+    n <= most && is_blank(store, first + n * width, first + most * width)
 }
 
 // A table: a list in whose slots not any words may stand. Each slot that it counts passes a test.
@@ -64,13 +62,9 @@ fn consumer_canonical(store: &[u64], at: usize) -> bool
     requires { at + consumer_words ≤ length store.now }
     ensures { result ≡ canonical consumer_codec (drop at store.now) }
 {
-    if 1 < store[at + KIND_IN] {
-        return false;
-    }
-    if !list_canonical(store, at + NACKED_IN, MOST_NACKED, 1) {
-        return false;
-    }
-    store[at + CONSUMER_RESERVED_IN] == 0
+    store[at + KIND_IN] <= 1
+        && list_canonical(store, at + NACKED_IN, MOST_NACKED, 1)
+        && store[at + CONSUMER_RESERVED_IN] == 0
 }
 
 // The table of consumers.
@@ -83,7 +77,7 @@ fn consumers_canonical(store: &[u64]) -> bool
         CONSUMER_COUNT_AT,
         MOST_CONSUMERS,
         CONSUMER_WORDS,
-        |i| { consumer_canonical(store, CONSUMERS_AT + i * CONSUMER_WORDS) },
+        |i| consumer_canonical(store, consumer_at(i)),
     )
 }
 
@@ -92,10 +86,8 @@ fn topic_canonical(store: &[u64], e: usize, at: usize) -> bool
     requires { at + topic_words e ≤ length store.now }
     ensures { result ≡ canonical (topic_codec e) (drop at store.now) }
 {
-    if !is_blank(store, at + TOPIC_RESERVED_IN, at + MESSAGES_IN) {
-        return false;
-    }
-    list_canonical(store, at + MESSAGES_IN, e, MESSAGE_WORDS)
+    is_blank(store, at + TOPIC_RESERVED_IN, at + MESSAGES_IN)
+        && list_canonical(store, at + MESSAGES_IN, e, MESSAGE_WORDS)
 }
 
 // The table of topics.
@@ -105,7 +97,7 @@ fn topics_canonical(store: &[u64], e: usize) -> bool
 {
     let width = TOPIC_WORDS + TOPIC_WORDS_E * e;
     table_canonical(store, TOPIC_COUNT_AT, MOST_TOPICS, width, |i| {
-        topic_canonical(store, e, TOPICS_AT + i * width)
+        topic_canonical(store, e, topic_at(e, i))
     })
 }
 
@@ -128,16 +120,10 @@ fn lists_canonical(store: &[u64], e: usize, at: usize) -> bool
     requires { at + dispatcher_words e ≤ length store.now }
     ensures { result ≡ lists_canonical store.now e at }
 {
-    if !list_canonical(store, at + RING_IN, MOST_RING_IDS, 1) {
-        return false;
-    }
-    if !list_canonical(store, at + OUTSIDE_IN, MOST_OUTSIDE, ID_WORDS) {
-        return false;
-    }
-    if !list_canonical(store, at + QUEUE_IN, e, 1) {
-        return false;
-    }
-    list_canonical(store, at + FLIGHT_IN + e, e, HELD_WORDS)
+    list_canonical(store, at + RING_IN, MOST_RING_IDS, 1)
+        && list_canonical(store, at + OUTSIDE_IN, MOST_OUTSIDE, ID_WORDS)
+        && list_canonical(store, at + QUEUE_IN, e, 1)
+        && list_canonical(store, at + (FLIGHT_IN + e), e, HELD_WORDS)
 }
 
 // A dispatcher: the reserved words are 0, its lists and marks are in order.
@@ -145,13 +131,9 @@ fn dispatcher_canonical(store: &[u64], e: usize, at: usize) -> bool
     requires { at + dispatcher_words e ≤ length store.now }
     ensures { result ≡ canonical (dispatcher_codec e) (drop at store.now) }
 {
-    if !is_blank(store, at + DISPATCHER_RESERVED_IN, at + RING_IN) {
-        return false;
-    }
-    if !lists_canonical(store, e, at) {
-        return false;
-    }
-    marks_canonical(store, e, at + MARKS_IN + MARKS_IN_E * e)
+    is_blank(store, at + DISPATCHER_RESERVED_IN, at + RING_IN)
+        && lists_canonical(store, e, at)
+        && marks_canonical(store, e, at + MARKS_IN + MARKS_IN_E * e)
 }
 
 // The table of dispatchers.
@@ -162,7 +144,7 @@ fn dispatchers_canonical(store: &[u64], e: usize) -> bool
     let count = DISPATCHER_COUNT_AT + DISPATCHERS_AT_E * e;
     let width = DISPATCHER_WORDS + DISPATCHER_WORDS_E * e;
     table_canonical(store, count, MOST_DISPATCHERS, width, |i| {
-        dispatcher_canonical(store, e, count + 1 + i * width)
+        dispatcher_canonical(store, e, dispatcher_at(e, i))
     })
 }
 
@@ -171,18 +153,12 @@ pub fn body_canonical(store: &[u64], e: usize) -> bool
     requires { (e ≤ 4096) × (needed_words e ≤ length store.now) }
     ensures { result ≡ canonical (body_codec e) (drop consumer_count_at store.now) }
 {
-    if !consumers_canonical(store) {
-        return false;
-    }
-    if !topics_canonical(store, e) {
-        return false;
-    }
-    if !dispatchers_canonical(store, e) {
-        return false;
-    }
-    is_blank(
-        store,
-        RESERVED_AT + RESERVED_AT_E * e,
-        NEEDED_WORDS + NEEDED_WORDS_E * e,
-    )
+    consumers_canonical(store)
+        && topics_canonical(store, e)
+        && dispatchers_canonical(store, e)
+        && is_blank(
+            store,
+            RESERVED_AT + RESERVED_AT_E * e,
+            NEEDED_WORDS + NEEDED_WORDS_E * e,
+        )
 }

@@ -1,15 +1,16 @@
 -- `check_state::spells` meets its contract: header, length, body and rules are tested one after the other.
-use mathlib.Core.Path.{◌≡◌, refl, ◌∙◌}
+use mathlib.Core.Path.{◌≡◌, refl, sym, ◌∙◌}
 use mathlib.Core.Bool.{true}
 use mathlib.Core.List.{List}
-use Prim.Native.Nat.{ℕ, ◌+◌, ◌*◌, ◌≤◌}
-use lib.ListN.{length, get_or}
+use Prim.Native.Nat.{ℕ, ◌≤◌}
+use lib.ListN.{get_or}
 use borrow.Author.Tests.{lt-leb, le-leb}
 use borrow.Author.Rules.{rules}
 use Rattle.layout.specs.Check.{header_right}
 use Rattle.store.proofs.Tests.{fails, passes, answered_no, answered_yes}
 use Rattle.check_state.proofs.Checks.{header_gives, spells_tests, well_spelt}
 use Rattle.check_state.proofs.spells.Goals as goal
+use Rattle.check_state.proofs.spells.Goals.{then-e-store, else-e-store}
 
 -- E is in its range
 in_range : (ws : List ℕ) → {e : ℕ} → e ≡ get_or ws 1 0 → header_right ws ≡ true → e ≤ 4096
@@ -32,37 +33,36 @@ overflow_add-e c =
     let h = in_range c.args.store.now c.word-e.ensures (answered_yes c.header_right.ensures c.if-not-header_right.false) in
     search rules
 
-pub returns-then-store-e : goal.returns-then-store-e
-returns-then-store-e c =
-    let ws = c.args.store.now in
-    let e = c.word-e.result in
-    passes (answered_yes c.header_right.ensures c.if-not-header_right.false) (fails _ (lt-leb (4096 + 128 * e) (length ws) c.if-store-e.true))
-    ∙ spells_tests ws {e = e} c.word-e.ensures
-
 pub body_canonical-requires : goal.body_canonical-requires
 body_canonical-requires c =
     let h = in_range c.args.store.now c.word-e.ensures (answered_yes c.header_right.ensures c.if-not-header_right.false) in
     search rules
 
-pub returns-then-not-body_canonical : goal.returns-then-not-body_canonical
-returns-then-not-body_canonical c =
-    let ws = c.args.store.now in
-    let e = c.word-e.result in
-    passes (answered_yes c.header_right.ensures c.if-not-header_right.false)
-    (passes (le-leb (4096 + 128 * e) (length ws) c.if-store-e.false)
-    (fails _ (answered_no c.body_canonical.ensures c.if-not-body_canonical.true)))
-    ∙ spells_tests ws {e = e} c.word-e.ensures
-
 pub state_valid-requires : goal.state_valid-requires
 state_valid-requires c =
-    well_spelt c.args.store.now c.word-e.ensures (answered_yes c.header_right.ensures c.if-not-header_right.false) c.if-store-e.false
-    (answered_yes c.body_canonical.ensures c.if-not-body_canonical.false)
+    elim c.if-e-store.branch [
+      | then-e-store w ↦
+          well_spelt c.args.store.now c.word-e.ensures (answered_yes c.header_right.ensures c.if-not-header_right.false) w.if-e-store.true
+          (sym w.body_canonical.ensures ∙ sym w.value-is ∙ c.if-body_canonical.true)
+      | else-e-store w ↦ let f = lt-leb _ _ w.if-e-store.false in absurd (cc)
+    ]
 
-pub returns : goal.returns
-returns c =
-    let ws = c.args.store.now in
-    let e = c.word-e.result in
+pub returns-then-body_canonical : goal.returns-then-body_canonical
+returns-then-body_canonical c =
     passes (answered_yes c.header_right.ensures c.if-not-header_right.false)
-    (passes (le-leb (4096 + 128 * e) (length ws) c.if-store-e.false)
-    (passes (answered_yes c.body_canonical.ensures c.if-not-body_canonical.false) c.state_valid.ensures))
-    ∙ spells_tests ws {e = e} c.word-e.ensures
+    (elim c.if-e-store.branch [
+      | then-e-store w ↦
+          passes (le-leb _ _ w.if-e-store.true) (passes (sym w.body_canonical.ensures ∙ sym w.value-is ∙ c.if-body_canonical.true) c.state_valid.ensures)
+      | else-e-store w ↦ let f = lt-leb _ _ w.if-e-store.false in absurd (cc)
+    ])
+    ∙ spells_tests c.args.store.now {e = c.word-e.result} c.word-e.ensures
+
+pub returns-else-body_canonical : goal.returns-else-body_canonical
+returns-else-body_canonical c =
+    c.if-body_canonical.false
+    ∙ passes (answered_yes c.header_right.ensures c.if-not-header_right.false)
+    (elim c.if-e-store.branch [
+      | then-e-store w ↦ passes (le-leb _ _ w.if-e-store.true) (fails _ (sym w.body_canonical.ensures ∙ sym w.value-is ∙ c.if-body_canonical.false))
+      | else-e-store w ↦ fails _ (lt-leb _ _ w.if-e-store.false)
+    ])
+    ∙ spells_tests c.args.store.now {e = c.word-e.result} c.word-e.ensures

@@ -16,4 +16,4 @@ use Rattle.check_topics.proofs.topics_valid.Given as goal
 abbrev pub invariant-loop-t : goal.invariant-loop-t
 invariant-loop-t l =
     Passed (λ ts. distinct eqb (map (λ (x : Topic). x.number) ts) && all (valid_topic l.e) ts) (decode l.store).topics l.t
-    × (length l.ascend ≡ 9) × Known l.e l.store l.ascend
+    × (length l.ascend ≡ 8) × Known l.e l.store l.ascend

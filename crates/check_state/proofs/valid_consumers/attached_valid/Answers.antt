@@ -1,22 +1,26 @@
 -- `check_state::valid_consumers::attached_valid` meets its contract: a plain consumer passes, a shared one's ring is asked.
-use mathlib.Core.Path.{sym, ◌∙◌}
+use mathlib.Core.Path.{ap}
 use Rattle.layout.specs.Layout.{decode}
-use Rattle.layout.specs.Fields.{consumer_nth}
+use Rattle.layout.specs.Fields.{consumer_now}
 use Rattle.layout.proofs.Gets.{read_consumer_id, read_consumer_topic, read_consumer_subscription, read_consumer_kind}
+use Rattle.command_parts.specs.Parts.{kind_of}
 use Rattle.check_state.proofs.Consumers.{plain_passes, ring_decides}
 use Rattle.check_state.proofs.valid_consumers.attached_valid.Goals as goal
 
-pub returns-then-store-at-eq0 : goal.returns-then-store-at-eq0
-returns-then-store-at-eq0 c =
-    let s = decode c.args.store.now in
-    let r = read_consumer_kind c.requires.0 c.args.i c.requires.1 in
-    plain_passes s (consumer_nth s c.args.i) (sym r ∙ c.if-store-at-eq0.true)
+pub returns-in-Plain : goal.returns-in-Plain
+unfolding kind_of
+returns-in-Plain c =
+    let s = c.args.store.now in
+    plain_passes (decode s) (consumer_now s c.args.i) (rw c.consumer_at-at.ensures (read_consumer_kind c.requires.canon c.args.i c.requires.there))
+    c.from.ensures (ap kind_of c.in-Plain.is)
 
-pub returns : goal.returns
-returns c =
-    let s = decode c.args.store.now in
-    let h = c.requires.0 in
+pub returns-in-Shared : goal.returns-in-Shared
+unfolding kind_of
+returns-in-Shared c =
+    let s = c.args.store.now in
+    let h = c.requires.canon in
     let i = c.args.i in
-    let k = c.requires.1 in
-    ring_decides s (consumer_nth s i) (λ q. c.if-store-at-eq0.false (read_consumer_kind h i k ∙ q))
-    (read_consumer_id h i k) (read_consumer_topic h i k) (read_consumer_subscription h i k) c.in_ring.ensures
+    let k = c.requires.there in
+    ring_decides (decode s) (consumer_now s i) (rw c.consumer_at-at.ensures (read_consumer_kind h i k)) c.from.ensures (ap kind_of c.in-Shared.is)
+    (rw c.consumer_at-at.ensures (read_consumer_id h i k)) (rw c.consumer_at-at.ensures (read_consumer_topic h i k))
+    (rw c.consumer_at-at.ensures (read_consumer_subscription h i k)) c.in_ring.ensures

@@ -12,6 +12,7 @@ use Rattle.layout.specs.Layout.{decode}
 use Rattle.layout.specs.Canon.{CanonStore}
 use Rattle.layout.specs.Fields.{zero_consumer}
 use Rattle.layout.proofs.Gets.{read_consumer_count}
+use Rattle.layout.proofs.Placed.{consumer_in}
 use Rattle.store.proofs.Tests.{fails, passes, answered_no, answered_yes}
 use Rattle.store.proofs.Prefixes.{Stepwise, all_steps, both_steps, passed_start, passed_stop, passed_turn, passed_end}
 use Rattle.check_state.proofs.Ascend.{below, ascending_steps}
@@ -32,7 +33,7 @@ pub id_ascends-requires : goal.id_ascends-requires
 id_ascends-requires c =
     let s = decode c.args.store.now in
     let l = take c.loop-i.i s.consumers in
-    (c.requires, here c.requires c.word-n.ensures c.loop-i.i c.loop-i-test.true, ((and-eq-true_iff (ascending l) (all (valid_consumer s) l)).0 c.loop-i.invariant).0)
+    (consumer_in c.requires c.loop-i.i (here c.requires c.word-n.ensures c.loop-i.i c.loop-i-test.true), ((and-eq-true_iff (ascending l) (all (valid_consumer s) l)).0 c.loop-i.invariant).0)
 
 pub returns-then-not-id_ascends : goal.returns-then-not-id_ascends
 returns-then-not-id_ascends c =
@@ -41,7 +42,7 @@ returns-then-not-id_ascends c =
     (sym (fails _ (answered_no c.id_ascends.ensures c.if-not-id_ascends.true)))
 
 pub consumer_valid-requires : goal.consumer_valid-requires
-consumer_valid-requires c = (c.requires, here c.requires c.word-n.ensures c.loop-i.i c.loop-i-test.true)
+consumer_valid-requires c = consumer_in c.requires c.loop-i.i (here c.requires c.word-n.ensures c.loop-i.i c.loop-i-test.true)
 
 pub returns-then-not-consumer_valid : goal.returns-then-not-consumer_valid
 returns-then-not-consumer_valid c =

@@ -21,7 +21,10 @@ pub returns : goal.returns
 returns c =
     let s = decode c.args.store.now in
     let i = c.args.i in
+    let h = c.requires.0 in
     let p : 0 < i = omega (arith, c.if-i-eq0.false) in
-    let h : i - 1 < length s.consumers = omega arith in
-    ap₂ {A = ℕ} {B = ℕ} ltb (read_consumer_id c.requires.0 (i - 1) h) (read_consumer_id c.requires.0 i c.requires.1)
-    ∙ one_before s.consumers i p c.requires.1 c.requires.2
+    let t = h.there in
+    let l : i - 1 < length s.consumers = omega arith in
+    rw (c.consumer_at.ensures, c.consumer_at-2.ensures)
+    (ap₂ {A = ℕ} {B = ℕ} ltb (read_consumer_id h.canon (i - 1) l) (read_consumer_id h.canon i t))
+    ∙ one_before s.consumers i p t c.requires.1

@@ -1,83 +1,53 @@
--- `check_state::valid_consumers::nacked_valid` meets its contract: the positions are tested one by one.
-use mathlib.Core.Path.{◌≡◌, ap, ◌∙◌}
+-- `check_state::valid_consumers::nacked_valid` meets its contract: each position is tested where it stands.
+use Rattle.std.proofs.Common.{rules, tests}
+use mathlib.Core.Path.{◌≡◌, sym, ap, ◌∙◌}
 use mathlib.Core.List.{List}
-use Prim.Native.Nat.{ℕ, ◌+◌, ◌*◌, ◌-◌, ◌<◌}
+use Prim.Native.Nat.{ℕ, ◌+◌, ◌*◌, ◌≤◌}
 use native.Mathlib.Omega.{arith}
 use lib.Dec.{ltb}
 use lib.ListN.{length, get_or}
-use borrow.Author.Tests.{le-ltb, lt-ltb}
-use borrow.Author.Rules.{rules}
-use Rattle.layout.specs.Layout.{decode}
-use Rattle.layout.specs.Canon.{CanonStore}
-use Rattle.layout.specs.Fields.{consumer_nth}
+use Rattle.layout.specs.Fields.{consumer_now}
 use Rattle.layout.specs.Offsets.{consumer_at}
-use Rattle.layout.proofs.Gets.{nacked_short, read_nacked_count, read_nacked}
-use Rattle.store.proofs.Inside.{consumer_inside}
-use Rattle.store.proofs.Prefixes.{all_steps, passed_start, passed_stop, passed_turn, passed_end}
+use Rattle.layout.specs.Placed.{ConsumerIn}
+use Rattle.layout.proofs.Gets.{read_nacked_count, read_nacked}
+use Rattle.check_rows.specs.Below.{each_below}
+use Rattle.check_rows.specs.Rows.{row}
+use Rattle.check_rows.proofs.RowLists.{by_place}
+use Rattle.check_rows.proofs.Below.{each_same}
+use Rattle.check_rows.proofs.Elements.{all_each}
+use Rattle.check_rows.proofs.Ranges.{all_below}
 use Rattle.check_state.specs.ValidConsumers.{nacked_valid}
 use Rattle.check_state.proofs.valid_consumers.nacked_valid.Goals as goal
 
-module _ {e : ℕ} {ws : List ℕ} (canon : CanonStore e ws) (i : ℕ) (there : i < length (decode ws).consumers) where
-  -- the nacked positions
-  abbrev positions : List ℕ
-  positions = (consumer_nth (decode ws) i).nacked
-
+module _ {e : ℕ} {ws : List ℕ} {i : ℕ} (h : ConsumerIn e ws i) {at count : ℕ} (place : at ≡ consumer_at i) (read : count ≡ get_or ws (at + 6) 0) where
   -- there are as many as the count says
-  counted : {n : ℕ} → n ≡ get_or ws (24 + i * 72 - 1) 0 → n ≡ length positions
-  counted q =
-      let n : 24 + i * 72 - 1 ≡ consumer_at i + 6 = omega arith in
-      q ∙ ap (λ (k : ℕ). get_or ws k 0) n ∙ read_nacked_count canon i there
+  counted : count ≡ length (consumer_now ws i).nacked
+  counted = read ∙ rw place (read_nacked_count h.canon i h.there)
 
-  module _ (j : ℕ) (below : j < length positions) where
-    -- one lies in the store
-    inside : 24 + i * 72 + j < length ws
-    inside =
-        let k = consumer_inside canon i there in
-        let f = nacked_short canon i there in
-        omega arith
+  -- they lie in the store
+  inside : at + 7 + count * 1 ≤ length ws
+  inside =
+      let c = counted in
+      let f = h.nacked_fit in
+      let k = h.inside in
+      let l = h.canon.long in
+      omega arith
 
-    -- the position that is read there
-    read : {p : ℕ} → p ≡ get_or ws (24 + i * 72 + j) 0 → p ≡ get_or positions j 0
-    read q =
-        let n : 24 + i * 72 + j ≡ consumer_at i + 7 + j = omega arith in
-        q ∙ ap (λ (k : ℕ). get_or ws k 0) n ∙ read_nacked canon i there j below
+  -- the words tested are the positions
+  tested : (n : ℕ) → each_below (λ j. ltb (row ws (at + 7) 1 j) n) count ≡ nacked_valid n (consumer_now ws i)
+  unfolding nacked_valid
+  tested n =
+      let c = counted in
+      ap (each_below (λ j. ltb (row ws (at + 7) 1 j) n)) c
+      ∙ each_same (λ j. ltb (row ws (at + 7) 1 j) n) (λ j. ltb (get_or (consumer_now ws i).nacked j 0) n) (length (consumer_now ws i).nacked)
+      (λ j l. ap (λ (p : ℕ). ltb p n) (by_place ws (omega (arith, place)) (read_nacked h.canon i h.there j l)))
+      ∙ sym (all_each (λ (k : ℕ). ltb k n) (consumer_now ws i).nacked 0)
 
-pub loop-j-init : goal.loop-j-init
-loop-j-init c = passed_start (all_steps (λ (k : ℕ). ltb k c.args.n)) (positions c.requires.0 c.args.i c.requires.1)
-
-pub overflow_add-first-in-loop-j : goal.overflow_add-first-in-loop-j
-overflow_add-first-in-loop-j c =
-    let n = counted c.requires.0 c.args.i c.requires.1 c.word-count.ensures in
-    let l : c.loop-j.j < length (positions c.requires.0 c.args.i c.requires.1) = omega arith in
-    let k = inside c.requires.0 c.args.i c.requires.1 c.loop-j.j l in
-    search rules
-
-pub word-requires : goal.word-requires
-word-requires c =
-    let n = counted c.requires.0 c.args.i c.requires.1 c.word-count.ensures in
-    let l : c.loop-j.j < length (positions c.requires.0 c.args.i c.requires.1) = omega arith in
-    inside c.requires.0 c.args.i c.requires.1 c.loop-j.j l
-
-pub returns-then-word-n : goal.returns-then-word-n
-unfolding nacked_valid
-returns-then-word-n c =
-    let n = counted c.requires.0 c.args.i c.requires.1 c.word-count.ensures in
-    let l : c.loop-j.j < length (positions c.requires.0 c.args.i c.requires.1) = omega arith in
-    let r = read c.requires.0 c.args.i c.requires.1 c.loop-j.j l c.word.ensures in
-    passed_stop (all_steps (λ (k : ℕ). ltb k c.args.n)) (positions c.requires.0 c.args.i c.requires.1) c.loop-j.j 0 l c.loop-j.invariant
-    (le-ltb _ c.args.n (rw r at c.if-word-n.true))
-
-pub loop-j-preserved : goal.loop-j-preserved
-loop-j-preserved c =
-    let n = counted c.requires.0 c.args.i c.requires.1 c.word-count.ensures in
-    let l : c.loop-j.j < length (positions c.requires.0 c.args.i c.requires.1) = omega arith in
-    let r = read c.requires.0 c.args.i c.requires.1 c.loop-j.j l c.word.ensures in
-    passed_turn (all_steps (λ (k : ℕ). ltb k c.args.n)) (positions c.requires.0 c.args.i c.requires.1) c.loop-j.j 0 l c.loop-j.invariant
-    (lt-ltb _ c.args.n (rw r at c.if-word-n.false))
+pub invariant_of-nacked : goal.invariant_of-nacked
+invariant_of-nacked c = record { inside = inside c.requires c.consumer_at-at.ensures c.word.ensures }
 
 pub returns : goal.returns
-unfolding nacked_valid
 returns c =
-    let n = counted c.requires.0 c.args.i c.requires.1 c.word-count.ensures in
-    let k = c.loop-j-test.false in
-    passed_end (all_steps (λ (k : ℕ). ltb k c.args.n)) (positions c.requires.0 c.args.i c.requires.1) c.loop-j.j (omega arith) c.loop-j.invariant
+    let a = c.args in
+    all_below (λ j. ltb (row a.store.now (c.consumer_at-at.result + 7) 1 j) a.n) c.word.result _ _ c.all.result (λ x t p k. search (rules, tests)) c.all.ensures.ran
+    ∙ tested c.requires c.consumer_at-at.ensures c.word.ensures a.n

@@ -3,12 +3,10 @@
 use mathlib.Core.Path.{◌≡◌}
 use mathlib.Core.Bool.{true}
 use Prim.Native.Nat.{◌+◌}
-use lib.ListN.{length}
 use Rattle.check_state.specs.Places.{holders_right, Placed}
 use Rattle.check_state.proofs.valid_places.flight_fresh.Given as goal
 
 abbrev pub invariant-loop-i : goal.invariant-loop-i
 invariant-loop-i l =
-    (length l.stamps ≡ length l.initial.stamps)
-    × (holders_right l.ring.store.now l.ring.first l.ring.count l.flight.first l.i ≡ true)
-    × Placed l.ring.store.now (l.flight.first + 1) 2 l.i l.cursor l.stamp l.initial.stamps l.stamps true
+    (holders_right l.ring.store.now l.ring.first l.ring.count l.flight.first l.i ≡ true)
+    × Placed l.ring.store.now (l.flight.first + 1) 2 l.i l.cursor l.initial.stamps l.stamps true

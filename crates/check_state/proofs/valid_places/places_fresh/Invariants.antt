@@ -1,12 +1,8 @@
 -- `check_state::valid_places::places_fresh` meets its contract. The loop's invariant: a pass over the first i positions found them
 -- fresh, and left the stamps as they are.
-use mathlib.Core.Path.{◌≡◌}
 use mathlib.Core.Bool.{true}
-use lib.ListN.{length}
 use Rattle.check_state.specs.Places.{Placed}
 use Rattle.check_state.proofs.valid_places.places_fresh.Given as goal
 
 abbrev pub invariant-loop-i : goal.invariant-loop-i
-invariant-loop-i l =
-    (length l.stamps ≡ length l.initial.stamps)
-    × Placed l.places.store.now l.places.first l.places.width l.i l.cursor l.stamp l.initial.stamps l.stamps true
+invariant-loop-i l = Placed l.places.store.now l.places.first l.places.width l.i l.cursor l.initial.stamps l.stamps true

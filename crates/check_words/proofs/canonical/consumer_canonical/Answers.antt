@@ -1,19 +1,26 @@
 -- `check_words::canonical::consumer_canonical` meets its contract: the tests are those of a consumer's parts, in order.
 use mathlib.Core.Path.{refl, sym, ◌∙◌}
 use borrow.Author.Tests.{lt-leb, le-leb}
-use Rattle.store.proofs.Tests.{fails, passes, answered_no, answered_yes}
+use Rattle.store.proofs.Tests.{fails, passes}
 use Rattle.check_words.proofs.Parts.{consumer_parts}
 use Rattle.check_words.proofs.canonical.consumer_canonical.Goals as goal
+use Rattle.check_words.proofs.canonical.consumer_canonical.Goals.{then-store-at-le1, else-store-at-le1}
 
-pub returns-then-store-at-gt1 : goal.returns-then-store-at-gt1
-returns-then-store-at-gt1 c = fails _ (lt-leb _ _ c.if-store-at-gt1.true) ∙ sym (consumer_parts c.args.store.now c.args.at c.requires)
-
-pub returns-then-not-list_canonical : goal.returns-then-not-list_canonical
-returns-then-not-list_canonical c =
-    passes (le-leb _ _ c.if-store-at-gt1.false) (fails _ (answered_no c.list_canonical.ensures c.if-not-list_canonical.true))
+pub returns-then-list_canonical : goal.returns-then-list_canonical
+returns-then-list_canonical c =
+    elim c.if-store-at-le1.branch [
+      | then-store-at-le1 w ↦
+          passes (le-leb _ _ w.if-store-at-le1.true) (passes (sym w.list_canonical.ensures ∙ sym w.value-is ∙ c.if-list_canonical.true) refl)
+      | else-store-at-le1 w ↦ let f = lt-leb _ _ w.if-store-at-le1.false in absurd (cc)
+    ]
     ∙ sym (consumer_parts c.args.store.now c.args.at c.requires)
 
-pub returns : goal.returns
-returns c =
-    passes (le-leb _ _ c.if-store-at-gt1.false) (passes (answered_yes c.list_canonical.ensures c.if-not-list_canonical.false) refl)
+pub returns-else-list_canonical : goal.returns-else-list_canonical
+returns-else-list_canonical c =
+    c.if-list_canonical.false
+    ∙ elim c.if-store-at-le1.branch [
+      | then-store-at-le1 w ↦
+          passes (le-leb _ _ w.if-store-at-le1.true) (fails _ (sym w.list_canonical.ensures ∙ sym w.value-is ∙ c.if-list_canonical.false))
+      | else-store-at-le1 w ↦ fails _ (lt-leb _ _ w.if-store-at-le1.false)
+    ]
     ∙ sym (consumer_parts c.args.store.now c.args.at c.requires)

@@ -6,23 +6,28 @@ use Rattle.store.proofs.Tests.{fails, passes, answered_no, answered_yes}
 use Rattle.check_words.proofs.Spelt.{blank_is}
 use Rattle.check_words.proofs.Parts.{dispatcher_parts}
 use Rattle.check_words.proofs.canonical.dispatcher_canonical.Goals as goal
+use Rattle.check_words.proofs.canonical.dispatcher_canonical.Goals.{then-is_blank, else-is_blank}
 
-pub returns-then-not-is_blank : goal.returns-then-not-is_blank
-returns-then-not-is_blank c =
+pub returns-then-lists_canonical : goal.returns-then-lists_canonical
+returns-then-lists_canonical c =
     let a = c.args in
-    fails _ (answered_no (blank_is _ (a.at + 6) (a.at + 11) 5 (omega arith) c.is_blank.ensures) c.if-not-is_blank.true)
+    let b = blank_is _ (a.at + 6) (a.at + 11) 5 (omega arith) c.is_blank.ensures in
+    elim c.if-is_blank.branch [
+      | then-is_blank w ↦
+          passes (answered_yes b w.if-is_blank.true)
+          (passes (sym w.lists_canonical.ensures ∙ sym w.value-is ∙ c.if-lists_canonical.true) c.marks_canonical.ensures)
+      | else-is_blank w ↦ absurd (cc)
+    ]
     ∙ sym (dispatcher_parts a.store.now a.e a.at c.requires)
 
-pub returns-then-not-lists_canonical : goal.returns-then-not-lists_canonical
-returns-then-not-lists_canonical c =
+pub returns-else-lists_canonical : goal.returns-else-lists_canonical
+returns-else-lists_canonical c =
     let a = c.args in
-    passes (answered_yes (blank_is _ (a.at + 6) (a.at + 11) 5 (omega arith) c.is_blank.ensures) c.if-not-is_blank.false)
-    (fails _ (answered_no c.lists_canonical.ensures c.if-not-lists_canonical.true))
-    ∙ sym (dispatcher_parts a.store.now a.e a.at c.requires)
-
-pub returns : goal.returns
-returns c =
-    let a = c.args in
-    passes (answered_yes (blank_is _ (a.at + 6) (a.at + 11) 5 (omega arith) c.is_blank.ensures) c.if-not-is_blank.false)
-    (passes (answered_yes c.lists_canonical.ensures c.if-not-lists_canonical.false) c.marks_canonical.ensures)
+    let b = blank_is _ (a.at + 6) (a.at + 11) 5 (omega arith) c.is_blank.ensures in
+    c.if-lists_canonical.false
+    ∙ elim c.if-is_blank.branch [
+      | then-is_blank w ↦
+          passes (answered_yes b w.if-is_blank.true) (fails _ (sym w.lists_canonical.ensures ∙ sym w.value-is ∙ c.if-lists_canonical.false))
+      | else-is_blank w ↦ fails _ (answered_no b w.if-is_blank.false)
+    ]
     ∙ sym (dispatcher_parts a.store.now a.e a.at c.requires)

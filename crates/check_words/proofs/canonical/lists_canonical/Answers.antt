@@ -1,29 +1,44 @@
 -- `check_words::canonical::lists_canonical` meets its contract: the four lists are tested in order.
-use Rattle.store.proofs.Tests.{fails, passes, answered_no, answered_yes}
+use mathlib.Core.Path.{sym, ◌∙◌}
+use Rattle.store.proofs.Tests.{fails, passes}
 use Rattle.check_words.specs.Canonical.{lists_canonical}
 use Rattle.check_words.proofs.canonical.lists_canonical.Goals as goal
+use Rattle.check_words.proofs.canonical.lists_canonical.Goals.{then-list_canonical, else-list_canonical, then-list_canonical-2, else-list_canonical-2}
 
-pub returns-then-not-list_canonical : goal.returns-then-not-list_canonical
+pub returns-then-list_canonical-3 : goal.returns-then-list_canonical-3
 unfolding lists_canonical
-returns-then-not-list_canonical c = fails _ (answered_no c.list_canonical.ensures c.if-not-list_canonical.true)
+returns-then-list_canonical-3 c =
+    elim c.if-list_canonical-2.branch [
+      | then-list_canonical-2 v ↦
+          elim c.if-list_canonical.branch [
+            | then-list_canonical w ↦
+                passes (sym c.list_canonical.ensures ∙ w.if-list_canonical.true)
+                (passes (sym w.list_canonical-then-list_canonical.ensures ∙ sym w.value-is ∙ v.if-list_canonical-2.true)
+                (passes (sym v.list_canonical-then-list_canonical-2.ensures ∙ sym v.value-is ∙ c.if-list_canonical-3.true)
+                c.list_canonical-then-list_canonical-3.ensures))
+            | else-list_canonical w ↦ absurd (cc)
+          ]
+      | else-list_canonical-2 v ↦ absurd (cc)
+    ]
 
-pub returns-then-not-list_canonical-2 : goal.returns-then-not-list_canonical-2
+pub returns-else-list_canonical-3 : goal.returns-else-list_canonical-3
 unfolding lists_canonical
-returns-then-not-list_canonical-2 c =
-    passes (answered_yes c.list_canonical.ensures c.if-not-list_canonical.false)
-    (fails _ (answered_no c.list_canonical-2.ensures c.if-not-list_canonical-2.true))
-
-pub returns-then-not-list_canonical-3 : goal.returns-then-not-list_canonical-3
-unfolding lists_canonical
-returns-then-not-list_canonical-3 c =
-    passes (answered_yes c.list_canonical.ensures c.if-not-list_canonical.false)
-    (passes (answered_yes c.list_canonical-2.ensures c.if-not-list_canonical-2.false)
-    (fails _ (answered_no c.list_canonical-3.ensures c.if-not-list_canonical-3.true)))
-
-pub returns : goal.returns
-unfolding lists_canonical
-returns c =
-    passes (answered_yes c.list_canonical.ensures c.if-not-list_canonical.false)
-    (passes (answered_yes c.list_canonical-2.ensures c.if-not-list_canonical-2.false)
-    (passes (answered_yes c.list_canonical-3.ensures c.if-not-list_canonical-3.false)
-    c.list_canonical-4.ensures))
+returns-else-list_canonical-3 c =
+    c.if-list_canonical-3.false
+    ∙ elim c.if-list_canonical-2.branch [
+      | then-list_canonical-2 v ↦
+          elim c.if-list_canonical.branch [
+            | then-list_canonical w ↦
+                passes (sym c.list_canonical.ensures ∙ w.if-list_canonical.true)
+                (passes (sym w.list_canonical-then-list_canonical.ensures ∙ sym w.value-is ∙ v.if-list_canonical-2.true)
+                (fails _ (sym v.list_canonical-then-list_canonical-2.ensures ∙ sym v.value-is ∙ c.if-list_canonical-3.false)))
+            | else-list_canonical w ↦ absurd (cc)
+          ]
+      | else-list_canonical-2 v ↦
+          elim c.if-list_canonical.branch [
+            | then-list_canonical w ↦
+                passes (sym c.list_canonical.ensures ∙ w.if-list_canonical.true)
+                (fails _ (sym w.list_canonical-then-list_canonical.ensures ∙ sym w.value-is ∙ v.if-list_canonical-2.false))
+            | else-list_canonical w ↦ fails _ (sym c.list_canonical.ensures ∙ w.if-list_canonical.false)
+          ]
+    ]

@@ -2,9 +2,11 @@
 use mathlib.Core.Path.{◌≡◌, refl, sym}
 use native.Mathlib.Omega.{arith}
 use lib.ListN.{get_or}
-use Rattle.check_words.specs.Canonical.{each_slot, table_canonical}
+use Rattle.check_rows.specs.Below.{each_below}
+use Rattle.check_words.specs.Canonical.{table_canonical}
 use Rattle.store.proofs.Tests.{fails, passes, answered_no, answered_yes}
-use Rattle.check_words.proofs.Tables.{list_few, slot_turn, slot_stop}
+use Rattle.check_rows.proofs.Below.{each_turn, each_stop}
+use Rattle.check_words.proofs.Tables.{list_few}
 use Rattle.check_words.proofs.canonical.table_canonical.Goals as goal
 
 pub returns-then-not-list_canonical : goal.returns-then-not-list_canonical
@@ -12,7 +14,7 @@ unfolding table_canonical
 returns-then-not-list_canonical g c = λ right tells. fails _ (answered_no c.list_canonical.ensures c.if-not-list_canonical.true)
 
 pub loop-i-init : goal.loop-i-init
-unfolding each_slot
+unfolding each_below
 loop-i-init g c = λ right tells. refl
 
 pub slot-requires : goal.slot-requires
@@ -30,8 +32,8 @@ returns-then-not-slot g c =
     let l = list_few a.store.now a.at a.most a.width (answered_yes c.list_canonical.ensures c.if-not-list_canonical.false) in
     let w = c.word-i-end.ensures in
     passes (answered_yes c.list_canonical.ensures c.if-not-list_canonical.false)
-    (sym (slot_stop right (get_or a.store.now a.at 0) c.loop-i.i (omega arith)
-    (answered_no (tells c.loop-i.i c.slot.result (omega arith) c.slot.ensures) c.if-not-slot.true)))
+    (each_stop right (get_or a.store.now a.at 0) c.loop-i.i (omega arith)
+    (answered_no (tells c.loop-i.i c.slot.result (omega arith) c.slot.ensures) c.if-not-slot.true))
 
 pub loop-i-preserved : goal.loop-i-preserved
 loop-i-preserved g c =
@@ -39,7 +41,7 @@ loop-i-preserved g c =
     let a = c.args in
     let l = list_few a.store.now a.at a.most a.width (answered_yes c.list_canonical.ensures c.if-not-list_canonical.false) in
     let w = c.word-i-end.ensures in
-    slot_turn right c.loop-i.i (c.loop-i.invariant right tells)
+    each_turn right c.loop-i.i (c.loop-i.invariant right tells)
     (answered_yes (tells c.loop-i.i c.slot.result (omega arith) c.slot.ensures) c.if-not-slot.false)
 
 pub returns : goal.returns

@@ -2,9 +2,9 @@
 use mathlib.Core.Path.{◌≡◌}
 use mathlib.Core.Bool.{Bool, true}
 use Prim.Native.Nat.{ℕ, ◌<◌}
-use Rattle.check_words.specs.Canonical.{each_slot}
+use Rattle.check_rows.specs.Below.{each_below}
 use Rattle.check_words.proofs.canonical.table_canonical.Given as goal
 
 abbrev pub invariant-loop-i : goal.invariant-loop-i
 invariant-loop-i g l =
-    (right : ℕ → Bool) → ((i : ℕ) (r : Bool) → i < l.most → goal.F-post g l.slot i r → r ≡ right i) → each_slot right l.i ≡ true
+    (right : ℕ → Bool) → ((i : ℕ) (r : Bool) → i < l.most → goal.F-post g l.slot i r → r ≡ right i) → each_below right l.i ≡ true

@@ -7,15 +7,15 @@ use Rattle.check_words.proofs.Spelt.{blank_is}
 use Rattle.check_words.proofs.Parts.{topic_parts}
 use Rattle.check_words.proofs.canonical.topic_canonical.Goals as goal
 
-pub returns-then-not-is_blank : goal.returns-then-not-is_blank
-returns-then-not-is_blank c =
+pub returns-then-is_blank : goal.returns-then-is_blank
+returns-then-is_blank c =
     let a = c.args in
-    fails _ (answered_no (blank_is _ (a.at + 1) (a.at + 3) 2 (omega arith) c.is_blank.ensures) c.if-not-is_blank.true)
+    passes (answered_yes (blank_is _ (a.at + 1) (a.at + 3) 2 (omega arith) c.is_blank.ensures) c.if-is_blank.true) c.list_canonical.ensures
     ∙ sym (topic_parts a.store.now a.e a.at c.requires)
 
-pub returns : goal.returns
-returns c =
+pub returns-else-is_blank : goal.returns-else-is_blank
+returns-else-is_blank c =
     let a = c.args in
-    passes (answered_yes (blank_is _ (a.at + 1) (a.at + 3) 2 (omega arith) c.is_blank.ensures) c.if-not-is_blank.false)
-    c.list_canonical.ensures
+    c.if-is_blank.false
+    ∙ fails _ (answered_no (blank_is _ (a.at + 1) (a.at + 3) 2 (omega arith) c.is_blank.ensures) c.if-is_blank.false)
     ∙ sym (topic_parts a.store.now a.e a.at c.requires)
