@@ -8,16 +8,14 @@ ghost use Rattle.words.specs.Wrote.{Wrote};
 ghost use Rattle.rules.specs.Push.{record_read, records_read};
 ghost use Rattle.trace.specs.Text.{number_and, PLUS_AND_BLANK, dispatch_line, dispatch_lines, outcome_line, BAD_AND_BLANK, bad_line};
 ghost use Rattle.trace.specs.Played.{ROOM};
-ghost use Rattle.refusal.specs.Words.{word_of};
 ghost use Rattle.told.specs.Told.{dispatches_told};
 ghost use Rattle.trace_lines.specs.Told.{lines_bytes, permits_text, text_told};
 
 use decimal::{write_decimal, write_difference};
 use record::RECORD_WORDS;
-use refusal::Answer;
 use std::num::wrapping_add_u64;
 use store::permits::ZERO_PERMITS;
-use told::{dispatches, number_of};
+use told::{dispatches_in, number_in};
 
 // The characters.
 const PLUS: u8 = b'+';
@@ -108,19 +106,13 @@ fn write_dispatches(buffer: &mut [u8], at: usize, list: &[u64], count: usize) ->
 }
 
 // Writes all lines of a record that is a call, at the start of a buffer: of its answer, and of what a push left in its list.
-pub fn write_outcome(
-    buffer: &mut [u8],
-    number: u64,
-    kind: u64,
-    answer: Answer,
-    list: &[u64],
-) -> usize
-    requires { (lines_bytes ≤ length buffer.old) × (dispatches_told kind (word_of answer) ≤ ROOM)
-        × (13 * dispatches_told kind (word_of answer) ≤ length list.now) }
-    ensures { Wrote lines_bytes buffer.old 0 (text_told number kind (word_of answer) list.now) buffer.new result }
+pub fn write_outcome(buffer: &mut [u8], number: u64, kind: u64, answer: u64, list: &[u64]) -> usize
+    requires { (lines_bytes ≤ length buffer.old) × (dispatches_told kind answer ≤ ROOM)
+        × (13 * dispatches_told kind answer ≤ length list.now) }
+    ensures { Wrote lines_bytes buffer.old 0 (text_told number kind answer list.now) buffer.new result }
 {
-    let made = dispatches(kind, answer);
-    let end = write_line(buffer, number, kind, number_of(answer), made);
+    let made = dispatches_in(kind, answer);
+    let end = write_line(buffer, number, kind, number_in(answer), made);
     write_dispatches(buffer, end, list, made as usize)
 }
 
