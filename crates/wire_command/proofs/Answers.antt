@@ -1,7 +1,7 @@
 -- The answer, the eight words and the list at each way out of `read.rt`.
 use Prim.Native.Nat.{ℕ, ◌-◌, ◌*◌, ◌^◌, ◌≤◌, ◌<◌}
 use mathlib.Core.Path.{◌≡◌, refl, sym, ap, ◌∙◌}
-use mathlib.Core.Bool.{true, false}
+use mathlib.Core.Bool.{true, false, true≢false}
 use mathlib.Core.List.{List}
 use mathlib.Core.Option.{Option, none, some}
 use native.Mathlib.Omega.{arith}
@@ -177,3 +177,18 @@ untyped_number n why e =
 
     same : {w : Unread} → ◌≡◌ {A = Result CommandType Unread} (Err why) (Err w) → why ≡ w
     same z = cc
+
+-- it has no command
+pub no_command : (n at : ℕ) (m : List ℕ) → takes_command n ≡ false → command_of n at m ≡ none
+unfolding takes_command command_of
+no_command n at m e =
+    by_test (eqb n SUBSCRIBE) (λ t. never (rw t at e))
+    (λ a. by_test (eqb n ACK) (λ t. never (rw (a, t) at e))
+    (λ b. by_test (eqb n FLOW) (λ t. never (rw (a, b, t) at e))
+    (λ c. by_test (eqb n CLOSE_CONSUMER) (λ t. never (rw (a, b, c, t) at e))
+    (λ d. by_test (eqb n REDELIVER) (λ t. never (rw (a, b, c, d, t) at e))
+    (λ f. by_test (eqb n SEEK) (λ t. never (rw (a, b, c, d, f, t) at e))
+    (λ g. rw (a, b, c, d, f, g)))))))
+  where
+    never : {P : Type 0} → true ≡ false → P
+    never z = absurd (true≢false z)

@@ -7,7 +7,7 @@ ghost use Rattle.wire_command.specs.Found.{ids_words, IdsReady, content_reading}
 ghost use Rattle.wire_command.specs.Types.{type_number, read_word};
 
 use super::command_type::CommandType;
-use super::content::content;
+use super::content::content_of;
 use super::eight_words::write_words;
 use super::ids::{ACK_IDS, REDELIVER_IDS};
 use wire_fields::base::read_base;
@@ -46,7 +46,7 @@ fn read_content(
     ensures words { command.new ≡ command_after command.old (content_reading (command_of (type_number kind) at m.now)) }
     ensures ids { list.new ≡ ids_after list.old (content_reading (command_of (type_number kind) at m.now)) }
 {
-    let c = content(m, kind, at).ok_or(Unread::Malformed)?;
+    let c = content_of(m, kind, at).ok_or(Unread::Malformed)?;
     lay_list(m, kind, list);
     write_words(command, c);
     Ok(kind)
