@@ -16,7 +16,7 @@ use Rattle.rules.proofs.Table.{by_test}
 use Rattle.wire.specs.Fields.{Field, fields}
 use Rattle.wire.specs.Select.{numbered, required, optional, part, up_to}
 use Rattle.wire_fields.specs.Found.{as_field, answered, as_is}
-use Rattle.wire_fields.specs.Picked.{Wanted, nothing_seen, first_of, seen_with, seen_field, seen_after, picked_after, picked}
+use Rattle.wire_fields.specs.Picked.{Wanted, nothing_seen, content_of, seen_with, seen_field, seen_after, picked_after, picked}
 use Rattle.wire_fields.specs.Selected.{is_one, number, optional_number, place, at_most, place_of}
 use Rattle.wire_fields.proofs.Answered.{from_some, from_none, told_is, told_none}
 use Rattle.wire_fields.specs.declared.pick.Seen.{Seen}
@@ -36,7 +36,7 @@ count_after wire n (f ∷ l) = count_after wire (cond (of_wire wire f) (cond (le
 -- what was seen is this of the fields of the number: how many there are, and what a single one is
 pub record Saw (wire : ℕ) (l : List Field) (s : Seen) : Type 0 where
   pub count : s.count ≡ count_after wire 0 l
-  pub single : (f : Field) → l ≡ f ∷ [] → of_wire wire f ≡ true → (s.first ≡ first_of (as_field f)) × (s.next ≡ f.next)
+  pub single : (f : Field) → l ≡ f ∷ [] → of_wire wire f ≡ true → (s.content ≡ content_of (as_field f)) × (s.next ≡ f.next)
 
 -- ---- counting
 
@@ -115,8 +115,8 @@ module _ (w : Wanted) where
   unfolding seen_after seen_field seen_with as_field
   seen_out s f fs t =
       ap (λ (b : Bool). seen_after w (cond b (cond (eqb f.wire w.wire)
-      (cond (leb 65 s.count) s (record { count = s.count + 1; first = first_of (as_field f); next = f.next }))
-      (record { count = 65; first = 0; next = 0 })) s) fs) t
+      (cond (leb 65 s.count) s (record { count = s.count + 1; content = content_of (as_field f); next = f.next }))
+      (record { count = 65; content = 0; next = 0 })) s) fs) t
 
   -- one of the number is counted
   seen_count : (s : Seen) (f : Field) → eqb f.number w.number ≡ true
@@ -152,12 +152,12 @@ module _ (w : Wanted) where
 
   -- a single one is kept
   single_kept : (f : Field) → eqb f.number w.number ≡ true → of_wire w.wire f ≡ true
-      → seen_field w nothing_seen (as_field f) ≡ record { count = 1; first = first_of (as_field f); next = f.next }
+      → seen_field w nothing_seen (as_field f) ≡ record { count = 1; content = content_of (as_field f); next = f.next }
   unfolding seen_field seen_with as_field
   single_kept f t u = rw (t, u)
 
   single_seen : (fs : List Field) (g : Field) → numbered w.number fs ≡ g ∷ [] → of_wire w.wire g ≡ true
-      → seen_after w nothing_seen fs ≡ record { count = 1; first = first_of (as_field g); next = g.next }
+      → seen_after w nothing_seen fs ≡ record { count = 1; content = content_of (as_field g); next = g.next }
   unfolding numbered keep seen_after
   single_seen [] g e u = let n : ◌≡◌ {A = ℕ} 0 1 = cc in absurd (omega arith)
   single_seen (f ∷ fs) g e u =
@@ -174,7 +174,7 @@ module _ (w : Wanted) where
   saw fs =
       record {
         count = all_count nothing_seen fs;
-        single = λ f e u. let k = single_seen fs f e u in (ap (λ (x : Seen). x.first) k, ap (λ (x : Seen). x.next) k);
+        single = λ f e u. let k = single_seen fs f e u in (ap (λ (x : Seen). x.content) k, ap (λ (x : Seen). x.next) k);
       }
 
 -- ---- a message that was walked
@@ -238,13 +238,13 @@ one_counted wire (f ∷ g ∷ l) s w =
     ne_eqb s.count 1 (λ z. omega (arith, w.count))
 
 pub number_law : (fits : ℕ → Bool) (l : List Field) (s : Seen) → Saw 0 l s → number fits s ≡ answered as_is (required fits l)
-unfolding number required answered one_of first_of as_field
+unfolding number required answered one_of content_of as_field
 number_law fits [] s w = rw (one_counted 0 [] s w)
 number_law fits (f ∷ []) s w = rw (one_counted 0 (f ∷ []) s w) (by_test (eqb f.wire 0) (λ t. rw t (right t)) (λ t. rw t))
   where
-    right : eqb f.wire 0 ≡ true → cond (fits s.first) (Some s.first) None ≡ answered as_is (cond (fits f.value) (some f.value) none)
+    right : eqb f.wire 0 ≡ true → cond (fits s.content) (Some s.content) None ≡ answered as_is (cond (fits f.value) (some f.value) none)
     right t =
-        let q : s.first ≡ f.value = (w.single f refl t).0 ∙ rw t in
+        let q : s.content ≡ f.value = (w.single f refl t).0 ∙ rw t in
         rw q (by_test (fits f.value) (λ u. rw u) (λ u. rw u))
 number_law fits (f ∷ g ∷ l) s w = rw (one_counted 0 (f ∷ g ∷ l) s w)
 
@@ -287,7 +287,7 @@ pub record PartAt (l : List Field) (start next : ℕ) : Type 0 where
   pub ends : f.next ≡ next
 
 pub place_law : (l : List Field) (s : Seen) → Saw 2 l s → place s ≡ answered place_of (part l)
-unfolding place part answered place_of one_of first_of as_field
+unfolding place part answered place_of one_of content_of as_field
 place_law [] s w = rw (one_counted 2 [] s w)
 place_law (f ∷ []) s w =
     rw (one_counted 2 (f ∷ []) s w)
@@ -296,7 +296,7 @@ place_law (f ∷ []) s w =
     let k = eqb-true f.wire 2 t in
     let z : eqb f.wire 0 ≡ false = ne_eqb f.wire 0 (λ e. omega arith) in
     let p = w.single f refl t in
-    let q : s.first ≡ f.start = p.0 ∙ rw z in
+    let q : s.content ≡ f.start = p.0 ∙ rw z in
     rw (t, q, p.1))
     (λ t. rw t))
 place_law (f ∷ g ∷ l) s w = rw (one_counted 2 (f ∷ g ∷ l) s w)

@@ -1,10 +1,11 @@
--- A walk over the fields of a message, field by field: what the loop of `pick.rt` turns on. What was seen so far and the fields
+-- A walk over the fields of a message, field by field: what the loops over `Fields` turn on. What was seen so far and the fields
 -- that are left decide what is seen in all.
 use Prim.Native.Nat.{ℕ, ◌<◌, ◌≤◌}
-use mathlib.Core.Path.{◌≡◌, refl, sym, ap, ◌∙◌}
+use mathlib.Core.Path.{◌≡◌, refl, sym, ap, ◌∙◌, subst}
 use mathlib.Core.List.{List, ◌∷◌}
 use mathlib.Core.Option.{Option, none, some, map, bind}
 use Rattle.std.specs.Prelude.{Some, None}
+use Rattle.std.specs.Prelude as code
 use native.Mathlib.Omega.{arith}
 use lib.ListN.{length}
 use Rattle.wire.specs.Fields.{field, left}
@@ -12,7 +13,9 @@ use Rattle.wire.specs.Fields as wire
 use Rattle.wire.proofs.Fields.{field_lies, left_start, left_end, left_step}
 use Rattle.wire_fields.specs.Found.{as_field, answered}
 use Rattle.wire_fields.specs.Picked.{Wanted, nothing_seen, seen_field, seen_after, picked_after, picked}
+use Rattle.wire_fields.specs.Ahead.{Gives, Steps}
 use Rattle.wire_fields.specs.declared.field.Field.{Field}
+use Rattle.wire_fields.specs.declared.fields.Fields.{Fields}
 use Rattle.wire_fields.proofs.Answered.{from_some, from_none}
 use Rattle.wire_fields.specs.declared.pick.Seen.{Seen}
 
@@ -49,6 +52,36 @@ left_on m at f h w = left_step m at h ∙ rw (w.is, w.same)
 pub left_bad : (m : List ℕ) (at : ℕ) → at < length m → field m at ≡ none → left m at ≡ none
 unfolding bind
 left_bad m at h e = left_step m at h ∙ rw e
+
+-- ---- the steps of a walk
+
+-- a walk over a message stands at a place, inside
+pub record At (m : List ℕ) (s : Fields) : Type 0 where
+  pub of : s.m.now ≡ m
+  pub inside : s.at ≤ length m
+
+-- it begins at the start
+pub at_start : {m : List ℕ} {s : Fields} → (s.m.now ≡ m) × (s.at ≡ 0) → At m s
+at_start e = record { of = e.0; inside = rw e.1 (omega arith) }
+
+module _ {m : List ℕ} {s t : Fields} (a : At m s) where
+  -- a field stands at the place, and the next place is behind it
+  pub on : {o : code.Option Field} {f : Field} → Steps s (Some o) t → o ≡ Some f
+      → (s.at < length m) × Stands m s.at f × (t.at ≡ f.next) × At m t
+  on {f = f} e i =
+      let k = subst (λ (x : code.Option Field). Gives s (Some x) t) i e.gives in
+      let w = stands m s.at f (rw a.of at k.1) in
+      (rw a.of at k.0, w, k.2, record { of = e.same ∙ a.of; inside = rw k.2 w.ends })
+
+  -- or none, though bytes are left
+  pub off : {o : code.Option Field} → Steps s (Some o) t → o ≡ None → (s.at < length m) × (field m s.at ≡ none)
+  off e i =
+      let k = subst (λ (x : code.Option Field). Gives s (Some x) t) i e.gives in
+      (rw a.of at k.0, stands_not m s.at (rw a.of at k.1))
+
+  -- no bytes are left
+  pub ended : Steps s None t → length m ≤ s.at
+  ended e = rw a.of at e.gives
 
 -- ---- what is seen
 

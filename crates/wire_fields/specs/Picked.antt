@@ -28,24 +28,24 @@ part_of n = record { number = n; wire = 2 }
 
 -- nothing was seen yet
 abbrev pub nothing_seen : Seen
-nothing_seen = record { count = 0; first = 0; next = 0 }
+nothing_seen = record { count = 0; content = 0; next = 0 }
 
 -- a varint's number; of another field where its bytes begin
-unfoldable pub first_of : Field → ℕ
-first_of f = cond (eqb f.wire 0) f.value f.start
+unfoldable pub content_of : Field → ℕ
+content_of f = cond (eqb f.wire 0) f.value f.start
 
 -- one field more: another wire type counts as 65, more than any reader takes, and the count stops there
 unfoldable pub seen_with : Wanted → Seen → ℕ → ℕ → ℕ → ℕ → Seen
-seen_with w s number wire first next =
+seen_with w s number wire content next =
     cond (eqb number w.number)
     (cond (eqb wire w.wire)
-    (cond (leb 65 s.count) s (record { count = s.count + 1; first = first; next = next }))
-    (record { count = 65; first = 0; next = 0 }))
+    (cond (leb 65 s.count) s (record { count = s.count + 1; content = content; next = next }))
+    (record { count = 65; content = 0; next = 0 }))
     s
 
 -- one field of a message more
 unfoldable pub seen_field : Wanted → Seen → Field → Seen
-seen_field w s f = seen_with w s f.number f.wire (first_of f) f.next
+seen_field w s f = seen_with w s f.number f.wire (content_of f) f.next
 
 -- all fields of a list, after what was seen before
 unfoldable pub seen_after : Wanted → Seen → List wire.Field → Seen

@@ -60,10 +60,10 @@ impl Seen {
         if !self.is_one() {
             return None;
         }
-        if !width.fits(self.first) {
+        if !width.fits(self.content) {
             return None;
         }
-        Some(self.first)
+        Some(self.content)
     }
 
     // A number that may be absent, and is 0 then.
@@ -86,7 +86,7 @@ impl Seen {
             return None;
         }
         Some(Place {
-            start: self.first as usize,
+            start: self.content as usize,
             next: self.next,
         })
     }

@@ -244,11 +244,6 @@ module _ (m : List ℕ) (number : ℕ) where
       unfolding tally_on
       counted_on u e = record { inside = w.ends; room = tally_room f t u c.room e; rest = now_tally ∙ rw (← e) }
 
-      -- a field of another number counts for nothing
-      pub counted_past : (f.number ≡ number → ⊥) → Counted f.next t
-      unfolding tally_with
-      counted_past n = counted_on t (rw (ne_eqb f.number number n))
-
 -- there is no id
 pub tallied_none : (t : Tally) (bytes : List ℕ) → None ≡ answered words_in (group_of bytes) → tallied t (group_of bytes) ≡ None
 unfolding tallied

@@ -5,8 +5,8 @@ ghost use Rattle.wire.specs.Ids.{group_of};
 ghost use Rattle.wire_fields.specs.Found.{answered};
 ghost use Rattle.wire_ids.specs.Parts.{one_more, parts_with, words_in};
 
-use wire_fields::field::{VARINT, WIRE_TYPES, field_at, short_tag, varint_tag};
-use wire_fields::varint::varint_of_any_size;
+use wire_fields::field::VARINT;
+use wire_fields::fields::Fields;
 
 // The numbers of the fields that are read.
 pub const LEDGER: u64 = 1;
@@ -70,33 +70,18 @@ impl Parts {
     }
 }
 
-// How many words the ack set of the id has whose message is `m`. A field says where the next one begins.
+// How many words the ack set of the id has whose message is `m`.
 pub fn id_words(m: &[u8]) -> Option<u64>
     ensures { result ≡ answered words_in (group_of m.now) }
 {
-    let mut at = 0;
     let mut p = Parts {
         ledgers: 0,
         entries: 0,
         words: 0,
     };
-    while at < m.len() {
-        let short = short_tag(m, at);
-        if short != 0 {
-            p = p.with(short / WIRE_TYPES, VARINT);
-            at += 2;
-            continue;
-        }
-        let tag = varint_tag(m, at);
-        if tag != 0 {
-            let value = varint_of_any_size(m, at + 1)?;
-            p = p.with(tag / WIRE_TYPES, VARINT);
-            at = value.next;
-            continue;
-        }
-        let f = field_at(m, at)?;
+    for field in Fields::of(m) {
+        let f = field?;
         p = p.with(f.number, f.wire);
-        at = f.next;
     }
     if p.ledgers != 1 {
         return None;

@@ -4,7 +4,8 @@ ghost use Rattle.wire_fields.specs.Found.{answered};
 ghost use Rattle.wire_ids.specs.Sizes.{size_of, ids_of, tally_with, tally_id};
 
 use super::id::{HEAD_WORDS, id_words};
-use wire_fields::field::{DELIMITED, Field, field_at, passed_by};
+use wire_fields::field::{DELIMITED, Field};
+use wire_fields::fields::Fields;
 
 // The most ids of a list.
 const MOST_IDS: u64 = 64;
@@ -47,23 +48,17 @@ fn with_field(m: &[u8], number: u64, f: Field, t: Tally) -> Option<Tally>
     with_id(m, f, t)
 }
 
-// The words that the ids under a number of a message take. A field says where the next one begins.
+// The words that the ids under a number of a message take.
 pub fn list_size(m: &[u8], number: u64) -> Option<u64>
     ensures { result ≡ answered size_of (ids_of m.now number) }
 {
-    let mut at = 0;
     let mut t = Tally {
         left: MOST_IDS,
         words: 0,
     };
-    while at < m.len() {
-        if passed_by(m, at, number) {
-            at += 2;
-            continue;
-        }
-        let f = field_at(m, at)?;
+    for field in Fields::of(m) {
+        let f = field?;
         t = with_field(m, number, f, t)?;
-        at = f.next;
     }
     Some(t.words)
 }
