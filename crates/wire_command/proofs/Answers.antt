@@ -22,11 +22,11 @@ use Rattle.wire_fields.proofs.Bases.{Placed, base_untyped, base_other, base_no_m
 use Rattle.std.specs.Prelude.{None, Result, Ok, Err}
 use Rattle.wire_fields.specs.Found.{answered}
 use Rattle.wire_fields.specs.declared.unread.Unread.{Unread}
-use Rattle.wire_fields.specs.Unread.{unread_number}
+use Rattle.wire_fields.specs.Unread.{unread_number, unread_word}
 use Rattle.wire_fields.proofs.Answered.{Told, from_none}
 use Rattle.command_parts.specs.Parts.{kind_of}
 use Rattle.wire_command.specs.Found.{as_name, as_kind, as_target, as_command, words_of, content_reading, ids_words}
-use Rattle.wire_command.specs.Types.{type_number, type_from, read_word}
+use Rattle.wire_command.specs.Types.{type_number, type_from}
 use Rattle.wire_command.specs.declared.command_type.CommandType.{CommandType}
 use Rattle.wire_command.specs.declared.command_type.CommandType.TheVariants as code_type
 use Rattle.wire_command.specs.declared.command.Command as code
@@ -34,7 +34,7 @@ use Rattle.wire_command.proofs.Choices.{Chosen}
 
 -- a call's answer, eight words and list, by what was read
 pub record Done (r : Reading Command) (words list : List ℕ) (result : Result CommandType Unread) (words_after list_after : List ℕ) : Type 0 where
-  pub answer : read_word result ≡ command_answer r
+  pub answer : unread_word type_number result ≡ command_answer r
   pub written : words_after ≡ command_after words r
   pub laid : list_after ≡ ids_after list r
 

@@ -9,12 +9,8 @@ use super::numbers::{CONSUMER_ID, REQUEST_ID, two_uint64};
 use command_parts::Target;
 use wire_fields::base::NOTHING;
 use wire_fields::field::{DELIMITED, WIRE_TYPES};
+use wire_fields::format::{ENTRY_ID, LEDGER_ID};
 use wire_fields::pick::pick;
-
-// Fields of MessageIdData.
-const LEDGER_ID: u64 = 1;
-
-const ENTRY_ID: u64 = 2;
 
 // The id of CommandSeek.
 const MESSAGE_ID: u64 = 3 * WIRE_TYPES + DELIMITED;

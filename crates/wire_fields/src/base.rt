@@ -5,6 +5,7 @@ ghost use Rattle.wire_fields.specs.Found.{answered};
 ghost use Rattle.wire_fields.specs.Selected.{base_of, placed};
 
 use super::field::{DELIMITED, VARINT, WIRE_TYPES};
+use super::format::UINT32_END;
 use super::pick::pick;
 use super::select::{Place, Width};
 
@@ -13,9 +14,6 @@ const TYPE: u64 = 1 * WIRE_TYPES + VARINT;
 
 // No field has the number 0.
 pub const NOTHING: u64 = 0;
-
-// Numbers of types are below this.
-const TYPES_END: u64 = 0x1_0000_0000;
 
 // The type, and where its message stands if it is there.
 #[derive(Clone, Copy)]
@@ -39,7 +37,7 @@ fn likely_type(m: &[u8]) -> u64
 fn message_part(m: &[u8], kind: u64) -> Option<Place>
     ensures { result ≡ placed m.now kind }
 {
-    if TYPES_END <= kind {
+    if UINT32_END <= kind {
         return None;
     }
     let (x, _, _) = pick(m, kind * WIRE_TYPES + DELIMITED, NOTHING, NOTHING)?;

@@ -5,6 +5,7 @@ ghost use Rattle.std.specs.Prelude.{◌≡◌, ◌+◌, ◌≤◌, length};
 ghost use Rattle.wire.specs.Fields.{field, field_of, varint_field, delimited_field, fixed_field};
 ghost use Rattle.wire_fields.specs.Found.{answered, as_field, part_field};
 
+use super::format::UINT32_END;
 use super::varint::varint_at;
 
 // A field as `wire/specs/Fields` has it, number by number: its number and wire type, the number of a varint, and the places where
@@ -29,8 +30,6 @@ const FIXED_32: u64 = 5;
 
 // A tag is number × 8 + wire type, the number from 1 to 2^29 - 1.
 pub const WIRE_TYPES: u64 = 8;
-
-const TAGS_END: u64 = 0x1_0000_0000;
 
 // A varint field whose number stands at a place.
 #[inline(always)]
@@ -120,7 +119,7 @@ pub fn field_at(m: &[u8], at: usize) -> Option<Field>
     if tag.value < WIRE_TYPES {
         return None;
     }
-    if TAGS_END <= tag.value {
+    if UINT32_END <= tag.value {
         return None;
     }
     content_at(m, tag.value / WIRE_TYPES, tag.value % WIRE_TYPES, tag.next)

@@ -5,6 +5,7 @@
 pub mod base;
 pub mod field;
 pub mod fields;
+pub mod format;
 pub mod lay;
 pub mod pick;
 pub mod select;

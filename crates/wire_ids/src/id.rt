@@ -7,12 +7,9 @@ ghost use Rattle.wire_ids.specs.Parts.{one_more, parts_with, words_in};
 
 use wire_fields::field::VARINT;
 use wire_fields::fields::Fields;
+use wire_fields::format::{ENTRY_ID, LEDGER_ID};
 
-// The numbers of the fields that are read.
-pub const LEDGER: u64 = 1;
-
-pub const ENTRY: u64 = 2;
-
+// The number of an ack set's words.
 pub const ACK_SET: u64 = 5;
 
 // The words of an id beside those of its ack set: ledger, entry, how many.
@@ -57,11 +54,11 @@ impl Parts {
                 words: one_more(self.words, wire, TOO_MANY_WORDS),
                 ..self
             },
-            LEDGER => Parts {
+            LEDGER_ID => Parts {
                 ledgers: one_more(self.ledgers, wire, TOO_MANY),
                 ..self
             },
-            ENTRY => Parts {
+            ENTRY_ID => Parts {
                 entries: one_more(self.entries, wire, TOO_MANY),
                 ..self
             },

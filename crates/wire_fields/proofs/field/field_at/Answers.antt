@@ -10,10 +10,10 @@ pub returns-then-tag-lt-WIRE_TYPES : goal.returns-then-tag-lt-WIRE_TYPES
 returns-then-tag-lt-WIRE_TYPES c =
     number_0 _ _ _ _ (was_read _ _ c.requires _ _ c.in_ok-tag.ensures) c.if-tag-lt-WIRE_TYPES.true
 
-pub returns-then-tag-ge-TAGS_END : goal.returns-then-tag-ge-TAGS_END
-returns-then-tag-ge-TAGS_END c =
+pub returns-then-tag-ge-UINT32_END : goal.returns-then-tag-ge-UINT32_END
+returns-then-tag-ge-UINT32_END c =
     let w = was_read _ _ c.requires _ _ c.in_ok-tag.ensures in
-    number_high _ _ _ _ w c.if-tag-lt-WIRE_TYPES.false c.if-tag-ge-TAGS_END.true
+    number_high _ _ _ _ w c.if-tag-lt-WIRE_TYPES.false c.if-tag-ge-UINT32_END.true
 
 pub content_at-requires : goal.content_at-requires
 content_at-requires c = (was_read _ _ c.requires _ _ c.in_ok-tag.ensures).ends
@@ -21,4 +21,4 @@ content_at-requires c = (was_read _ _ c.requires _ _ c.in_ok-tag.ensures).ends
 pub returns : goal.returns
 returns c =
     let w = was_read _ _ c.requires _ _ c.in_ok-tag.ensures in
-    c.content_at.ensures ∙ number_right _ _ _ _ w c.if-tag-lt-WIRE_TYPES.false c.if-tag-ge-TAGS_END.false
+    c.content_at.ensures ∙ number_right _ _ _ _ w c.if-tag-lt-WIRE_TYPES.false c.if-tag-ge-UINT32_END.false
