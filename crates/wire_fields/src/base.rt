@@ -12,9 +12,6 @@ use super::select::{Place, Width};
 // The tag of the type.
 const TYPE: u64 = 1 * WIRE_TYPES + VARINT;
 
-// No field has the number 0.
-pub const NOTHING: u64 = 0;
-
 // The type, and where its message stands if it is there.
 #[derive(Clone, Copy)]
 pub struct Base {
@@ -40,7 +37,7 @@ fn message_part(m: &[u8], kind: u64) -> Option<Place>
     if UINT32_END <= kind {
         return None;
     }
-    let (x, _, _) = pick(m, kind * WIRE_TYPES + DELIMITED, NOTHING, NOTHING)?;
+    let [x] = pick(m, [kind * WIRE_TYPES + DELIMITED])?;
     x.part()
 }
 
@@ -51,7 +48,7 @@ pub fn read_base(m: &[u8]) -> Option<Base>
 {
     let likely = likely_type(m);
     let n = m.len();
-    let (x, y, _) = pick(&m[0..n], TYPE, likely * WIRE_TYPES + DELIMITED, NOTHING)?;
+    let [x, y] = pick(&m[0..n], [TYPE, likely * WIRE_TYPES + DELIMITED])?;
     let kind = x.required(Width::Int32)?;
     if kind == likely {
         let message = y.part();

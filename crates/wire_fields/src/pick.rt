@@ -1,7 +1,7 @@
-// One walk over all fields of a message that keeps what stands under three numbers. A number is asked for by the tag that its field
+// One walk over all fields of a message that keeps what stands under some numbers. A number is asked for by the tag that its field
 // has, number × 8 + wire type.
 ghost use Rattle.std.specs.Prelude.{◌≡◌};
-ghost use Rattle.wire_fields.specs.Picked.{wanted_of, nothing_seen, content_of, seen_field, picked};
+ghost use Rattle.wire_fields.specs.Picked.{wanted_of, nothing_seen, content_of, seen_field, all_seen, picked};
 
 use super::field::{Field, VARINT, WIRE_TYPES};
 use super::fields::Fields;
@@ -68,18 +68,24 @@ impl Seen {
     }
 }
 
-// What stands under three numbers of a message that is well formed.
-pub fn pick(m: &[u8], a: u64, b: u64, c: u64) -> Option<(Seen, Seen, Seen)>
-    ensures { result ≡ picked m.now (wanted_of a) (wanted_of b) (wanted_of c) }
+// One field more under each of some numbers.
+fn all_with<const N: usize>(seen: [Seen; N], tags: [u64; N], f: Field) -> [Seen; N]
+    ensures { result ≡ all_seen tags.entry seen.entry f }
 {
-    let mut x = Seen::nothing();
-    let mut y = Seen::nothing();
-    let mut z = Seen::nothing();
-    for field in Fields::of(m) {
-        let f = field?;
-        x = x.with(a, f);
-        y = y.with(b, f);
-        z = z.with(c, f);
+    let mut now = seen;
+    for i in 0..N {
+        now[i] = seen[i].with(tags[i], f);
     }
-    Some((x, y, z))
+    now
+}
+
+// What stands under some numbers of a message that is well formed.
+pub fn pick<const N: usize>(m: &[u8], tags: [u64; N]) -> Option<[Seen; N]>
+    ensures { result ≡ picked m.now tags.entry }
+{
+    let mut seen = [Seen::nothing(); N];
+    for field in Fields::of(m) {
+        seen = all_with(seen, tags, field?);
+    }
+    Some(seen)
 }

@@ -5,7 +5,6 @@ ghost use Rattle.wire.specs.Message.{content_of};
 ghost use Rattle.wire_fields.specs.Found.{answered, as_is};
 ghost use Rattle.wire_message.specs.Found.{id_of_bytes, ack_count, head_of};
 
-use wire_fields::base::NOTHING;
 use wire_fields::field::{DELIMITED, VARINT, WIRE_TYPES};
 use wire_fields::format::{ENTRY_ID, LEDGER_ID, MOST_ACK_SET_WORDS};
 use wire_fields::pick::pick;
@@ -48,7 +47,7 @@ const ACK_SET: u64 = 4 * WIRE_TYPES + VARINT;
 fn id_of(m: &[u8]) -> Option<BatchId>
     ensures { result ≡ answered as_is (id_of_bytes m.now) }
 {
-    let (x, y, z) = pick(m, LEDGER, ENTRY, BATCH_SIZE)?;
+    let [x, y, z] = pick(m, [LEDGER, ENTRY, BATCH_SIZE])?;
     let ledger = x.required(Width::Uint64)?;
     let entry = y.required(Width::Uint64)?;
     let batch_size = z.optional(Width::Count)?;
@@ -63,7 +62,7 @@ fn id_of(m: &[u8]) -> Option<BatchId>
 fn ack_words(m: &[u8]) -> Option<u64>
     ensures { result ≡ answered as_is (ack_count m.now) }
 {
-    let (x, _, _) = pick(m, ACK_SET, NOTHING, NOTHING)?;
+    let [x] = pick(m, [ACK_SET])?;
     x.several(MOST_ACK_SET_WORDS)
 }
 
@@ -71,7 +70,7 @@ fn ack_words(m: &[u8]) -> Option<u64>
 pub fn read_content(m: &[u8]) -> Option<Head>
     ensures { result ≡ answered head_of (content_of m.now) }
 {
-    let (x, y, z) = pick(m, CONSUMER_ID, MESSAGE_ID, REDELIVERY_COUNT)?;
+    let [x, y, z] = pick(m, [CONSUMER_ID, MESSAGE_ID, REDELIVERY_COUNT])?;
     let consumer = x.required(Width::Uint64)?;
     let part = y.part()?;
     let id = id_of(&m[part.start..part.next])?;
