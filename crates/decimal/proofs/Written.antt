@@ -210,7 +210,8 @@ digits_within (suc k) n h =
     by_last (All (λ (c : ℕ). (48 ≤ c) × (c ≤ 57))) k n (λ g. (is_digit n g, tt))
     (λ g.
     let l : n / 10 < 10 ^ suc k = (div-lt_iff_lt-mul {k = 10} (omega arith)).1 (rw (← (pow-suc 10 (suc k))) h) in
-    all_append (λ (c : ℕ). (48 ≤ c) × (c ≤ 57)) (decimal_within k (n / 10)) (digit (n % 10) ∷ []) (digits_within k (n / 10) l) (is_digit (n % 10) (omega arith), tt))
+    all_append (λ (c : ℕ). (48 ≤ c) × (c ≤ 57)) (decimal_within k (n / 10)) (digit (n % 10) ∷ []) (digits_within k (n / 10) l)
+    (is_digit (n % 10) (omega arith), tt))
 
 -- and its first one is no 0
 front_within : (k n : ℕ) → 1 ≤ n → 49 ≤ get_or (decimal_within k n) 0 0

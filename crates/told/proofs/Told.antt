@@ -5,7 +5,8 @@ use Rattle.rules.specs.Calls.{number_in, value_in}
 use Rattle.trace.specs.Calls.{PUSH}
 use Rattle.refusal.specs.Words.{valued, refusal_word, word_of}
 use Rattle.refusal.specs.declared.Refusal.{Refusal}
-use Rattle.refusal.specs.declared.Refusal.TheVariants.{NoState, BadEntries, StoreShort, NotLive, TopicsFull, EntriesFull, IdTaken, BadBatch, PermitsRange, BadList, IdsFull, ConsumersFull, DispatchersFull, RingFull, ListShort, NoCall, AnswersShort}
+use Rattle.refusal.specs.declared.Refusal.TheVariants.{NoState, BadEntries, StoreShort, NotLive, TopicsFull, EntriesFull, IdTaken, BadBatch}
+use Rattle.refusal.specs.declared.Refusal.TheVariants.{PermitsRange, BadList, IdsFull, ConsumersFull, DispatchersFull, RingFull, ListShort, NoCall, AnswersShort}
 use Rattle.told.specs.Told.{made_told, dispatches_told}
 
 -- of a refusal

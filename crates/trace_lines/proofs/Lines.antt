@@ -1,5 +1,6 @@
 -- Lines written: numbers with a character after them, a dispatch's line, and lines one after the other.
-use Rattle.std.proofs.Common.{◌≡◌, ℕ, suc, ◌+◌, ◌-◌, ◌*◌, ◌%◌, ◌^◌, ◌<◌, ◌≤◌, List, ◌++◌, get_or, drop, set, length, refl, ap, ◌∙◌, add-zero, arith, get_or-drop, drop-drop}
+use Rattle.std.proofs.Common.{◌≡◌, ℕ, suc, ◌+◌, ◌-◌, ◌*◌, ◌%◌, ◌^◌, ◌<◌, ◌≤◌, List, ◌++◌, get_or, drop, set, length}
+use Rattle.std.proofs.Common.{refl, ap, ◌∙◌, add-zero, arith, get_or-drop, drop-drop}
 use lib.Seq.{drop-cons}
 use lib.ListN.{drop_of_length-le}
 use lib.IntN.{sub_ℕ}
@@ -73,7 +74,8 @@ lines_start before at list count =
     record { near = omega arith; rest = rw e (left_start before at (dispatch_lines (records_read count list))) }
 
 -- the lines of records from one on
-lines_first : (n : ℕ) (list : List ℕ) → dispatch_lines (records_read (suc n) list) ≡ dispatch_line (record_read list) ++ dispatch_lines (records_read n (drop 13 list))
+lines_first : (n : ℕ) (list : List ℕ)
+    → dispatch_lines (records_read (suc n) list) ≡ dispatch_line (record_read list) ++ dispatch_lines (records_read n (drop 13 list))
 unfolding dispatch_lines records_read
 lines_first n list = refl
 

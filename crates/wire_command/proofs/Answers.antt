@@ -69,7 +69,8 @@ words_same (Redeliver consumer ids) = refl
 words_same (Close consumer request) = refl
 
 -- a command was read: the type is answered, its words are written and its ids laid
-pub read_done : {o : Option Command} {c : code.Command} {m : List ℕ} {kind : CommandType} (words list : List ℕ) (t : Told as_command o c) → Chosen m (type_number kind) t.x
+pub read_done : {o : Option Command} {c : code.Command} {m : List ℕ} {kind : CommandType} (words list : List ℕ) (t : Told as_command o c)
+    → Chosen m (type_number kind) t.x
     → {words_after list_after : List ℕ} → words_after ≡ words_of c → list_after ≡ (lay (ids_words (type_number kind) m)).run 0 list
     → Done (content_reading o) words list (Ok kind) words_after list_after
 unfolding content_reading or_16 command_answer command_after ids_after
@@ -143,7 +144,8 @@ module _ (n : ℕ) (kind : CommandType) where
   same_type e = cc
 
   -- one of the numbers was read
-  one : (k : ℕ) (l : CommandType) → type_number l ≡ k → takes_command k ≡ true → k < 2 ^ 32 → eqb n k ≡ true → ◌≡◌ {A = Result CommandType Unread} (Ok kind) (Ok l) → Typed n kind
+  one : (k : ℕ) (l : CommandType) → type_number l ≡ k → takes_command k ≡ true → k < 2 ^ 32 → eqb n k ≡ true
+      → ◌≡◌ {A = Result CommandType Unread} (Ok kind) (Ok l) → Typed n kind
   one k l e t h q r = let s = same_type r in of_number n k kind (ap type_number s ∙ e) t h q
 
   never : {P : Type 0} {why : Unread} → ◌≡◌ {A = Result CommandType Unread} (Ok kind) (Err why) → P

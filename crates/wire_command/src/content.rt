@@ -1,4 +1,5 @@
-// The command of each type.
+// The command of each type. A message's bytes and its place in the input stay two parameters: `content` is given them so, only
+// `subscribe` needs the place, and a struct of both would be made twice and taken apart in every arm for one fact.
 ghost use Rattle.std.specs.Prelude.{◌≡◌, ◌+◌, ◌<◌, ◌^◌, length};
 ghost use Rattle.wire.specs.Commands.{command_of};
 ghost use Rattle.wire_fields.specs.Found.{answered};

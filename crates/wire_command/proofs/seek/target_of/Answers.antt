@@ -6,8 +6,7 @@ use Rattle.wire.specs.Commands.{target_of}
 use Rattle.wire_fields.specs.Found.{answered}
 use Rattle.wire_fields.proofs.Selections.{walked, walked_not, at_a, part_is, part_bad}
 use Rattle.wire_command.specs.Found.{target_of_bytes, as_target}
-use Rattle.wire_command.proofs.Steps.{part_inside}
-use Rattle.wire_command.proofs.Targets.{none_there, target_none, target_part}
+use Rattle.wire_command.proofs.Targets.{none_there, target_none, target_part, id_inside}
 use Rattle.wire_command.proofs.seek.target_of.Goals as goal
 
 pub returns-in_err-x : goal.returns-in_err-x
@@ -32,21 +31,15 @@ returns-in_err-id c =
 
 pub slice_bounds-target_in-count : goal.slice_bounds-target_in-count
 slice_bounds-target_in-count c =
-    let w = walked _ _ _ c.in_ok-x.ensures in
-    let h = part_inside _ 3 w.all_fields (part_is (at_a w) c.in_ok-id.ensures) in
-    omega (arith, h.0, h.1)
+    let h = id_inside _ c.in_ok-x.ensures c.in_ok-id.ensures in omega (arith, h.0, h.1)
 
 pub slice_bounds-target_in-start : goal.slice_bounds-target_in-start
 slice_bounds-target_in-start c =
-    let w = walked _ _ _ c.in_ok-x.ensures in
-    let h = part_inside _ 3 w.all_fields (part_is (at_a w) c.in_ok-id.ensures) in
-    omega (arith, h.0, h.1)
+    let h = id_inside _ c.in_ok-x.ensures c.in_ok-id.ensures in omega (arith, h.0, h.1)
 
 pub slice_bounds-target_in-end : goal.slice_bounds-target_in-end
 slice_bounds-target_in-end c =
-    let w = walked _ _ _ c.in_ok-x.ensures in
-    let h = part_inside _ 3 w.all_fields (part_is (at_a w) c.in_ok-id.ensures) in
-    omega (arith, h.0, h.1)
+    let h = id_inside _ c.in_ok-x.ensures c.in_ok-id.ensures in omega (arith, h.0, h.1)
 
 pub returns : goal.returns
 unfolding target_of_bytes bind

@@ -1,4 +1,5 @@
--- `wire_command::subscribe::subscribe` meets its contract: two names, the kind of its sub type, and two numbers.
+-- `wire_command::subscribe::subscribe` meets its contract: two names, the kind of its sub type, and two numbers. Each way out has read
+-- one thing more than the last, and names what it has: the walk w, the names p and q, the sub type n.
 use mathlib.Core.Option.{bind}
 use native.Mathlib.Omega.{arith}
 use Rattle.wire.specs.Select.{int32}
