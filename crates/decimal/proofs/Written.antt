@@ -1,10 +1,10 @@
 -- The laws of decimal text: a number's digits are those of its tenth and then its last digit, there are at most 20, and they read back
 -- as the number. So they can be laid from the last to the first.
-use mathlib.Core.Path.{◌≡◌, refl, sym, ◌∙◌}
+use mathlib.Core.Path.{◌≡◌, refl, sym, ap, ◌∙◌}
 use mathlib.Core.Bool.{Bool, true, false}
 use mathlib.Core.List.{List, [], ◌∷◌, ◌++◌}
 use Prim.Native.Nat.{ℕ, zero, suc, ◌+◌, ◌-◌, ◌*◌, ◌/◌, ◌%◌, ◌^◌, ◌≤◌, ◌<◌}
-use native.Mathlib.Nat.{pow-suc, div-lt_iff_lt-mul, div-add-mod'}
+use native.Mathlib.Nat.{pow-suc, one-le-pow, div-lt_iff_lt-mul, div-add-mod'}
 use native.Mathlib.Omega.{arith}
 use lib.Dec.{ltb}
 use lib.IntN.{sub_ℕ}
@@ -18,6 +18,14 @@ use Rattle.words.proofs.Each.{all_append}
 use Rattle.words.proofs.Writers.{wrote_byte, wrote_within, and_then}
 use Rattle.decimal.specs.Decimal.{digit, decimal_within, decimal, integer, decimal_from, decimal_read}
 use Rattle.decimal.specs.Promises.{ReadBack, AtMost20, DigitsOnly, No0InFront}
+
+-- either below 10 or not
+by_10 : {P : Type 0} (n : ℕ) → (n < 10 → P) → (10 ≤ n → P) → P
+by_10 {P} n low high = go (ltb n 10) refl
+  where
+    go : (t : Bool) → ltb n 10 ≡ t → P
+    go true t = low (ltb-true n 10 t)
+    go false t = high (ltb-false n 10 t)
 
 -- a number below 10 is one digit
 one_within : (k n : ℕ) → n < 10 → decimal_within k n ≡ digit n ∷ []
@@ -79,6 +87,33 @@ one_longer n h g = rw (last_digit n h g, length-append)
 pub short : (n : ℕ) → length (decimal n) ≤ 20
 unfolding decimal
 short n = short_within 19 n
+
+-- a text has a character
+some_within : (k n : ℕ) → 1 ≤ length (decimal_within k n)
+unfolding decimal_within
+some_within zero n = omega arith
+some_within (suc k) n = by_last (λ t. 1 ≤ length t) k n (λ h. omega arith) (λ h. rw length-append (omega arith))
+
+-- one digit is a number below 10
+pub below_10 : (n : ℕ) → n < 2 ^ 64 → length (decimal n) ≤ 1 → n < 10
+unfolding decimal
+below_10 n h l =
+    by_10 n (λ t. t) (λ t. let s = some_within 19 (n / 10) in absurd (omega (arith, one_longer n h t)))
+
+-- more are of another
+pub from_10 : (n : ℕ) → 2 ≤ length (decimal n) → 10 ≤ n
+from_10 n l = by_10 n (λ t. absurd (omega (arith, ap length (one_digit n t)))) (λ t. t)
+
+-- from a power of ten on, and below the next
+pub by_power : (k n : ℕ) → n < 2 ^ 64 → 10 ^ k ≤ n → n < 10 * 10 ^ k → length (decimal n) ≡ k + 1
+by_power zero n h l u = ap length (one_digit n (omega arith))
+by_power (suc k) n h l u =
+    let e = pow-suc 10 k in
+    let p : 10 * 10 ^ k ≤ n = omega arith in
+    let q : n < 10 * (10 * 10 ^ k) = omega arith in
+    let one : 1 ≤ 10 ^ k = one-le-pow k 10 (omega arith) in
+    let r = by_power k (n / 10) (omega arith) (omega arith) (omega arith) in
+    omega (arith, one_longer n h (omega arith))
 
 -- ---- laid from the last digit to the first
 
@@ -175,13 +210,8 @@ digits_within (suc k) n h =
     by_last (All (λ (c : ℕ). (48 ≤ c) × (c ≤ 57))) k n (λ g. (is_digit n g, tt))
     (λ g.
     let l : n / 10 < 10 ^ suc k = (div-lt_iff_lt-mul {k = 10} (omega arith)).1 (rw (← (pow-suc 10 (suc k))) h) in
-    all_append (λ (c : ℕ). (48 ≤ c) × (c ≤ 57)) (decimal_within k (n / 10)) (digit (n % 10) ∷ []) (digits_within k (n / 10) l) (is_digit (n % 10) (omega arith), tt))
-
--- a text has a character
-some_within : (k n : ℕ) → 1 ≤ length (decimal_within k n)
-unfolding decimal_within
-some_within zero n = omega arith
-some_within (suc k) n = by_last (λ t. 1 ≤ length t) k n (λ h. omega arith) (λ h. rw length-append (omega arith))
+    all_append (λ (c : ℕ). (48 ≤ c) × (c ≤ 57)) (decimal_within k (n / 10)) (digit (n % 10) ∷ []) (digits_within k (n / 10) l)
+    (is_digit (n % 10) (omega arith), tt))
 
 -- and its first one is no 0
 front_within : (k n : ℕ) → 1 ≤ n → 49 ≤ get_or (decimal_within k n) 0 0

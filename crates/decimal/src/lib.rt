@@ -1,6 +1,8 @@
 // Numbers as text, written into a lent buffer of bytes: decimal digits in ASCII, a minus before a negative number. Each
 // writer lays its bytes from a place on and answers the place after them. The digits are counted first, and then laid from
-// the last to the first.
+// the last to the first. Not by `Display`, which writes to a text of its own that would be copied into the buffer.
+// Each writer takes the whole buffer and a place in it: over the rest of the buffer alone each call would lend a part and add what
+// it answers to the place, and a struct that holds the buffer costs each contract a clause that it still holds the same one.
 #![tactic(auto)]
 
 ghost use Rattle.std.specs.Prelude.{◌≡◌, ◌+◌, ◌≤◌, length};
@@ -17,13 +19,10 @@ const MINUS: u8 = b'-';
 fn digits(number: u64) -> usize
     ensures { result ≡ length (decimal number) }
 {
-    let mut count = 1;
-    let mut rest = number;
-    while 10 <= rest {
-        rest = rest / 10;
-        count += 1;
+    match number.checked_ilog10() {
+        Some(power) => power as usize + 1,
+        None => 1,
     }
-    count
 }
 
 // Writes a number in decimal. Any 64-bit number has at most 20 digits.
@@ -32,10 +31,8 @@ pub fn write_decimal(buffer: &mut [u8], at: usize, number: u64) -> usize
     ensures { Wrote 20 buffer.old at (decimal number) buffer.new result }
 {
     let end = at + digits(number);
-    let mut here = end;
     let mut rest = number;
-    while 10 <= rest {
-        here -= 1;
+    for here in (at + 1..end).rev() {
         buffer[here] = ZERO + (rest % 10) as u8;
         rest = rest / 10;
     }

@@ -1,5 +1,8 @@
 -- Lines written: numbers with a character after them, a dispatch's line, and lines one after the other.
-use Rattle.std.proofs.Common.{◌≡◌, ℕ, suc, ◌+◌, ◌-◌, ◌*◌, ◌%◌, ◌^◌, ◌<◌, ◌≤◌, List, ◌++◌, get_or, drop, set, refl, ap, ◌∙◌, add-zero, arith, get_or-drop, drop-drop}
+use Rattle.std.proofs.Common.{◌≡◌, ℕ, suc, ◌+◌, ◌-◌, ◌*◌, ◌%◌, ◌^◌, ◌<◌, ◌≤◌, List, ◌++◌, get_or, drop, set, length}
+use Rattle.std.proofs.Common.{refl, ap, ◌∙◌, add-zero, arith, get_or-drop, drop-drop}
+use lib.Seq.{drop-cons}
+use lib.ListN.{drop_of_length-le}
 use lib.IntN.{sub_ℕ}
 use Rattle.words.specs.Wrote.{Wrote}
 use Rattle.words.proofs.Writers.{wrote_byte, wrote_within, and_then, Left, left_start, left_on, left_end}
@@ -7,7 +10,7 @@ use Rattle.rules.specs.Permits.{reading, zero_permits}
 use Rattle.rules.specs.Push.{record_read, records_read}
 use Rattle.rules.specs.Calls.{number_in}
 use Rattle.decimal.specs.Decimal.{decimal, integer}
-use Rattle.trace.specs.Text.{BLANK, NEWLINE, number_and, PLUS_AND_BLANK, dispatch_line, dispatch_lines, outcome_line, BAD_AND_BLANK}
+use Rattle.trace.specs.Text.{BLANK, NEWLINE, number_and, PLUS_AND_BLANK, dispatch_line, dispatch_lines, outcome_line}
 use Rattle.trace.specs.Played.{ROOM}
 use Rattle.told.specs.Told.{dispatches_told}
 use Rattle.trace_lines.specs.Told.{lines_bytes, permits_text, text_told}
@@ -24,19 +27,24 @@ pub permits_wrote : {before now : List ℕ} {at end : ℕ} (w p : ℕ) → p ≡
 unfolding permits_text reading
 permits_wrote {now = now} {end = end} w p e r = rw (← e) (and_then r (wrote_byte now end NEWLINE))
 
--- a plus and a blank
-pub plus_wrote : (before : List ℕ) (at : ℕ) → Wrote 2 before at PLUS_AND_BLANK (set (set before at 43) (at + 1) BLANK) (at + 2)
-plus_wrote before at =
-    let e : at + 1 + 1 ≡ at + 2 = omega arith in
-    rw e at (and_then (wrote_byte before at 43) (wrote_byte (set before at 43) (at + 1) BLANK))
+-- Of a text i characters are written, and the others, laid from here on, finish it.
+abbrev pub Text : List ℕ → ℕ → List ℕ → List ℕ → ℕ → Type 0
+Text before at text now i = Left before at text now (at + i) (drop i text)
 
--- the word of a bad line and a blank
-pub word_wrote : (before : List ℕ) → Wrote 4 before 0 BAD_AND_BLANK (set (set (set (set before 0 98) 1 97) 2 100) 3 BLANK) 4
-word_wrote before =
-    let a = set before 0 98 in
-    let b = set a 1 97 in
-    let c = set b 2 100 in
-    and_then (and_then (and_then (wrote_byte before 0 98) (wrote_byte a 1 97)) (wrote_byte b 2 100)) (wrote_byte c 3 BLANK)
+pub text_start : (before : List ℕ) (at : ℕ) (text : List ℕ) → Text before at text before 0
+text_start before at text = rw (add-zero at) (left_start before at text)
+
+pub text_on : {before now : List ℕ} {at i : ℕ} (text : List ℕ) → i < length text → Text before at text now i
+    → Text before at text (set now (at + i) (get_or text i 0)) (i + 1)
+text_on {now = now} {at = at} {i = i} text h l =
+    let e : at + i + 1 ≡ at + (i + 1) = omega arith in
+    let f : suc i ≡ i + 1 = omega arith in
+    rw (e, f) at (left_on (rw (drop-cons text i 0 h) at l) (wrote_byte now (at + i) (get_or text i 0)))
+
+pub text_end : {before now : List ℕ} {at i : ℕ} (text : List ℕ) → i ≡ length text → Text before at text now i
+    → Wrote (length text) before at text now (at + length text)
+text_end {at = at} text e l =
+    left_end (length text) (omega arith) (rw (drop_of_length-le text {i = length text} (omega arith)) at (rw e at l))
 
 -- ---- the line of a dispatch
 
@@ -66,7 +74,8 @@ lines_start before at list count =
     record { near = omega arith; rest = rw e (left_start before at (dispatch_lines (records_read count list))) }
 
 -- the lines of records from one on
-lines_first : (n : ℕ) (list : List ℕ) → dispatch_lines (records_read (suc n) list) ≡ dispatch_line (record_read list) ++ dispatch_lines (records_read n (drop 13 list))
+lines_first : (n : ℕ) (list : List ℕ)
+    → dispatch_lines (records_read (suc n) list) ≡ dispatch_line (record_read list) ++ dispatch_lines (records_read n (drop 13 list))
 unfolding dispatch_lines records_read
 lines_first n list = refl
 

@@ -1,23 +1,23 @@
 // The lines that a player prints, written into a lent buffer: of a call's answer with the records that a push left in its
 // list, and of what is bad. Each writer lays its bytes from a place on and answers the place after them; room is asked for by
-// constants.
+// constants. Written by hand and not by `write!`, which goes to a text of its own that would be copied into the buffer.
+// Each writer takes the whole buffer and a place in it: over the rest of the buffer alone each call would lend a part and add what
+// it answers to the place, and a struct that holds the buffer costs each contract a clause that it still holds the same one.
 #![tactic(auto)]
 
 ghost use Rattle.std.specs.Prelude.{◌≡◌, ◌+◌, ◌*◌, ◌≤◌, length, drop};
 ghost use Rattle.words.specs.Wrote.{Wrote};
 ghost use Rattle.rules.specs.Push.{record_read, records_read};
-ghost use Rattle.trace.specs.Text.{number_and, PLUS_AND_BLANK, dispatch_line, dispatch_lines, outcome_line, BAD_AND_BLANK, bad_line};
+ghost use Rattle.trace.specs.Text.{number_and, dispatch_line, dispatch_lines, outcome_line, bad_line};
 ghost use Rattle.trace.specs.Played.{ROOM};
-ghost use Rattle.refusal.specs.Words.{word_of};
 ghost use Rattle.told.specs.Told.{dispatches_told};
 ghost use Rattle.trace_lines.specs.Told.{lines_bytes, permits_text, text_told};
 
 use decimal::{write_decimal, write_difference};
 use record::RECORD_WORDS;
-use refusal::Answer;
 use std::num::wrapping_add_u64;
 use store::permits::ZERO_PERMITS;
-use told::{dispatches, number_of};
+use told::{dispatches_in, number_in};
 
 // The characters.
 const PLUS: u8 = b'+';
@@ -73,14 +73,15 @@ fn write_permits(buffer: &mut [u8], at: usize, word: u64) -> usize
     end + 1
 }
 
-// Writes what a dispatch's line begins with.
-fn write_plus(buffer: &mut [u8], at: usize) -> usize
-    requires { at + 2 ≤ length buffer.old }
-    ensures { Wrote 2 buffer.old at PLUS_AND_BLANK buffer.new result }
+// Writes a text as it is.
+fn write_text(buffer: &mut [u8], at: usize, text: &[u8]) -> usize
+    requires { at + length text.now ≤ length buffer.old }
+    ensures { Wrote (length text.now) buffer.old at text.now buffer.new result }
 {
-    buffer[at] = PLUS;
-    buffer[at + 1] = BLANK;
-    at + 2
+    for i in 0..text.len() {
+        buffer[at + i] = text[i];
+    }
+    at + text.len()
 }
 
 // Writes the line of the record that stands at a place of a list.
@@ -88,7 +89,7 @@ fn write_dispatch(buffer: &mut [u8], at: usize, list: &[u64], from: usize) -> us
     requires { (at + 87 ≤ length buffer.old) × (from + 13 ≤ length list.now) }
     ensures { Wrote 87 buffer.old at (dispatch_line (record_read (drop from list.now))) buffer.new result }
 {
-    let after_plus = write_plus(buffer, at);
+    let after_plus = write_text(buffer, at, &[PLUS, BLANK]);
     let after_consumer = write_number(buffer, after_plus, list[from], BLANK);
     let after_ledger = write_number(buffer, after_consumer, list[from + LEDGER], BLANK);
     let after_entry = write_number(buffer, after_ledger, list[from + ENTRY], BLANK);
@@ -108,32 +109,14 @@ fn write_dispatches(buffer: &mut [u8], at: usize, list: &[u64], count: usize) ->
 }
 
 // Writes all lines of a record that is a call, at the start of a buffer: of its answer, and of what a push left in its list.
-pub fn write_outcome(
-    buffer: &mut [u8],
-    number: u64,
-    kind: u64,
-    answer: Answer,
-    list: &[u64],
-) -> usize
-    requires { (lines_bytes ≤ length buffer.old) × (dispatches_told kind (word_of answer) ≤ ROOM)
-        × (13 * dispatches_told kind (word_of answer) ≤ length list.now) }
-    ensures { Wrote lines_bytes buffer.old 0 (text_told number kind (word_of answer) list.now) buffer.new result }
+pub fn write_outcome(buffer: &mut [u8], number: u64, kind: u64, answer: u64, list: &[u64]) -> usize
+    requires { (lines_bytes ≤ length buffer.old) × (dispatches_told kind answer ≤ ROOM)
+        × (13 * dispatches_told kind answer ≤ length list.now) }
+    ensures { Wrote lines_bytes buffer.old 0 (text_told number kind answer list.now) buffer.new result }
 {
-    let made = dispatches(kind, answer);
-    let end = write_line(buffer, number, kind, number_of(answer), made);
+    let made = dispatches_in(kind, answer);
+    let end = write_line(buffer, number, kind, number_in(answer), made);
     write_dispatches(buffer, end, list, made as usize)
-}
-
-// Writes what the line of a bad record begins with, at the start of a buffer.
-fn write_word(buffer: &mut [u8]) -> usize
-    requires { 4 ≤ length buffer.old }
-    ensures { Wrote 4 buffer.old 0 BAD_AND_BLANK buffer.new result }
-{
-    buffer[0] = b'b';
-    buffer[1] = b'a';
-    buffer[2] = b'd';
-    buffer[3] = BLANK;
-    4
 }
 
 // Writes the line of a record that is bad, or of the header, which is number 0, at the start of a buffer.
@@ -141,6 +124,6 @@ pub fn write_bad(buffer: &mut [u8], number: u64) -> usize
     requires { 25 ≤ length buffer.old }
     ensures { Wrote 25 buffer.old 0 (bad_line number) buffer.new result }
 {
-    let after_word = write_word(buffer);
+    let after_word = write_text(buffer, 0, &[b'b', b'a', b'd', BLANK]);
     write_number(buffer, after_word, number, NEWLINE)
 }

@@ -15,7 +15,7 @@ ghost use Rattle.trace_lines.specs.Told.{lines_bytes};
 ghost use Rattle.trace_step.specs.Stepped.{player_after, step_answer, Within, step_call, Stepped, HeaderStepped};
 
 use record::RECORD_WORDS;
-use refusal::Answer;
+use refusal::{Answer, word_of};
 use trace_call::make_call;
 use trace_lines::{write_bad, write_outcome};
 use trace_read::{MOST_WORDS, Reach, header_reach, kind_of, read_words, record_reach};
@@ -56,7 +56,7 @@ fn play_record(store: &mut [u64], number: u64, held: &[u8], size: usize, out: &m
     let made = make_record(store, &held[..size], &mut list);
     match made {
         Some(answer) => {
-            let written = write_outcome(out, number, kind, answer, &list);
+            let written = write_outcome(out, number, kind, word_of(answer), &list);
             Did::Went(size, written)
         }
         None => {

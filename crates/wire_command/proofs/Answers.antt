@@ -1,7 +1,7 @@
 -- The answer, the eight words and the list at each way out of `read.rt`.
 use Prim.Native.Nat.{ℕ, ◌-◌, ◌*◌, ◌^◌, ◌≤◌, ◌<◌}
 use mathlib.Core.Path.{◌≡◌, refl, sym, ap, ◌∙◌}
-use mathlib.Core.Bool.{true, false}
+use mathlib.Core.Bool.{true, false, true≢false}
 use mathlib.Core.List.{List}
 use mathlib.Core.Option.{Option, none, some}
 use native.Mathlib.Omega.{arith}
@@ -22,11 +22,11 @@ use Rattle.wire_fields.proofs.Bases.{Placed, base_untyped, base_other, base_no_m
 use Rattle.std.specs.Prelude.{None, Result, Ok, Err}
 use Rattle.wire_fields.specs.Found.{answered}
 use Rattle.wire_fields.specs.declared.unread.Unread.{Unread}
-use Rattle.wire_fields.specs.Unread.{unread_number}
+use Rattle.wire_fields.specs.Unread.{unread_number, unread_word}
 use Rattle.wire_fields.proofs.Answered.{Told, from_none}
 use Rattle.command_parts.specs.Parts.{kind_of}
 use Rattle.wire_command.specs.Found.{as_name, as_kind, as_target, as_command, words_of, content_reading, ids_words}
-use Rattle.wire_command.specs.Types.{type_number, type_from, read_word}
+use Rattle.wire_command.specs.Types.{type_number, type_from}
 use Rattle.wire_command.specs.declared.command_type.CommandType.{CommandType}
 use Rattle.wire_command.specs.declared.command_type.CommandType.TheVariants as code_type
 use Rattle.wire_command.specs.declared.command.Command as code
@@ -34,7 +34,7 @@ use Rattle.wire_command.proofs.Choices.{Chosen}
 
 -- a call's answer, eight words and list, by what was read
 pub record Done (r : Reading Command) (words list : List ℕ) (result : Result CommandType Unread) (words_after list_after : List ℕ) : Type 0 where
-  pub answer : read_word result ≡ command_answer r
+  pub answer : unread_word type_number result ≡ command_answer r
   pub written : words_after ≡ command_after words r
   pub laid : list_after ≡ ids_after list r
 
@@ -69,7 +69,8 @@ words_same (Redeliver consumer ids) = refl
 words_same (Close consumer request) = refl
 
 -- a command was read: the type is answered, its words are written and its ids laid
-pub read_done : {o : Option Command} {c : code.Command} {m : List ℕ} {kind : CommandType} (words list : List ℕ) (t : Told as_command o c) → Chosen m (type_number kind) t.x
+pub read_done : {o : Option Command} {c : code.Command} {m : List ℕ} {kind : CommandType} (words list : List ℕ) (t : Told as_command o c)
+    → Chosen m (type_number kind) t.x
     → {words_after list_after : List ℕ} → words_after ≡ words_of c → list_after ≡ (lay (ids_words (type_number kind) m)).run 0 list
     → Done (content_reading o) words list (Ok kind) words_after list_after
 unfolding content_reading or_16 command_answer command_after ids_after
@@ -143,7 +144,8 @@ module _ (n : ℕ) (kind : CommandType) where
   same_type e = cc
 
   -- one of the numbers was read
-  one : (k : ℕ) (l : CommandType) → type_number l ≡ k → takes_command k ≡ true → k < 2 ^ 32 → eqb n k ≡ true → ◌≡◌ {A = Result CommandType Unread} (Ok kind) (Ok l) → Typed n kind
+  one : (k : ℕ) (l : CommandType) → type_number l ≡ k → takes_command k ≡ true → k < 2 ^ 32 → eqb n k ≡ true
+      → ◌≡◌ {A = Result CommandType Unread} (Ok kind) (Ok l) → Typed n kind
   one k l e t h q r = let s = same_type r in of_number n k kind (ap type_number s ∙ e) t h q
 
   never : {P : Type 0} {why : Unread} → ◌≡◌ {A = Result CommandType Unread} (Ok kind) (Err why) → P
@@ -177,3 +179,18 @@ untyped_number n why e =
 
     same : {w : Unread} → ◌≡◌ {A = Result CommandType Unread} (Err why) (Err w) → why ≡ w
     same z = cc
+
+-- it has no command
+pub no_command : (n at : ℕ) (m : List ℕ) → takes_command n ≡ false → command_of n at m ≡ none
+unfolding takes_command command_of
+no_command n at m e =
+    by_test (eqb n SUBSCRIBE) (λ t. never (rw t at e))
+    (λ a. by_test (eqb n ACK) (λ t. never (rw (a, t) at e))
+    (λ b. by_test (eqb n FLOW) (λ t. never (rw (a, b, t) at e))
+    (λ c. by_test (eqb n CLOSE_CONSUMER) (λ t. never (rw (a, b, c, t) at e))
+    (λ d. by_test (eqb n REDELIVER) (λ t. never (rw (a, b, c, d, t) at e))
+    (λ f. by_test (eqb n SEEK) (λ t. never (rw (a, b, c, d, f, t) at e))
+    (λ g. rw (a, b, c, d, f, g)))))))
+  where
+    never : {P : Type 0} → true ≡ false → P
+    never z = absurd (true≢false z)

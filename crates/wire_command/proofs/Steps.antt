@@ -70,7 +70,8 @@ module _ (fits : ℕ → Bool) (m : List ℕ) (a b : ℕ) where
   -- or the message is not well formed
   pub two_bad_message : {P : Type 0} → None ≡ answered as_is (two_of fits m a b) → (fields m ≡ none → P)
       → ((fs : List Field) → fields m ≡ some fs → required uint64 (numbered a fs) ≡ none → P)
-      → ((fs : List Field) → fields m ≡ some fs → (u : ℕ) → required uint64 (numbered a fs) ≡ some u → required fits (numbered b fs) ≡ none → P)
+      → ((fs : List Field) → fields m ≡ some fs → (u : ℕ) → required uint64 (numbered a fs) ≡ some u
+      → required fits (numbered b fs) ≡ none → P)
       → P
   two_bad_message {P = P} e f g h = go (fields m) refl
     where

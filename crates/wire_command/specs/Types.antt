@@ -1,8 +1,7 @@
--- The types of BaseCommands that are read, and what a call for C answers of them.
-use Rattle.std.specs.Prelude.{ℕ, ◌*◌, cond, eqb, Result, Ok, Err}
+-- The types of BaseCommands that are read.
+use Rattle.std.specs.Prelude.{ℕ, cond, eqb, Result, Ok, Err}
 use Rattle.wire.specs.Commands.{SUBSCRIBE, ACK, FLOW, CLOSE_CONSUMER, REDELIVER, SEEK}
 use Rattle.wire_fields.specs.declared.unread.Unread.{Unread}
-use Rattle.wire_fields.specs.Unread.{unread_number}
 use Rattle.wire_command.specs.declared.command_type.CommandType.{CommandType}
 use Rattle.wire_command.specs.declared.command_type.CommandType.TheVariants.{Subscribe, Ack, Flow, CloseConsumer, Redeliver, Seek}
 
@@ -25,8 +24,3 @@ type_from n =
     (cond (eqb n REDELIVER) (Ok Redeliver)
     (cond (eqb n SEEK) (Ok Seek)
     (Err Unread.OtherType))))))
-
--- the type that was read, times 256; or the number of what is not read
-abbrev pub read_word : Result CommandType Unread → ℕ
-read_word (Ok kind) = type_number kind * 256
-read_word (Err why) = unread_number why

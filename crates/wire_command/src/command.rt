@@ -9,6 +9,7 @@ pub struct Name {
     pub size: u64,
 }
 
+// What a CommandSubscribe says.
 #[derive(Clone, Copy)]
 pub struct Subscribe {
     pub consumer: u64,
@@ -18,6 +19,7 @@ pub struct Subscribe {
     pub subscription: Name,
 }
 
+// What a CommandSeek says.
 #[derive(Clone, Copy)]
 pub struct Seek {
     pub consumer: u64,
@@ -25,7 +27,7 @@ pub struct Seek {
     pub target: Target,
 }
 
-// The consumer comes first. Flow has the permits, Close the request; Ack and Redeliver have how many words their ids take in a
+// A command. The consumer comes first. Flow has the permits, Close the request; Ack and Redeliver have how many words their ids take in a
 // lent list.
 #[derive(Clone, Copy)]
 pub enum Command {

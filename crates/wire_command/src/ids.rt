@@ -7,7 +7,6 @@ ghost use Rattle.wire_command.specs.Found.{as_command};
 
 use super::command::Command;
 use super::numbers::{CONSUMER, CONSUMER_ID, two_numbers};
-use wire_fields::base::NOTHING;
 use wire_fields::pick::pick;
 use wire_fields::select::Width;
 use wire_ids::size::list_size;
@@ -33,7 +32,7 @@ pub fn ack(m: &[u8]) -> Option<Command>
 pub fn redeliver(m: &[u8]) -> Option<Command>
     ensures { result ≡ answered as_command (redeliver_of m.now) }
 {
-    let (x, _, _) = pick(m, CONSUMER, NOTHING, NOTHING)?;
+    let [x] = pick(m, [CONSUMER])?;
     let consumer = x.required(Width::Uint64)?;
     let size = list_size(m, REDELIVER_IDS)?;
     Some(Command::Redeliver(consumer, size))

@@ -7,7 +7,6 @@ ghost use Rattle.wire_fields.specs.Selected.{fits};
 ghost use Rattle.wire_command.specs.Found.{two_of, as_command};
 
 use super::command::Command;
-use wire_fields::base::NOTHING;
 use wire_fields::field::{VARINT, WIRE_TYPES};
 use wire_fields::pick::pick;
 use wire_fields::select::Width;
@@ -28,7 +27,7 @@ pub fn two_numbers(m: &[u8], first: u64, second: u64, width: Width) -> Option<(u
     requires { (first < 2 ^ 32) × (second < 2 ^ 32) }
     ensures { result ≡ answered as_is (two_of (fits width) m.now first second) }
 {
-    let (x, y, _) = pick(m, first * WIRE_TYPES, second * WIRE_TYPES, NOTHING)?;
+    let [x, y] = pick(m, [first * WIRE_TYPES, second * WIRE_TYPES])?;
     let u = x.required(Width::Uint64)?;
     let v = y.required(width)?;
     Some((u, v))

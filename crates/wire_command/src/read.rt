@@ -3,11 +3,12 @@ ghost use Rattle.std.specs.Prelude.{◌≡◌, ◌+◌, ◌<◌, ◌≤◌, ◌^
 ghost use Rattle.words.specs.Act.{lay};
 ghost use Rattle.wire.specs.Commands.{command_of};
 ghost use Rattle.wire.specs.Answers.{read_command, command_answer, command_after, ids_after};
+ghost use Rattle.wire_fields.specs.Unread.{unread_word};
 ghost use Rattle.wire_command.specs.Found.{ids_words, IdsReady, content_reading};
-ghost use Rattle.wire_command.specs.Types.{type_number, read_word};
+ghost use Rattle.wire_command.specs.Types.{type_number};
 
 use super::command_type::CommandType;
-use super::content::content;
+use super::content::content_of;
 use super::eight_words::write_words;
 use super::ids::{ACK_IDS, REDELIVER_IDS};
 use wire_fields::base::read_base;
@@ -42,11 +43,11 @@ fn read_content(
     command: &mut [u64; 8],
 ) -> Result<CommandType, Unread>
     requires { (at + length m.now < 2 ^ 64) × (1216 ≤ length list.old) }
-    ensures answer { read_word result ≡ command_answer (content_reading (command_of (type_number kind) at m.now)) }
+    ensures answer { unread_word type_number result ≡ command_answer (content_reading (command_of (type_number kind) at m.now)) }
     ensures words { command.new ≡ command_after command.old (content_reading (command_of (type_number kind) at m.now)) }
     ensures ids { list.new ≡ ids_after list.old (content_reading (command_of (type_number kind) at m.now)) }
 {
-    let c = content(m, kind, at).ok_or(Unread::Malformed)?;
+    let c = content_of(m, kind, at).ok_or(Unread::Malformed)?;
     lay_list(m, kind, list);
     write_words(command, c);
     Ok(kind)
@@ -58,7 +59,7 @@ pub fn read_command(
     list: &mut [u64],
     command: &mut [u64; 8],
 ) -> Result<CommandType, Unread>
-    ensures answer { read_word result ≡ command_answer (read_command list.old bytes.now) }
+    ensures answer { unread_word type_number result ≡ command_answer (read_command list.old bytes.now) }
     ensures words { command.new ≡ command_after command.old (read_command list.old bytes.now) }
     ensures ids { list.new ≡ ids_after list.old (read_command list.old bytes.now) }
 {

@@ -7,14 +7,9 @@ ghost use Rattle.wire_command.specs.Found.{target_in, target_of_bytes, as_target
 use super::command::{Command, Seek};
 use super::numbers::{CONSUMER_ID, REQUEST_ID, two_uint64};
 use command_parts::Target;
-use wire_fields::base::NOTHING;
 use wire_fields::field::{DELIMITED, WIRE_TYPES};
+use wire_fields::format::{ENTRY_ID, LEDGER_ID};
 use wire_fields::pick::pick;
-
-// Fields of MessageIdData.
-const LEDGER_ID: u64 = 1;
-
-const ENTRY_ID: u64 = 2;
 
 // The id of CommandSeek.
 const MESSAGE_ID: u64 = 3 * WIRE_TYPES + DELIMITED;
@@ -31,7 +26,7 @@ fn target_in(m: &[u8]) -> Option<Target>
 fn target_of(m: &[u8]) -> Option<Target>
     ensures { result ≡ answered as_target (target_of_bytes m.now) }
 {
-    let (x, _, _) = pick(m, MESSAGE_ID, NOTHING, NOTHING)?;
+    let [x] = pick(m, [MESSAGE_ID])?;
     if x.count == 0 {
         return Some(Target::Start);
     }

@@ -52,7 +52,7 @@ pub fn subscribe(m: &[u8], at: usize) -> Option<Command>
     requires { at + length m.now < 2 ^ 64 }
     ensures { result ≡ answered as_command (subscribe_of at m.now) }
 {
-    let (x, y, z) = pick(m, TOPIC, SUBSCRIPTION, SUB_TYPE)?;
+    let [x, y, z] = pick(m, [TOPIC, SUBSCRIPTION, SUB_TYPE])?;
     let topic = x.part()?;
     let subscription = y.part()?;
     let sub_type = z.required(Width::Int32)?;

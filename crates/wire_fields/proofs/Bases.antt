@@ -4,7 +4,8 @@ use mathlib.Core.Path.{◌≡◌, sym, ◌∙◌}
 use mathlib.Core.Bool.{Bool, true, false}
 use mathlib.Core.List.{List}
 use mathlib.Core.Option.{Option, none, some, map, bind}
-use Rattle.std.specs.Prelude.{Some, None}
+use Rattle.std.specs.Prelude.{Some, None, Ok}
+use Rattle.std.specs.Option.{ok_or}
 use Rattle.std.specs.Prelude as code
 use native.Mathlib.Omega.{arith}
 use lib.Dec.{ltb}
@@ -21,7 +22,7 @@ use Rattle.wire.proofs.Fields.{In}
 use Rattle.wire_fields.specs.Found.{answered}
 use Rattle.wire_fields.specs.Selected.{number, place, place_of, placed, base_of}
 use Rattle.wire_fields.specs.declared.base.Base.{Base}
-use Rattle.wire_fields.proofs.Answered.{from_some, from_none}
+use Rattle.wire_fields.proofs.Answered.{from_some, from_none, was_some}
 use Rattle.wire_fields.specs.declared.pick.Seen.{Seen}
 use Rattle.wire_fields.specs.declared.select.Place.{Place}
 use Rattle.wire_fields.proofs.Selections.{Saw, required_is, required_bad, place_law}
@@ -113,6 +114,11 @@ message_stands m b p e low s = told_place m b.kind p (sym s ∙ (told_base m b e
 -- it lies inside
 pub stands_inside : {m : List ℕ} {type start next : ℕ} → Placed m type start next → (start ≤ next) × (next ≤ length m)
 stands_inside p = let l = p.inside in (omega (arith, p.starts, p.ends), omega (arith, p.ends))
+
+-- so does the one that a reader went on with
+pub message_found : {A E : Type 0} {m : List ℕ} {b : Base} {p : Place} (o : code.Option Base) (why : A) (other : E)
+    → Ok b ≡ ok_or o why → o ≡ answered (base_of m) (type_of m) → b.kind < 2 ^ 32 → Ok p ≡ ok_or b.message other → Placed m b.kind p.start p.next
+message_found o why other e f low s = message_stands _ _ _ (was_some o why e ∙ f) low (sym (was_some _ other s))
 
 -- ---- what a reader of some types answers
 

@@ -3,7 +3,6 @@ pub mod Answered
 pub mod Varints
 pub mod FieldsRead
 pub mod Walks
-pub mod Tags
 pub mod Selections
 pub mod Laying
 pub mod Bases

@@ -1,6 +1,6 @@
 -- What was seen under a number, and what a selection of the wire takes out of the fields of that number: the same. Other crates
 -- cite `walked` and the laws of each selection.
-use Prim.Native.Nat.{ℕ, suc, ◌+◌, ◌*◌, ◌/◌, ◌%◌, ◌≤◌}
+use Prim.Native.Nat.{ℕ, zero, suc, ◌+◌, ◌*◌, ◌/◌, ◌%◌, ◌<◌, ◌≤◌}
 use mathlib.Core.Path.{◌≡◌, refl, sym, ap, ◌∙◌}
 use mathlib.Core.Bool.{Bool, true, false, cond, ◌&&◌, and-true, and-false}
 use mathlib.Core.List.{List, [], ◌∷◌}
@@ -9,14 +9,14 @@ use Rattle.std.specs.Prelude.{Some, None}
 use native.Mathlib.Omega.{arith}
 use native.Mathlib.Nat.{add-zero, zero-add}
 use lib.Dec.{eqb, leb}
-use lib.ListN.{length}
+use lib.ListN.{length, get_or, replicate}
 use borrow.Author.Tests.{ne_eqb, eqb-true, leb-true, leb-false, lt-leb}
 use Rattle.rules.specs.Table.{keep, all}
 use Rattle.rules.proofs.Table.{by_test}
 use Rattle.wire.specs.Fields.{Field, fields}
 use Rattle.wire.specs.Select.{numbered, required, optional, part, up_to}
 use Rattle.wire_fields.specs.Found.{as_field, answered, as_is}
-use Rattle.wire_fields.specs.Picked.{Wanted, nothing_seen, first_of, seen_with, seen_field, seen_after, picked_after, picked}
+use Rattle.wire_fields.specs.Picked.{Wanted, wanted_of, nothing_seen, content_of, seen_with, seen_field, seen_after, all_seen, all_after, picked_after, picked}
 use Rattle.wire_fields.specs.Selected.{is_one, number, optional_number, place, at_most, place_of}
 use Rattle.wire_fields.proofs.Answered.{from_some, from_none, told_is, told_none}
 use Rattle.wire_fields.specs.declared.pick.Seen.{Seen}
@@ -36,7 +36,7 @@ count_after wire n (f ∷ l) = count_after wire (cond (of_wire wire f) (cond (le
 -- what was seen is this of the fields of the number: how many there are, and what a single one is
 pub record Saw (wire : ℕ) (l : List Field) (s : Seen) : Type 0 where
   pub count : s.count ≡ count_after wire 0 l
-  pub single : (f : Field) → l ≡ f ∷ [] → of_wire wire f ≡ true → (s.first ≡ first_of (as_field f)) × (s.next ≡ f.next)
+  pub single : (f : Field) → l ≡ f ∷ [] → of_wire wire f ≡ true → (s.content ≡ content_of (as_field f)) × (s.next ≡ f.next)
 
 -- ---- counting
 
@@ -115,8 +115,8 @@ module _ (w : Wanted) where
   unfolding seen_after seen_field seen_with as_field
   seen_out s f fs t =
       ap (λ (b : Bool). seen_after w (cond b (cond (eqb f.wire w.wire)
-      (cond (leb 65 s.count) s (record { count = s.count + 1; first = first_of (as_field f); next = f.next }))
-      (record { count = 65; first = 0; next = 0 })) s) fs) t
+      (cond (leb 65 s.count) s (record { count = s.count + 1; content = content_of (as_field f); next = f.next }))
+      (record { count = 65; content = 0; next = 0 })) s) fs) t
 
   -- one of the number is counted
   seen_count : (s : Seen) (f : Field) → eqb f.number w.number ≡ true
@@ -152,12 +152,12 @@ module _ (w : Wanted) where
 
   -- a single one is kept
   single_kept : (f : Field) → eqb f.number w.number ≡ true → of_wire w.wire f ≡ true
-      → seen_field w nothing_seen (as_field f) ≡ record { count = 1; first = first_of (as_field f); next = f.next }
+      → seen_field w nothing_seen (as_field f) ≡ record { count = 1; content = content_of (as_field f); next = f.next }
   unfolding seen_field seen_with as_field
   single_kept f t u = rw (t, u)
 
   single_seen : (fs : List Field) (g : Field) → numbered w.number fs ≡ g ∷ [] → of_wire w.wire g ≡ true
-      → seen_after w nothing_seen fs ≡ record { count = 1; first = first_of (as_field g); next = g.next }
+      → seen_after w nothing_seen fs ≡ record { count = 1; content = content_of (as_field g); next = g.next }
   unfolding numbered keep seen_after
   single_seen [] g e u = let n : ◌≡◌ {A = ℕ} 0 1 = cc in absurd (omega arith)
   single_seen (f ∷ fs) g e u =
@@ -174,39 +174,81 @@ module _ (w : Wanted) where
   saw fs =
       record {
         count = all_count nothing_seen fs;
-        single = λ f e u. let k = single_seen fs f e u in (ap (λ (x : Seen). x.first) k, ap (λ (x : Seen). x.next) k);
+        single = λ f e u. let k = single_seen fs f e u in (ap (λ (x : Seen). x.content) k, ap (λ (x : Seen). x.next) k);
       }
 
 -- ---- a message that was walked
 
--- a message is well formed, and this was seen under three numbers
-pub record Walked (m : List ℕ) (a b c : Wanted) (x y z : Seen) : Type 0 where
+-- what was seen of some fields under each of some tags
+unfoldable pub each_seen : List ℕ → List Field → List Seen
+each_seen [] fs = []
+each_seen (t ∷ ts) fs = seen_after (wanted_of t) nothing_seen fs ∷ each_seen ts fs
+
+-- a message is well formed, and this was seen under some tags
+pub record Walked (m tags : List ℕ) (seen : List Seen) : Type 0 where
   pub fs : List Field
   pub all_fields : fields m ≡ some fs
-  pub at_a : Saw a.wire (numbered a.number fs) x
-  pub at_b : Saw b.wire (numbered b.number fs) y
-  pub at_c : Saw c.wire (numbered c.number fs) z
+  pub are : seen ≡ each_seen tags fs
 
-pub walked : (m : List ℕ) (a b c : Wanted) (x y z : Seen) → Some (x, y, z) ≡ picked m a b c → Walked m a b c x y z
+-- the first of some tags is seen for itself
+first_after : (t : ℕ) (ts : List ℕ) (s : Seen) (ss : List Seen) (fs : List Field)
+    → all_after (t ∷ ts) (s ∷ ss) fs ≡ seen_after (wanted_of t) s fs ∷ all_after ts ss fs
+unfolding all_after all_seen seen_after
+first_after t ts s ss [] = refl
+first_after t ts s ss (f ∷ fs) = first_after t ts (seen_field (wanted_of t) s (as_field f)) (all_seen ts ss (as_field f)) fs
+
+nothing_after : (fs : List Field) → all_after [] [] fs ≡ []
+unfolding all_after all_seen
+nothing_after [] = refl
+nothing_after (f ∷ fs) = nothing_after fs
+
+each_after : (tags : List ℕ) (fs : List Field) → all_after tags (replicate (length tags) nothing_seen) fs ≡ each_seen tags fs
+unfolding each_seen
+each_after [] fs = nothing_after fs
+each_after (t ∷ ts) fs =
+    first_after t ts nothing_seen (replicate (length ts) nothing_seen) fs
+    ∙ ap (λ (l : List Seen). seen_after (wanted_of t) nothing_seen fs ∷ l) (each_after ts fs)
+
+pub walked : (m tags : List ℕ) (seen : List Seen) → Some seen ≡ picked m tags → Walked m tags seen
 unfolding picked picked_after
-walked m a b c x y z e = go (fields m) refl e
+walked m tags seen e = go (fields m) refl e
   where
-    go : (o : Option (List Field)) → fields m ≡ o → Some (x, y, z) ≡ picked_after a b c nothing_seen nothing_seen nothing_seen o
-        → Walked m a b c x y z
+    go : (o : Option (List Field)) → fields m ≡ o → Some seen ≡ picked_after tags (replicate (length tags) nothing_seen) o → Walked m tags seen
     go none p q = let n : ◌≡◌ {A = ℕ} 0 1 = cc in absurd (omega arith)
     go (some fs) p q =
-        let t : ◌≡◌ {A = Seen × Seen × Seen} (x, y, z) (seen_after a nothing_seen fs, seen_after b nothing_seen fs, seen_after c nothing_seen fs) = cc in
-        let i : x ≡ seen_after a nothing_seen fs = ap (λ (s : Seen × Seen × Seen). s.0) t in
-        let j : y ≡ seen_after b nothing_seen fs = ap (λ (s : Seen × Seen × Seen). s.1) t in
-        let k : z ≡ seen_after c nothing_seen fs = ap (λ (s : Seen × Seen × Seen). s.2) t in
-        record { fs = fs; all_fields = p; at_a = rw i (saw a fs); at_b = rw j (saw b fs); at_c = rw k (saw c fs) }
+        let t : seen ≡ all_after tags (replicate (length tags) nothing_seen) fs = cc in
+        record { fs = fs; all_fields = p; are = t ∙ each_after tags fs }
+
+-- each of them
+nth_seen : (tags : List ℕ) (fs : List Field) (i : ℕ) → i < length tags
+    → get_or (each_seen tags fs) i nothing_seen ≡ seen_after (wanted_of (get_or tags i 0)) nothing_seen fs
+unfolding each_seen
+nth_seen [] fs i h = absurd (omega arith)
+nth_seen (t ∷ ts) fs zero h = refl
+nth_seen (t ∷ ts) fs (suc i) h = nth_seen ts fs i (omega arith)
+
+saw_nth : {m tags : List ℕ} {seen : List Seen} (w : Walked m tags seen) (i : ℕ) → i < length tags
+    → Saw (get_or tags i 0 % 8) (numbered (get_or tags i 0 / 8) w.fs) (get_or seen i nothing_seen)
+saw_nth {tags = tags} w i h = rw (w.are, nth_seen tags w.fs i h) (saw (wanted_of (get_or tags i 0)) w.fs)
+
+-- under the first three
+module _ {m : List ℕ} {a : ℕ} {seen : List Seen} where
+  pub at_a : {ts : List ℕ} (w : Walked m (a ∷ ts) seen) → Saw (a % 8) (numbered (a / 8) w.fs) (get_or seen 0 nothing_seen)
+  at_a w = saw_nth w 0 (omega arith)
+
+  pub at_b : {b : ℕ} {ts : List ℕ} (w : Walked m (a ∷ b ∷ ts) seen) → Saw (b % 8) (numbered (b / 8) w.fs) (get_or seen 1 nothing_seen)
+  at_b w = saw_nth w 1 (omega arith)
+
+  pub at_c : {b c : ℕ} {ts : List ℕ} (w : Walked m (a ∷ b ∷ c ∷ ts) seen)
+      → Saw (c % 8) (numbered (c / 8) w.fs) (get_or seen 2 nothing_seen)
+  at_c w = saw_nth w 2 (omega arith)
 
 -- it is not well formed
-pub walked_not : (m : List ℕ) (a b c : Wanted) → None ≡ picked m a b c → fields m ≡ none
+pub walked_not : (m tags : List ℕ) → None ≡ picked m tags → fields m ≡ none
 unfolding picked picked_after
-walked_not m a b c e = go (fields m) e
+walked_not m tags e = go (fields m) e
   where
-    go : (o : Option (List Field)) → None ≡ picked_after a b c nothing_seen nothing_seen nothing_seen o → o ≡ none
+    go : (o : Option (List Field)) → None ≡ picked_after tags (replicate (length tags) nothing_seen) o → o ≡ none
     go none q = refl
     go (some fs) q = let n : ◌≡◌ {A = ℕ} 0 1 = cc in absurd (omega arith)
 
@@ -238,13 +280,13 @@ one_counted wire (f ∷ g ∷ l) s w =
     ne_eqb s.count 1 (λ z. omega (arith, w.count))
 
 pub number_law : (fits : ℕ → Bool) (l : List Field) (s : Seen) → Saw 0 l s → number fits s ≡ answered as_is (required fits l)
-unfolding number required answered one_of first_of as_field
+unfolding number required answered one_of content_of as_field
 number_law fits [] s w = rw (one_counted 0 [] s w)
 number_law fits (f ∷ []) s w = rw (one_counted 0 (f ∷ []) s w) (by_test (eqb f.wire 0) (λ t. rw t (right t)) (λ t. rw t))
   where
-    right : eqb f.wire 0 ≡ true → cond (fits s.first) (Some s.first) None ≡ answered as_is (cond (fits f.value) (some f.value) none)
+    right : eqb f.wire 0 ≡ true → cond (fits s.content) (Some s.content) None ≡ answered as_is (cond (fits f.value) (some f.value) none)
     right t =
-        let q : s.first ≡ f.value = (w.single f refl t).0 ∙ rw t in
+        let q : s.content ≡ f.value = (w.single f refl t).0 ∙ rw t in
         rw q (by_test (fits f.value) (λ u. rw u) (λ u. rw u))
 number_law fits (f ∷ g ∷ l) s w = rw (one_counted 0 (f ∷ g ∷ l) s w)
 
@@ -287,7 +329,7 @@ pub record PartAt (l : List Field) (start next : ℕ) : Type 0 where
   pub ends : f.next ≡ next
 
 pub place_law : (l : List Field) (s : Seen) → Saw 2 l s → place s ≡ answered place_of (part l)
-unfolding place part answered place_of one_of first_of as_field
+unfolding place part answered place_of one_of content_of as_field
 place_law [] s w = rw (one_counted 2 [] s w)
 place_law (f ∷ []) s w =
     rw (one_counted 2 (f ∷ []) s w)
@@ -296,7 +338,7 @@ place_law (f ∷ []) s w =
     let k = eqb-true f.wire 2 t in
     let z : eqb f.wire 0 ≡ false = ne_eqb f.wire 0 (λ e. omega arith) in
     let p = w.single f refl t in
-    let q : s.first ≡ f.start = p.0 ∙ rw z in
+    let q : s.content ≡ f.start = p.0 ∙ rw z in
     rw (t, q, p.1))
     (λ t. rw t))
 place_law (f ∷ g ∷ l) s w = rw (one_counted 2 (f ∷ g ∷ l) s w)

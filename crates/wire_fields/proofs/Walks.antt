@@ -1,18 +1,21 @@
--- A walk over the fields of a message, field by field: what the loop of `pick.rt` turns on. What was seen so far and the fields
+-- A walk over the fields of a message, field by field: what the loops over `Fields` turn on. What was seen so far and the fields
 -- that are left decide what is seen in all.
-use Prim.Native.Nat.{ℕ, ◌<◌, ◌≤◌}
-use mathlib.Core.Path.{◌≡◌, refl, sym, ap, ◌∙◌}
-use mathlib.Core.List.{List, ◌∷◌}
+use Prim.Native.Nat.{ℕ, zero, suc, ◌<◌, ◌≤◌}
+use mathlib.Core.Path.{◌≡◌, refl, sym, ap, ◌∙◌, subst}
+use mathlib.Core.List.{List, [], ◌∷◌}
 use mathlib.Core.Option.{Option, none, some, map, bind}
 use Rattle.std.specs.Prelude.{Some, None}
+use Rattle.std.specs.Prelude as code
 use native.Mathlib.Omega.{arith}
-use lib.ListN.{length}
+use lib.ListN.{length, get_or, set, replicate, length-replicate}
 use Rattle.wire.specs.Fields.{field, left}
 use Rattle.wire.specs.Fields as wire
 use Rattle.wire.proofs.Fields.{field_lies, left_start, left_end, left_step}
 use Rattle.wire_fields.specs.Found.{as_field, answered}
-use Rattle.wire_fields.specs.Picked.{Wanted, nothing_seen, seen_field, seen_after, picked_after, picked}
+use Rattle.wire_fields.specs.Picked.{wanted_of, nothing_seen, seen_field, all_seen, all_after, picked_after, picked}
+use Rattle.wire_fields.specs.Ahead.{Gives, Steps}
 use Rattle.wire_fields.specs.declared.field.Field.{Field}
+use Rattle.wire_fields.specs.declared.fields.Fields.{Fields}
 use Rattle.wire_fields.proofs.Answered.{from_some, from_none}
 use Rattle.wire_fields.specs.declared.pick.Seen.{Seen}
 
@@ -50,39 +53,101 @@ pub left_bad : (m : List ℕ) (at : ℕ) → at < length m → field m at ≡ no
 unfolding bind
 left_bad m at h e = left_step m at h ∙ rw e
 
+-- ---- the steps of a walk
+
+-- a walk over a message stands at a place, inside
+pub record At (m : List ℕ) (s : Fields) : Type 0 where
+  pub of : s.m.now ≡ m
+  pub inside : s.at ≤ length m
+
+-- it begins at the start
+pub at_start : {m : List ℕ} {s : Fields} → (s.m.now ≡ m) × (s.at ≡ 0) → At m s
+at_start e = record { of = e.0; inside = rw e.1 (omega arith) }
+
+module _ {m : List ℕ} {s t : Fields} (a : At m s) where
+  -- a field stands at the place, and the next place is behind it
+  pub on : {o : code.Option Field} {f : Field} → Steps s (Some o) t → o ≡ Some f
+      → (s.at < length m) × Stands m s.at f × (t.at ≡ f.next) × At m t
+  on {f = f} e i =
+      let k = subst (λ (x : code.Option Field). Gives s (Some x) t) i e.gives in
+      let w = stands m s.at f (rw a.of at k.1) in
+      (rw a.of at k.0, w, k.2, record { of = e.same ∙ a.of; inside = rw k.2 w.ends })
+
+  -- or none, though bytes are left
+  pub off : {o : code.Option Field} → Steps s (Some o) t → o ≡ None → (s.at < length m) × (field m s.at ≡ none)
+  off e i =
+      let k = subst (λ (x : code.Option Field). Gives s (Some x) t) i e.gives in
+      (rw a.of at k.0, stands_not m s.at (rw a.of at k.1))
+
+  -- no bytes are left
+  pub ended : Steps s None t → length m ≤ s.at
+  ended e = rw a.of at e.gives
+
 -- ---- what is seen
 
--- what was seen under each number up to a place, and what is left, are what is picked
-pub record Partly (m : List ℕ) (a b c : Wanted) (at : ℕ) (x y z : Seen) : Type 0 where
-  pub inside : at ≤ length m
-  pub rest : picked m a b c ≡ picked_after a b c x y z (left m at)
+-- what was seen under the first i of some numbers has one field more
+unfoldable pub up_to : ℕ → List ℕ → List Seen → Field → List Seen
+up_to zero tags ss f = ss
+up_to (suc i) [] ss f = ss
+up_to (suc i) (t ∷ ts) [] f = []
+up_to (suc i) (t ∷ ts) (s ∷ ss) f = seen_field (wanted_of t) s f ∷ up_to i ts ss f
 
-module _ (m : List ℕ) (a b c : Wanted) where
-  pub partly_start : Partly m a b c 0 nothing_seen nothing_seen nothing_seen
+-- under all of them
+pub up_to_all : (tags : List ℕ) (ss : List Seen) (f : Field) → length tags ≡ length ss → up_to (length tags) tags ss f ≡ all_seen tags ss f
+unfolding up_to all_seen
+up_to_all [] [] f e = refl
+up_to_all [] (s ∷ ss) f e = absurd (omega arith)
+up_to_all (t ∷ ts) [] f e = absurd (omega arith)
+up_to_all (t ∷ ts) (s ∷ ss) f e = ap (λ (l : List Seen). seen_field (wanted_of t) s f ∷ l) (up_to_all ts ss f (omega arith))
+
+-- under one more
+pub up_to_on : (i : ℕ) (tags : List ℕ) (ss : List Seen) (f : Field) → i < length tags → i < length ss
+    → set (up_to i tags ss f) i (seen_field (wanted_of (get_or tags i 0)) (get_or ss i nothing_seen) f) ≡ up_to (suc i) tags ss f
+unfolding up_to
+up_to_on i [] ss f h k = absurd (omega arith)
+up_to_on i (t ∷ ts) [] f h k = absurd (omega arith)
+up_to_on zero (t ∷ ts) (s ∷ ss) f h k = refl
+up_to_on (suc i) (t ∷ ts) (s ∷ ss) f h k =
+    ap (λ (l : List Seen). seen_field (wanted_of t) s f ∷ l) (up_to_on i ts ss f (omega arith) (omega arith))
+
+-- what was seen under each number up to a place, and what is left, are what is picked
+pub record Partly (m tags : List ℕ) (at : ℕ) (seen : List Seen) : Type 0 where
+  pub inside : at ≤ length m
+  pub many : length seen ≡ length tags
+  pub rest : picked m tags ≡ picked_after tags seen (left m at)
+
+-- as many are seen as numbers are asked for
+seen_many : (tags : List ℕ) (ss : List Seen) (f : Field) → length ss ≡ length tags → length (all_seen tags ss f) ≡ length tags
+unfolding all_seen
+seen_many [] ss f e = refl
+seen_many (t ∷ ts) [] f e = absurd (omega arith)
+seen_many (t ∷ ts) (s ∷ ss) f e = let r = seen_many ts ss f (omega arith) in omega arith
+
+module _ (m tags : List ℕ) where
+  pub partly_start : Partly m tags 0 (replicate (length tags) nothing_seen)
   unfolding picked
-  partly_start = record { inside = omega arith; rest = rw (← (left_start m)) }
+  partly_start = record { inside = omega arith; many = length-replicate (length tags) nothing_seen; rest = rw (← (left_start m)) }
 
   -- the fields of the option, one more in front, seen one after the other
-  seen_on : (x y z : Seen) (g : wire.Field) (o : Option (List wire.Field))
-      → picked_after a b c x y z (map (λ (l : List wire.Field). g ∷ l) o)
-      ≡ picked_after a b c (seen_field a x (as_field g)) (seen_field b y (as_field g)) (seen_field c z (as_field g)) o
-  unfolding picked_after seen_after
-  seen_on x y z g none = refl
-  seen_on x y z g (some l) = refl
+  seen_on : (ss : List Seen) (g : wire.Field) (o : Option (List wire.Field))
+      → picked_after tags ss (map (λ (l : List wire.Field). g ∷ l) o) ≡ picked_after tags (all_seen tags ss (as_field g)) o
+  unfolding picked_after all_after
+  seen_on ss g none = refl
+  seen_on ss g (some l) = refl
 
-  module _ {at : ℕ} {x y z : Seen} (p : Partly m a b c at x y z) where
-    pub partly_end : length m ≤ at → Some (x, y, z) ≡ picked m a b c
-    unfolding picked_after seen_after
+  module _ {at : ℕ} {ss : List Seen} (p : Partly m tags at ss) where
+    pub partly_end : length m ≤ at → Some ss ≡ picked m tags
+    unfolding picked_after all_after
     partly_end h = sym (p.rest ∙ rw (left_end m at h))
 
-    pub partly_bad : at < length m → field m at ≡ none → None ≡ picked m a b c
+    pub partly_bad : at < length m → field m at ≡ none → None ≡ picked m tags
     unfolding picked_after
     partly_bad h e = sym (p.rest ∙ rw (left_bad m at h e))
 
-    pub partly_on : at < length m → (f : Field) → Stands m at f
-        → Partly m a b c f.next (seen_field a x f) (seen_field b y f) (seen_field c z f)
+    pub partly_on : at < length m → (f : Field) → Stands m at f → Partly m tags f.next (all_seen tags ss f)
     partly_on h f w =
         record {
           inside = w.ends;
-          rest = p.rest ∙ ap (picked_after a b c x y z) (left_on m at f h w) ∙ seen_on x y z w.g (left m f.next) ∙ rw (← w.same);
+          many = seen_many tags ss f p.many;
+          rest = p.rest ∙ ap (picked_after tags ss) (left_on m at f h w) ∙ seen_on ss w.g (left m f.next) ∙ rw (← w.same);
         }

@@ -1,6 +1,6 @@
 -- What the code of this crate answers, by the definitions of the wire.
-use Rattle.std.specs.Prelude.{ℕ, ◌+◌, ◌-◌, ◌*◌, ◌/◌, ◌%◌, ◌^◌, ◌<◌, ◌≤◌, ◌≡◌, Bool, false, not, cond, ◌&&◌, List}
-use Rattle.std.specs.Prelude.{eqb, leb, ltb, length, get_or, drop, Option, Some, None}
+use Rattle.std.specs.Prelude.{ℕ, ◌+◌, ◌-◌, ◌*◌, ◌^◌, ◌<◌, ◌≤◌, ◌≡◌, cond, List}
+use Rattle.std.specs.Prelude.{leb, length, drop, Option, Some, None}
 use Rattle.std.proofs.Math.Option.{none, some, map}
 use Rattle.std.proofs.Math.Option as math
 use Rattle.wire.specs.Varint.{varint, varint_within}
@@ -45,29 +45,3 @@ as_field f = record { number = f.number; wire = f.wire; value = f.value; start =
 unfoldable pub part_field : List ℕ → ℕ → ℕ → ℕ → Option Field
 part_field m number start size =
     cond (leb (start + size) (length m)) (Some (record { number = number; wire = 2; value = 0; start = start; next = start + size })) None
-
--- two bytes of a message, neither of which says that another follows; the first is a tag
-pub record TwoBytes (m : List ℕ) (at tag b : ℕ) : Type 0 where
-  pub inside : at + 2 ≤ length m
-  pub is_tag : tag ≡ get_or m at 0
-  pub is_b : b ≡ get_or m (at + 1) 0
-  pub high : 8 ≤ tag
-  pub short_tag : tag < 128
-  pub short_b : b < 128
-
--- the tag at a place if it is that of a varint field and has one byte; else 0, which is no tag
-unfoldable pub varint_tag : List ℕ → ℕ → ℕ
-varint_tag m at = cond (ltb at (length m) && (ltb (get_or m at 0) 128 && eqb (get_or m at 0 % 8) 0)) (get_or m at 0) 0
-
--- that of a varint field of two bytes; else 0
-unfoldable pub short_tag : List ℕ → ℕ → ℕ
-short_tag m at = cond (leb (at + 2) (length m) && ltb (get_or m (at + 1) 0) 128) (varint_tag m at) 0
-
--- whether a varint field of two bytes of another number stands at a place
-unfoldable pub passed_by : List ℕ → ℕ → ℕ → Bool
-passed_by m at number = cond (eqb (short_tag m at) 0) false (not (eqb (short_tag m at / 8) number))
-
--- that of a length-delimited field if it has one byte, as the length has; else 0
-unfoldable pub part_tag : List ℕ → ℕ → ℕ
-part_tag m at =
-    cond (leb 8 (get_or m at 0) && (ltb (get_or m at 0) 128 && (eqb (get_or m at 0 % 8) 2 && ltb (get_or m (at + 1) 0) 128))) (get_or m at 0) 0

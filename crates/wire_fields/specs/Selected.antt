@@ -24,7 +24,7 @@ fits Count = count
 
 -- a number of some width that has to be there
 unfoldable pub number : (ℕ → Bool) → Seen → Option ℕ
-number fits s = cond (is_one s && fits s.first) (Some s.first) None
+number fits s = cond (is_one s && fits s.content) (Some s.content) None
 
 -- a number that may be absent, and is 0 then
 unfoldable pub optional_number : (ℕ → Bool) → Seen → Option ℕ
@@ -32,7 +32,7 @@ optional_number fits s = cond (eqb s.count 0) (Some 0) (number fits s)
 
 -- a part that has to be there
 unfoldable pub place : Seen → Option Place
-place s = cond (is_one s) (Some (record { start = s.first; next = s.next })) None
+place s = cond (is_one s) (Some (record { start = s.content; next = s.next })) None
 
 -- at most k fields, all of the right wire type: how many
 unfoldable pub at_most : ℕ → Seen → Option ℕ

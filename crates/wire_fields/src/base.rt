@@ -5,17 +5,12 @@ ghost use Rattle.wire_fields.specs.Found.{answered};
 ghost use Rattle.wire_fields.specs.Selected.{base_of, placed};
 
 use super::field::{DELIMITED, VARINT, WIRE_TYPES};
+use super::format::UINT32_END;
 use super::pick::pick;
 use super::select::{Place, Width};
 
 // The tag of the type.
 const TYPE: u64 = 1 * WIRE_TYPES + VARINT;
-
-// No field has the number 0.
-pub const NOTHING: u64 = 0;
-
-// Numbers of types are below this.
-const TYPES_END: u64 = 0x1_0000_0000;
 
 // The type, and where its message stands if it is there.
 #[derive(Clone, Copy)]
@@ -39,10 +34,10 @@ fn likely_type(m: &[u8]) -> u64
 fn message_part(m: &[u8], kind: u64) -> Option<Place>
     ensures { result ≡ placed m.now kind }
 {
-    if TYPES_END <= kind {
+    if UINT32_END <= kind {
         return None;
     }
-    let (x, _, _) = pick(m, kind * WIRE_TYPES + DELIMITED, NOTHING, NOTHING)?;
+    let [x] = pick(m, [kind * WIRE_TYPES + DELIMITED])?;
     x.part()
 }
 
@@ -53,7 +48,7 @@ pub fn read_base(m: &[u8]) -> Option<Base>
 {
     let likely = likely_type(m);
     let n = m.len();
-    let (x, y, _) = pick(&m[0..n], TYPE, likely * WIRE_TYPES + DELIMITED, NOTHING)?;
+    let [x, y] = pick(&m[0..n], [TYPE, likely * WIRE_TYPES + DELIMITED])?;
     let kind = x.required(Width::Int32)?;
     if kind == likely {
         let message = y.part();

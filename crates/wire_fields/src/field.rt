@@ -1,9 +1,12 @@
 // The field whose tag stands at a place of a message. Its content is looked at as far as its wire type says, and not inside.
+// Places are in the whole message, since a name is told by its place in the input. What most fields need is inlined, so that a
+// walk makes no call for a field.
 ghost use Rattle.std.specs.Prelude.{◌≡◌, ◌+◌, ◌≤◌, length};
 ghost use Rattle.wire.specs.Fields.{field, field_of, varint_field, delimited_field, fixed_field};
-ghost use Rattle.wire_fields.specs.Found.{answered, as_field, part_field, part_tag, varint_tag, short_tag, passed_by};
+ghost use Rattle.wire_fields.specs.Found.{answered, as_field, part_field};
 
-use super::varint::{MORE, varint_at};
+use super::format::UINT32_END;
+use super::varint::varint_at;
 
 // A field as `wire/specs/Fields` has it, number by number: its number and wire type, the number of a varint, and the places where
 // its content begins and where the next field does.
@@ -28,9 +31,8 @@ const FIXED_32: u64 = 5;
 // A tag is number × 8 + wire type, the number from 1 to 2^29 - 1.
 pub const WIRE_TYPES: u64 = 8;
 
-const TAGS_END: u64 = 0x1_0000_0000;
-
 // A varint field whose number stands at a place.
+#[inline(always)]
 fn varint_field(m: &[u8], number: u64, at: usize) -> Option<Field>
     requires { at ≤ length m.now }
     ensures { result ≡ answered as_field (varint_field m.now number at) }
@@ -46,6 +48,7 @@ fn varint_field(m: &[u8], number: u64, at: usize) -> Option<Field>
 }
 
 // A part of some bytes from a place on, if the message has them.
+#[inline(always)]
 #[tactic(auto, unfolding(crate::specs::Found::part_field))]
 fn part_field(m: &[u8], number: u64, start: usize, size: u64) -> Option<Field>
     requires { start ≤ length m.now }
@@ -64,6 +67,7 @@ fn part_field(m: &[u8], number: u64, start: usize, size: u64) -> Option<Field>
 }
 
 // A length-delimited field whose length stands at a place.
+#[inline(always)]
 fn delimited_field(m: &[u8], number: u64, at: usize) -> Option<Field>
     requires { at ≤ length m.now }
     ensures { result ≡ answered as_field (delimited_field m.now number at) }
@@ -90,6 +94,7 @@ fn fixed_field(m: &[u8], number: u64, wire: u64, width: usize, at: usize) -> Opt
 }
 
 // What a wire type says, from a place on; groups and unknown types are no field.
+#[inline(always)]
 #[tactic(auto, unfolding(wire::specs::Fields::field_of, crate::specs::Found::answered))]
 fn content_at(m: &[u8], number: u64, wire: u64, at: usize) -> Option<Field>
     requires { at ≤ length m.now }
@@ -104,8 +109,9 @@ fn content_at(m: &[u8], number: u64, wire: u64, at: usize) -> Option<Field>
     }
 }
 
-// The field whose tag stands at a place, of any form.
-fn field_of_any_size(m: &[u8], at: usize) -> Option<Field>
+// The field whose tag stands at a place.
+#[inline(always)]
+pub fn field_at(m: &[u8], at: usize) -> Option<Field>
     requires { at ≤ length m.now }
     ensures { result ≡ answered as_field (field m.now at) }
 {
@@ -113,92 +119,8 @@ fn field_of_any_size(m: &[u8], at: usize) -> Option<Field>
     if tag.value < WIRE_TYPES {
         return None;
     }
-    if TAGS_END <= tag.value {
+    if UINT32_END <= tag.value {
         return None;
     }
     content_at(m, tag.value / WIRE_TYPES, tag.value % WIRE_TYPES, tag.next)
-}
-
-// The tag at a place if it is that of a length-delimited field and has one byte, as the length has; else 0.
-#[tactic(auto, unfolding(crate::specs::Found::part_tag))]
-fn part_tag(m: &[u8], at: usize) -> u64
-    requires { at + 2 ≤ length m.now }
-    ensures { result ≡ part_tag m.now at }
-{
-    let tag = u64::from(m[at]);
-    if tag < WIRE_TYPES {
-        return 0;
-    }
-    if MORE <= tag {
-        return 0;
-    }
-    if tag % WIRE_TYPES != DELIMITED {
-        return 0;
-    }
-    if MORE <= u64::from(m[at + 1]) {
-        return 0;
-    }
-    tag
-}
-
-// The field whose tag stands at a place. Most parts have a tag and a length of one byte, and are read at once.
-pub fn field_at(m: &[u8], at: usize) -> Option<Field>
-    requires { at ≤ length m.now }
-    ensures { result ≡ answered as_field (field m.now at) }
-{
-    if m.len() - at < 2 {
-        return field_of_any_size(m, at);
-    }
-    let tag = part_tag(m, at);
-    if tag == 0 {
-        return field_of_any_size(m, at);
-    }
-    part_field(m, tag / WIRE_TYPES, at + 2, u64::from(m[at + 1]))
-}
-
-// The tag at a place if it is that of a varint field and has one byte; else 0. Walks go by it and by `short_tag` where they can,
-// since they then make no field.
-#[tactic(auto, unfolding(crate::specs::Found::varint_tag))]
-pub fn varint_tag(m: &[u8], at: usize) -> u64
-    ensures { result ≡ varint_tag m.now at }
-{
-    if m.len() <= at {
-        return 0;
-    }
-    let tag = u64::from(m[at]);
-    if MORE <= tag {
-        return 0;
-    }
-    if tag % WIRE_TYPES != VARINT {
-        return 0;
-    }
-    tag
-}
-
-// The tag of a varint field of two bytes at a place; else 0.
-#[tactic(auto, unfolding(crate::specs::Found::short_tag))]
-pub fn short_tag(m: &[u8], at: usize) -> u64
-    requires { at ≤ length m.now }
-    ensures { result ≡ short_tag m.now at }
-{
-    if m.len() - at < 2 {
-        return 0;
-    }
-    if MORE <= u64::from(m[at + 1]) {
-        return 0;
-    }
-    varint_tag(m, at)
-}
-
-// Whether a varint field of two bytes stands at a place that is of another number: a walk that looks for the number passes it by.
-#[tactic(auto, unfolding(crate::specs::Found::passed_by))]
-pub fn passed_by(m: &[u8], at: usize, number: u64) -> bool
-    requires { at ≤ length m.now }
-    ensures { result ≡ passed_by m.now at number }
-{
-    let tag = short_tag(m, at);
-    if tag == 0 {
-        return false;
-    }
-    tag / WIRE_TYPES != number
 }

@@ -3,7 +3,8 @@ ghost use Rattle.std.specs.Prelude.{◌≡◌, ◌+◌, ◌≤◌, length};
 ghost use Rattle.words.specs.Act.{lay};
 ghost use Rattle.wire_fields.specs.Values.{one_value, values_of, Ready, Laid};
 
-use super::field::{Field, field_at};
+use super::field::Field;
+use super::fields::Fields;
 
 // Lays the number of a field if the field is of the number, and answers the place after it.
 fn lay_number(f: Field, number: u64, list: &mut [u64], to: usize) -> usize
@@ -17,18 +18,16 @@ fn lay_number(f: Field, number: u64, list: &mut [u64], to: usize) -> usize
     to + 1
 }
 
-// Lays the numbers of all fields of a number from a place on. A field says where the next one begins.
+// Lays the numbers of all fields of a number from a place on.
 pub fn lay_numbers(m: &[u8], number: u64, list: &mut [u64], to: usize)
     requires { Ready m.now number (length list.old) to }
     ensures { list.new ≡ (lay (values_of m.now number)).run to list.old }
 {
-    let mut at = 0;
     let mut next = to;
-    while at < m.len() {
-        let Some(f) = field_at(m, at) else {
+    for field in Fields::of(m) {
+        let Some(f) = field else {
             return;
         };
         next = lay_number(f, number, list, next);
-        at = f.next;
     }
 }

@@ -1,9 +1,10 @@
-// One walk over all fields of a message that keeps what stands under three numbers. A number is asked for by the tag that its field
-// has, number × 8 + wire type. Fields of two bytes, which most numbers are, are taken as they stand.
+// One walk over all fields of a message that keeps what stands under some numbers. A number is asked for by the tag that its field
+// has, number × 8 + wire type.
 ghost use Rattle.std.specs.Prelude.{◌≡◌};
-ghost use Rattle.wire_fields.specs.Picked.{wanted_of, nothing_seen, first_of, seen_with, picked};
+ghost use Rattle.wire_fields.specs.Picked.{wanted_of, nothing_seen, content_of, seen_field, all_seen, picked};
 
-use super::field::{Field, VARINT, WIRE_TYPES, field_at, short_tag};
+use super::field::{Field, VARINT, WIRE_TYPES};
+use super::fields::Fields;
 
 // What was seen under a number: how many fields, MANY where one had another wire type; and of the last its number or where its
 // bytes begin, and where it ends. A field of another wire type counts as too many fields, since every reader refuses both
@@ -11,12 +12,23 @@ use super::field::{Field, VARINT, WIRE_TYPES, field_at, short_tag};
 #[derive(Clone, Copy)]
 pub struct Seen {
     pub count: u64,
-    pub first: u64,
+    pub content: u64,
     pub next: usize,
 }
 
 // More fields than any reader takes.
 const MANY: u64 = 65;
+
+// A varint's number; of another field where its bytes begin.
+#[tactic(auto, unfolding(crate::specs::Picked::content_of))]
+fn content_of(f: Field) -> u64
+    ensures { result ≡ content_of f }
+{
+    if f.wire == VARINT {
+        return f.value;
+    }
+    f.start as u64
+}
 
 impl Seen {
     // Nothing was seen yet.
@@ -25,23 +37,23 @@ impl Seen {
     {
         Seen {
             count: 0,
-            first: 0,
+            content: 0,
             next: 0,
         }
     }
 
     // One field more.
-    #[tactic(auto, unfolding(crate::specs::Picked::seen_with))]
-    fn with(self, wanted: u64, number: u64, wire: u64, first: u64, next: usize) -> Seen
-        ensures { result ≡ seen_with (wanted_of wanted) self number wire first next }
+    #[tactic(auto, unfolding(crate::specs::Picked::seen_field, crate::specs::Picked::seen_with))]
+    fn with(self, wanted: u64, f: Field) -> Seen
+        ensures { result ≡ seen_field (wanted_of wanted) self f }
     {
-        if number != wanted / WIRE_TYPES {
+        if f.number != wanted / WIRE_TYPES {
             return self;
         }
-        if wire != wanted % WIRE_TYPES {
+        if f.wire != wanted % WIRE_TYPES {
             return Seen {
                 count: MANY,
-                first: 0,
+                content: 0,
                 next: 0,
             };
         }
@@ -50,48 +62,30 @@ impl Seen {
         }
         Seen {
             count: self.count + 1,
-            first,
-            next,
+            content: content_of(f),
+            next: f.next,
         }
     }
 }
 
-// A varint's number; of another field where its bytes begin.
-#[tactic(auto, unfolding(crate::specs::Picked::first_of))]
-fn first_of(f: Field) -> u64
-    ensures { result ≡ first_of f }
+// One field more under each of some numbers.
+fn all_with<const N: usize>(seen: [Seen; N], tags: [u64; N], f: Field) -> [Seen; N]
+    ensures { result ≡ all_seen tags.entry seen.entry f }
 {
-    if f.wire == VARINT {
-        return f.value;
+    let mut now = seen;
+    for i in 0..N {
+        now[i] = seen[i].with(tags[i], f);
     }
-    f.start as u64
+    now
 }
 
-// What stands under three numbers of a message that is well formed. A field says where the next one begins.
-pub fn pick(m: &[u8], a: u64, b: u64, c: u64) -> Option<(Seen, Seen, Seen)>
-    ensures { result ≡ picked m.now (wanted_of a) (wanted_of b) (wanted_of c) }
+// What stands under some numbers of a message that is well formed.
+pub fn pick<const N: usize>(m: &[u8], tags: [u64; N]) -> Option<[Seen; N]>
+    ensures { result ≡ picked m.now tags.entry }
 {
-    let mut at = 0;
-    let mut x = Seen::nothing();
-    let mut y = Seen::nothing();
-    let mut z = Seen::nothing();
-    while at < m.len() {
-        let tag = short_tag(m, at);
-        if tag != 0 {
-            let value = u64::from(m[at + 1]);
-            let next = at + 2;
-            x = x.with(a, tag / WIRE_TYPES, VARINT, value, next);
-            y = y.with(b, tag / WIRE_TYPES, VARINT, value, next);
-            z = z.with(c, tag / WIRE_TYPES, VARINT, value, next);
-            at = next;
-            continue;
-        }
-        let f = field_at(m, at)?;
-        let first = first_of(f);
-        x = x.with(a, f.number, f.wire, first, f.next);
-        y = y.with(b, f.number, f.wire, first, f.next);
-        z = z.with(c, f.number, f.wire, first, f.next);
-        at = f.next;
+    let mut seen = [Seen::nothing(); N];
+    for field in Fields::of(m) {
+        seen = all_with(seen, tags, field?);
     }
-    Some((x, y, z))
+    Some(seen)
 }

@@ -3,6 +3,7 @@
 ghost use Rattle.std.specs.Prelude.{◌≡◌};
 ghost use Rattle.wire_fields.specs.Selected.{fits, is_one, number, optional_number, place, at_most};
 
+use super::format::UINT32_END;
 use super::pick::Seen;
 
 // Where a part begins, and where it ends.
@@ -21,9 +22,7 @@ pub enum Width {
     Count,
 }
 
-// A uint32 is below the first, an int32 below the second or, negative in ten bytes, from the third on.
-const UINT32_END: u64 = 0x1_0000_0000;
-
+// An int32 is below the first or, negative in ten bytes, from the second on.
 const INT32_END: u64 = 0x8000_0000;
 
 const INT32_NEGATIVE: u64 = 0xffff_ffff_8000_0000;
@@ -60,10 +59,10 @@ impl Seen {
         if !self.is_one() {
             return None;
         }
-        if !width.fits(self.first) {
+        if !width.fits(self.content) {
             return None;
         }
-        Some(self.first)
+        Some(self.content)
     }
 
     // A number that may be absent, and is 0 then.
@@ -86,7 +85,7 @@ impl Seen {
             return None;
         }
         Some(Place {
-            start: self.first as usize,
+            start: self.content as usize,
             next: self.next,
         })
     }

@@ -15,9 +15,10 @@ const MOST_BEFORE: usize = 9;
 const BITS: usize = 7;
 
 // A byte that another follows is this much or more.
-pub const MORE: u64 = 128;
+const MORE: u64 = 128;
 
 // The varint at a place. Most have one byte, which is read without the loop.
+#[inline(always)]
 pub fn varint_at(m: &[u8], at: usize) -> Option<Varint>
     requires { at ≤ length m.now }
     ensures { result ≡ varint_at m.now at }
@@ -36,6 +37,7 @@ pub fn varint_at(m: &[u8], at: usize) -> Option<Varint>
 }
 
 // The varint at a place, byte by byte.
+#[inline(always)]
 pub fn varint_of_any_size(m: &[u8], at: usize) -> Option<Varint>
     requires { at ≤ length m.now }
     ensures { result ≡ varint_at m.now at }

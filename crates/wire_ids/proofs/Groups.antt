@@ -1,8 +1,8 @@
 -- Ids laid field by field: what the loop of `lay_ids` turns on, by the laws of `Laying`. Every field of the number is an id, since
 -- the ids were read.
-use Prim.Native.Nat.{ℕ, ◌-◌, ◌<◌}
+use Prim.Native.Nat.{ℕ, ◌+◌, ◌-◌, ◌<◌, ◌≤◌}
 use mathlib.Core.Path.{◌≡◌, refl, ap}
-use mathlib.Core.Bool.{Bool, true, and-eq-true_iff}
+use mathlib.Core.Bool.{Bool, true, cond, and-eq-true_iff}
 use mathlib.Core.List.{List, [], ◌∷◌, ◌++◌}
 use mathlib.Core.Option.{some, map-eq-some_iff, bind-eq-some_iff, some-injective}
 use native.Mathlib.Omega.{arith}
@@ -23,8 +23,25 @@ use Rattle.wire_fields.specs.declared.field.Field.{Field}
 use Rattle.wire_fields.proofs.Walks.{Stands}
 use Rattle.wire_fields.proofs.Laying.{laid, left_of, formed_start, formed_on, Laying, laying_start, laying_room, laying_on}
 use Rattle.wire_ids.specs.Sizes.{ids_of}
-use Rattle.wire_ids.specs.Groups.{words_of_group, id_words, field_words, field_right, IdRoom, FieldRoom, ids_there, Listed}
+use Rattle.wire_ids.specs.Groups.{words_of_group, id_words, IdRoom, ids_there, Listed}
 use Rattle.wire.proofs.Ids.{up_to_is}
+
+-- ---- what is laid for a field
+
+-- the words of a field, if it is an id
+unfoldable pub field_words : List ℕ → ℕ → Field → List ℕ
+field_words m number f = cond (eqb f.number number) (id_words (take (f.next - f.start) (drop f.start m))) []
+
+-- whether a field is an id that can be laid, or of another number
+unfoldable pub field_right : List ℕ → ℕ → Field → Bool
+field_right m number f = cond (eqb f.number number) (is_some (group_of (take (f.next - f.start) (drop f.start m)))) true
+
+-- a field inside a message is right, and a list of some length has room for its words from a place on
+pub record FieldRoom (m : List ℕ) (number : ℕ) (f : Field) (size to : ℕ) : Type 0 where
+  pub starts : f.start ≤ f.next
+  pub ends : f.next ≤ length m
+  pub read : field_right m number f ≡ true
+  pub room : to + length (field_words m number f) ≤ size
 
 -- nothing laid
 pub lays_nothing : (words list : List ℕ) (to : ℕ) → words ≡ [] → Laid list to words list to

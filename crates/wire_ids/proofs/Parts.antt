@@ -25,8 +25,24 @@ use Rattle.wire.proofs.Ids.{group_short}
 use Rattle.wire_fields.specs.Found.{as_field, answered}
 use Rattle.wire_fields.specs.declared.field.Field.{Field}
 use Rattle.wire_fields.proofs.Walks.{Stands, left_on, left_bad}
-use Rattle.wire_ids.specs.Parts.{words_in, found_words, one_more, counted, parts_with, parts_after, words_told, told_after}
+use Rattle.wire_ids.specs.Parts.{words_in, one_more, counted, parts_with, parts_after}
 use Rattle.wire_ids.specs.declared.id.Parts.{Parts}
+
+-- ---- what is told of an id
+
+-- how many words the ack set of an id has that is there; 17, one too many, where it is not
+unfoldable pub found_words : Option Group → ℕ
+found_words none = 17
+found_words (some g) = length g.words
+
+-- what the three numbers say: how many words, or 17
+unfoldable pub words_told : Parts → ℕ
+words_told p = cond (eqb p.ledgers 1 && eqb p.entries 1) p.words 17
+
+-- the same of the fields from a place on, after what was counted before; they may not be there
+unfoldable pub told_after : Parts → Option (List wire.Field) → ℕ
+told_after p none = 17
+told_after p (some fs) = words_told (parts_after p fs)
 
 -- a field is a varint
 abbrev is_varint : wire.Field → Bool

@@ -11,7 +11,7 @@ use native.Mathlib.Nat.{add-zero, pos_of_ne-zero}
 use native.Mathlib.Omega.{arith}
 use lib.Dec.{eqb, leb}
 use lib.ListN.{length, take, drop, length-append}
-use borrow.Author.Tests.{le-leb, lt-leb, leb-true, leb-false, eqb-false, ne_eqb}
+use borrow.Author.Tests.{le-leb, lt-leb, leb-true, leb-false, eqb-false, eq-eqb, ne_eqb}
 use Rattle.rules.specs.Table.{all, keep}
 use Rattle.rules.specs.Groups.{Group}
 use Rattle.rules.proofs.Table.{by_test}
@@ -248,6 +248,12 @@ module _ (m : List ℕ) (number : ℕ) where
       pub counted_past : (f.number ≡ number → ⊥) → Counted f.next t
       unfolding tally_with
       counted_past n = counted_on t (rw (ne_eqb f.number number n))
+
+-- a field of the number is an id more
+pub tally_here : (m : List ℕ) (number : ℕ) (f : Field) (t : Tally) → f.number ≡ number
+    → tally_id (take (f.next - f.start) (drop f.start m)) f.wire t ≡ tally_with m number f t
+unfolding tally_with
+tally_here m number f t e = rw (eq-eqb f.number number e)
 
 -- there is no id
 pub tallied_none : (t : Tally) (bytes : List ℕ) → None ≡ answered words_in (group_of bytes) → tallied t (group_of bytes) ≡ None

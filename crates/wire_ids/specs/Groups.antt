@@ -1,10 +1,9 @@
 -- What the second pass over the ids of an Ack or a Redeliver lays into a list.
-use Rattle.std.specs.Prelude.{ℕ, ◌+◌, ◌-◌, ◌≤◌, ◌≡◌, Bool, true, cond, List, [], eqb, length, set, take, drop}
+use Rattle.std.specs.Prelude.{ℕ, ◌+◌, ◌≤◌, ◌≡◌, true, cond, List, [], eqb, length, set}
 use Rattle.std.proofs.Math.Option.{Option, none, some}
 use Rattle.rules.specs.Table.{is_some, or_else}
 use Rattle.rules.specs.Groups.{Group}
 use Rattle.wire.specs.Ids.{group_of, group_words, list_words}
-use Rattle.wire_fields.specs.declared.field.Field.{Field}
 use Rattle.wire_ids.specs.Sizes.{ids_of}
 
 -- the words of a group that is there or not
@@ -16,25 +15,10 @@ words_of_group (some g) = group_words g
 unfoldable pub id_words : List ℕ → List ℕ
 id_words bytes = words_of_group (group_of bytes)
 
--- the words of a field, if it is an id
-unfoldable pub field_words : List ℕ → ℕ → Field → List ℕ
-field_words m number f = cond (eqb f.number number) (id_words (take (f.next - f.start) (drop f.start m))) []
-
--- whether a field is an id that can be laid, or of another number
-unfoldable pub field_right : List ℕ → ℕ → Field → Bool
-field_right m number f = cond (eqb f.number number) (is_some (group_of (take (f.next - f.start) (drop f.start m)))) true
-
 -- some bytes are an id, and a list of some length has room for its words from a place on
 pub record IdRoom (m : List ℕ) (size to : ℕ) : Type 0 where
   pub read : is_some (group_of m) ≡ true
   pub room : to + length (id_words m) ≤ size
-
--- the same of a field inside a message, if it is of the number
-pub record FieldRoom (m : List ℕ) (number : ℕ) (f : Field) (size to : ℕ) : Type 0 where
-  pub starts : f.start ≤ f.next
-  pub ends : f.next ≤ length m
-  pub read : field_right m number f ≡ true
-  pub room : to + length (field_words m number f) ≤ size
 
 -- how many words a group has after a field of some number
 unfoldable pub count_with : ℕ → ℕ → ℕ

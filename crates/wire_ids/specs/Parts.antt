@@ -1,7 +1,6 @@
 -- What the walk over the fields of an id keeps: how many ledgers, entries and words there were. Each number stops where it is
 -- too many, and a field of another wire type takes it there; so the three say whether the id is right.
 use Rattle.std.specs.Prelude.{ℕ, ◌+◌, cond, ◌&&◌, List, [], ◌∷◌, eqb, ltb, length}
-use Rattle.std.proofs.Math.Option.{Option, none, some}
 use Rattle.rules.specs.Groups.{Group}
 use Rattle.wire.specs.Fields as wire
 use Rattle.wire_ids.specs.declared.id.Parts.{Parts}
@@ -9,11 +8,6 @@ use Rattle.wire_ids.specs.declared.id.Parts.{Parts}
 -- how many words the ack set of an id has
 abbrev pub words_in : Group → ℕ
 words_in g = length g.words
-
--- and of one that is there; 17, one too many, where it is not
-unfoldable pub found_words : Option Group → ℕ
-found_words none = 17
-found_words (some g) = length g.words
 
 -- one field more under a number, from its wire type; `most` is one too many
 unfoldable pub one_more : ℕ → ℕ → ℕ → ℕ
@@ -36,12 +30,3 @@ parts_with number type p =
 unfoldable pub parts_after : Parts → List wire.Field → Parts
 parts_after p [] = p
 parts_after p (f ∷ fs) = parts_after (parts_with f.number f.wire p) fs
-
--- what the three numbers say: how many words, or 17
-unfoldable pub words_told : Parts → ℕ
-words_told p = cond (eqb p.ledgers 1 && eqb p.entries 1) p.words 17
-
--- the same of the fields from a place on, after what was counted before; they may not be there
-unfoldable pub told_after : Parts → Option (List wire.Field) → ℕ
-told_after p none = 17
-told_after p (some fs) = words_told (parts_after p fs)

@@ -23,13 +23,10 @@ unfoldable pub tallied : Tally → math.Option Group → Option Tally
 tallied t none = None
 tallied t (some g) = Some (record { left = t.left - 1; words = t.words + (3 + length g.words) })
 
--- one id more, from its wire type and its place
-unfoldable pub tally_id : List ℕ → ℕ → ℕ → ℕ → Tally → Option Tally
-tally_id m wire start next t =
-    cond (eqb wire 2)
-    (cond (eqb t.left 0) None (tallied t (group_of (take (next - start) (drop start m)))))
-    None
+-- one id more, from its bytes and its field's wire type
+unfoldable pub tally_id : List ℕ → ℕ → Tally → Option Tally
+tally_id bytes wire t = cond (eqb wire 2) (cond (eqb t.left 0) None (tallied t (group_of bytes))) None
 
 -- one field more, which may be an id
 unfoldable pub tally_with : List ℕ → ℕ → Field → Tally → Option Tally
-tally_with m number f t = cond (eqb f.number number) (tally_id m f.wire f.start f.next t) (Some t)
+tally_with m number f t = cond (eqb f.number number) (tally_id (take (f.next - f.start) (drop f.start m)) f.wire t) (Some t)

@@ -5,14 +5,11 @@ ghost use Rattle.wire.specs.Ids.{group_of};
 ghost use Rattle.wire_fields.specs.Found.{answered};
 ghost use Rattle.wire_ids.specs.Parts.{one_more, parts_with, words_in};
 
-use wire_fields::field::{VARINT, WIRE_TYPES, field_at, short_tag, varint_tag};
-use wire_fields::varint::varint_of_any_size;
+use wire_fields::field::VARINT;
+use wire_fields::fields::Fields;
+use wire_fields::format::{ENTRY_ID, LEDGER_ID};
 
-// The numbers of the fields that are read.
-pub const LEDGER: u64 = 1;
-
-pub const ENTRY: u64 = 2;
-
+// The number of an ack set's words.
 pub const ACK_SET: u64 = 5;
 
 // The words of an id beside those of its ack set: ledger, entry, how many.
@@ -57,11 +54,11 @@ impl Parts {
                 words: one_more(self.words, wire, TOO_MANY_WORDS),
                 ..self
             },
-            LEDGER => Parts {
+            LEDGER_ID => Parts {
                 ledgers: one_more(self.ledgers, wire, TOO_MANY),
                 ..self
             },
-            ENTRY => Parts {
+            ENTRY_ID => Parts {
                 entries: one_more(self.entries, wire, TOO_MANY),
                 ..self
             },
@@ -70,33 +67,18 @@ impl Parts {
     }
 }
 
-// How many words the ack set of the id has whose message is `m`. A field says where the next one begins.
+// How many words the ack set of the id has whose message is `m`.
 pub fn id_words(m: &[u8]) -> Option<u64>
     ensures { result ≡ answered words_in (group_of m.now) }
 {
-    let mut at = 0;
     let mut p = Parts {
         ledgers: 0,
         entries: 0,
         words: 0,
     };
-    while at < m.len() {
-        let short = short_tag(m, at);
-        if short != 0 {
-            p = p.with(short / WIRE_TYPES, VARINT);
-            at += 2;
-            continue;
-        }
-        let tag = varint_tag(m, at);
-        if tag != 0 {
-            let value = varint_of_any_size(m, at + 1)?;
-            p = p.with(tag / WIRE_TYPES, VARINT);
-            at = value.next;
-            continue;
-        }
-        let f = field_at(m, at)?;
+    for field in Fields::of(m) {
+        let f = field?;
         p = p.with(f.number, f.wire);
-        at = f.next;
     }
     if p.ledgers != 1 {
         return None;

@@ -4,11 +4,11 @@ ghost use Rattle.std.specs.Prelude.{◌≡◌, ◌+◌, ◌≤◌, length};
 ghost use Rattle.words.specs.Act.{lay};
 ghost use Rattle.wire.specs.Ids.{list_words};
 ghost use Rattle.wire_fields.specs.Values.{Laid};
-ghost use Rattle.wire_ids.specs.Groups.{id_words, field_words, count_with, Put, IdRoom, FieldRoom, ids_there, Listed};
+ghost use Rattle.wire_ids.specs.Groups.{id_words, count_with, Put, IdRoom, ids_there, Listed};
 
-use super::id::{ACK_SET, ENTRY, HEAD_WORDS, LEDGER};
-use wire_fields::field::{Field, WIRE_TYPES, field_at, passed_by, short_tag, varint_tag};
-use wire_fields::varint::varint_of_any_size;
+use super::id::{ACK_SET, HEAD_WORDS};
+use wire_fields::fields::Fields;
+use wire_fields::format::{ENTRY_ID, LEDGER_ID};
 
 // Puts the number of a field into its place in the group that begins at `to` and has `n` words so far; answers how many it has
 // then.
@@ -22,11 +22,11 @@ fn put(list: &mut [u64], to: usize, n: usize, number: u64, value: u64) -> usize
             list[to + HEAD_WORDS + n] = value;
             n + 1
         }
-        LEDGER => {
+        LEDGER_ID => {
             list[to] = value;
             n
         }
-        ENTRY => {
+        ENTRY_ID => {
             list[to + 1] = value;
             n
         }
@@ -34,66 +34,35 @@ fn put(list: &mut [u64], to: usize, n: usize, number: u64, value: u64) -> usize
     }
 }
 
-// Lays the id whose message is `m`, and answers the place after it. A field says where the next one begins.
+// Lays the id whose message is `m`, and answers the place after it.
 fn lay_id(m: &[u8], list: &mut [u64], to: usize) -> usize
     requires { IdRoom m.now (length list.old) to }
     ensures { Laid list.old to (id_words m.now) list.new result }
 {
-    let mut at = 0;
     let mut n = 0;
-    while at < m.len() {
-        let short = short_tag(m, at);
-        if short != 0 {
-            n = put(list, to, n, short / WIRE_TYPES, u64::from(m[at + 1]));
-            at += 2;
-            continue;
-        }
-        let tag = varint_tag(m, at);
-        if tag != 0 {
-            let Some(v) = varint_of_any_size(m, at + 1) else {
-                return to;
-            };
-            n = put(list, to, n, tag / WIRE_TYPES, v.value);
-            at = v.next;
-            continue;
-        }
-        let Some(f) = field_at(m, at) else {
+    for field in Fields::of(m) {
+        let Some(f) = field else {
             return to;
         };
         n = put(list, to, n, f.number, f.value);
-        at = f.next;
     }
     list[to + 2] = n as u64;
     to + HEAD_WORDS + n
 }
 
-// Lays a field if it is an id.
-fn lay_field(m: &[u8], number: u64, f: Field, list: &mut [u64], to: usize) -> usize
-    requires { FieldRoom m.now number f (length list.old) to }
-    ensures { Laid list.old to (field_words m.now number f) list.new result }
-{
-    if f.number != number {
-        return to;
-    }
-    lay_id(&m[f.start..f.next], list, to)
-}
-
-// Lays the ids under a number of a message, from the list's start on. A field says where the next one begins.
+// Lays the ids under a number of a message, from the list's start on.
 pub fn lay_ids(m: &[u8], number: u64, list: &mut [u64])
     requires { Listed m.now number (length list.old) }
     ensures { list.new ≡ (lay (list_words (ids_there m.now number))).run 0 list.old }
 {
-    let mut at = 0;
     let mut to = 0;
-    while at < m.len() {
-        if passed_by(m, at, number) {
-            at += 2;
-            continue;
-        }
-        let Some(f) = field_at(m, at) else {
+    for field in Fields::of(m) {
+        let Some(f) = field else {
             return;
         };
-        to = lay_field(m, number, f, list, to);
-        at = f.next;
+        if f.number != number {
+            continue;
+        }
+        to = lay_id(&m[f.start..f.next], list, to);
     }
 }

@@ -1,10 +1,11 @@
 // The first pass: every id is tested, and the words that they take in a list are counted.
 ghost use Rattle.std.specs.Prelude.{◌≡◌, ◌+◌, ◌*◌, ◌≤◌, length};
 ghost use Rattle.wire_fields.specs.Found.{answered};
-ghost use Rattle.wire_ids.specs.Sizes.{size_of, ids_of, tally_with, tally_id};
+ghost use Rattle.wire_ids.specs.Sizes.{size_of, ids_of, tally_id};
 
 use super::id::{HEAD_WORDS, id_words};
-use wire_fields::field::{DELIMITED, Field, field_at, passed_by};
+use wire_fields::field::DELIMITED;
+use wire_fields::fields::Fields;
 
 // The most ids of a list.
 const MOST_IDS: u64 = 64;
@@ -16,54 +17,39 @@ pub struct Tally {
     pub words: u64,
 }
 
-// One id more, if it is right and not one too many.
+// One id more from its own bytes, if its field is a part, the id is right and it is not one too many.
 #[tactic(auto, unfolding(crate::specs::Sizes::tally_id))]
-fn with_id(m: &[u8], f: Field, t: Tally) -> Option<Tally>
-    requires { (f.start ≤ f.next) × (f.next ≤ length m.now) × (t.words + 19 * t.left ≤ 1216) }
-    ensures { result ≡ tally_id m.now f.wire f.start f.next t }
+fn with_id(bytes: &[u8], wire: u64, t: Tally) -> Option<Tally>
+    requires { t.words + 19 * t.left ≤ 1216 }
+    ensures { result ≡ tally_id bytes.now wire t }
 {
-    if f.wire != DELIMITED {
+    if wire != DELIMITED {
         return None;
     }
     if t.left == 0 {
         return None;
     }
-    let n = id_words(&m[f.start..f.next])?;
+    let n = id_words(bytes)?;
     Some(Tally {
         left: t.left - 1,
         words: t.words + (HEAD_WORDS as u64 + n),
     })
 }
 
-// One field more, which may be an id.
-#[tactic(auto, unfolding(crate::specs::Sizes::tally_with))]
-fn with_field(m: &[u8], number: u64, f: Field, t: Tally) -> Option<Tally>
-    requires { (f.start ≤ f.next) × (f.next ≤ length m.now) × (t.words + 19 * t.left ≤ 1216) }
-    ensures { result ≡ tally_with m.now number f t }
-{
-    if f.number != number {
-        return Some(t);
-    }
-    with_id(m, f, t)
-}
-
-// The words that the ids under a number of a message take. A field says where the next one begins.
+// The words that the ids under a number of a message take.
 pub fn list_size(m: &[u8], number: u64) -> Option<u64>
     ensures { result ≡ answered size_of (ids_of m.now number) }
 {
-    let mut at = 0;
     let mut t = Tally {
         left: MOST_IDS,
         words: 0,
     };
-    while at < m.len() {
-        if passed_by(m, at, number) {
-            at += 2;
+    for field in Fields::of(m) {
+        let f = field?;
+        if f.number != number {
             continue;
         }
-        let f = field_at(m, at)?;
-        t = with_field(m, number, f, t)?;
-        at = f.next;
+        t = with_id(&m[f.start..f.next], f.wire, t)?;
     }
     Some(t.words)
 }

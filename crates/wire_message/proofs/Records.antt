@@ -26,7 +26,7 @@ use Rattle.wire_message.specs.declared.content.Head.{Head}
 use Rattle.std.specs.Prelude.{Result, Ok, Err}
 use Rattle.wire_fields.specs.declared.unread.Unread.{Unread}
 use Rattle.wire_fields.specs.declared.unread.Unread.TheVariants.{Malformed, OtherType}
-use Rattle.wire_fields.specs.Unread.{unread_number, unread_or_0}
+use Rattle.wire_fields.specs.Unread.{unread_number, unread_word}
 use Rattle.wire_message.proofs.Contents.{Contained, content_words}
 
 -- ---- the record's words
@@ -60,7 +60,7 @@ record_laid x words e h =
 
 -- the answer to a content, and the record after it
 pub record ContentDone (o : Option Message) (words : List ℕ) (result : Result Unit Unread) (after : List ℕ) : Type 0 where
-  pub answer : unread_or_0 result ≡ content_answer o
+  pub answer : unread_word (λ _. 0) result ≡ content_answer o
   pub written : after ≡ content_after words o
 
 -- no content
@@ -92,7 +92,7 @@ module _
 
 -- the answer to a Message, and the record after it
 pub record MessageDone (m words : List ℕ) (result : Result Unit Unread) (after : List ℕ) : Type 0 where
-  pub answer : unread_or_0 result ≡ message_answer (message m)
+  pub answer : unread_word (λ _. 0) result ≡ message_answer (message m)
   pub written : after ≡ record_after words (message m)
 
 module _ (m words : List ℕ) where
@@ -127,6 +127,6 @@ module _ (m words : List ℕ) where
         record { answer = rw b q.0; written = rw b q.1 }
       where
         go : (o : Option Message) → ContentDone o words result after
-            → (unread_or_0 result ≡ message_answer (or_16 (map read o))) × (after ≡ record_after words (or_16 (map read o)))
+            → (unread_word (λ _. 0) result ≡ message_answer (or_16 (map read o))) × (after ≡ record_after words (or_16 (map read o)))
         go none q = (q.answer, q.written)
         go (some x) q = (q.answer, q.written)

@@ -5,8 +5,8 @@ ghost use Rattle.wire.specs.Message.{content_of};
 ghost use Rattle.wire_fields.specs.Found.{answered, as_is};
 ghost use Rattle.wire_message.specs.Found.{id_of_bytes, ack_count, head_of};
 
-use wire_fields::base::NOTHING;
 use wire_fields::field::{DELIMITED, VARINT, WIRE_TYPES};
+use wire_fields::format::{ENTRY_ID, LEDGER_ID, MOST_ACK_SET_WORDS};
 use wire_fields::pick::pick;
 use wire_fields::select::Width;
 
@@ -28,9 +28,9 @@ pub struct Head {
 }
 
 // Fields of MessageIdData.
-const LEDGER_ID: u64 = 1 * WIRE_TYPES + VARINT;
+const LEDGER: u64 = LEDGER_ID * WIRE_TYPES + VARINT;
 
-const ENTRY_ID: u64 = 2 * WIRE_TYPES + VARINT;
+const ENTRY: u64 = ENTRY_ID * WIRE_TYPES + VARINT;
 
 const BATCH_SIZE: u64 = 6 * WIRE_TYPES + VARINT;
 
@@ -43,14 +43,11 @@ const REDELIVERY_COUNT: u64 = 3 * WIRE_TYPES + VARINT;
 
 const ACK_SET: u64 = 4 * WIRE_TYPES + VARINT;
 
-// The most ack words of a Message.
-const MOST_ACK_SET_WORDS: u64 = 4;
-
 // The id of its own bytes.
 fn id_of(m: &[u8]) -> Option<BatchId>
     ensures { result ≡ answered as_is (id_of_bytes m.now) }
 {
-    let (x, y, z) = pick(m, LEDGER_ID, ENTRY_ID, BATCH_SIZE)?;
+    let [x, y, z] = pick(m, [LEDGER, ENTRY, BATCH_SIZE])?;
     let ledger = x.required(Width::Uint64)?;
     let entry = y.required(Width::Uint64)?;
     let batch_size = z.optional(Width::Count)?;
@@ -65,7 +62,7 @@ fn id_of(m: &[u8]) -> Option<BatchId>
 fn ack_words(m: &[u8]) -> Option<u64>
     ensures { result ≡ answered as_is (ack_count m.now) }
 {
-    let (x, _, _) = pick(m, ACK_SET, NOTHING, NOTHING)?;
+    let [x] = pick(m, [ACK_SET])?;
     x.several(MOST_ACK_SET_WORDS)
 }
 
@@ -73,7 +70,7 @@ fn ack_words(m: &[u8]) -> Option<u64>
 pub fn read_content(m: &[u8]) -> Option<Head>
     ensures { result ≡ answered head_of (content_of m.now) }
 {
-    let (x, y, z) = pick(m, CONSUMER_ID, MESSAGE_ID, REDELIVERY_COUNT)?;
+    let [x, y, z] = pick(m, [CONSUMER_ID, MESSAGE_ID, REDELIVERY_COUNT])?;
     let consumer = x.required(Width::Uint64)?;
     let part = y.part()?;
     let id = id_of(&m[part.start..part.next])?;

@@ -2,18 +2,16 @@
 ghost use Rattle.std.specs.Prelude.{◌≡◌, length};
 ghost use Rattle.wire.specs.Message.{content_of, message};
 ghost use Rattle.wire.specs.Answers.{message_answer, record_after};
-ghost use Rattle.wire_fields.specs.Unread.{unread_or_0};
+ghost use Rattle.wire_fields.specs.Unread.{unread_word};
 ghost use Rattle.wire_message.specs.Found.{dispatch_of, content_answer, content_after};
 
 use super::content::{Head, read_content};
 use bits::UnackedBits;
 use record::{Dispatch, write_record};
 use wire_fields::base::read_base;
+use wire_fields::format::MESSAGE;
 use wire_fields::lay::lay_numbers;
 use wire_fields::unread::Unread;
-
-// The type of a Message, the one type that is read here; CommandType has the six commands.
-const MESSAGE: u64 = 9;
 
 // Its ack words: their field's number, and their place in a record.
 const ACK_SET: u64 = 4;
@@ -48,7 +46,7 @@ impl From<Head> for Dispatch {
 
 // Reads a Message's content from its own bytes into a record.
 fn fill_record(m: &[u8], record: &mut [u64; 13]) -> Result<(), Unread>
-    ensures answer { unread_or_0 result ≡ content_answer (content_of m.now) }
+    ensures answer { unread_word (λ _. 0) result ≡ content_answer (content_of m.now) }
     ensures words { «record».new ≡ content_after «record».old (content_of m.now) }
 {
     let head = read_content(m).ok_or(Unread::Malformed)?;
@@ -59,10 +57,11 @@ fn fill_record(m: &[u8], record: &mut [u64; 13]) -> Result<(), Unread>
 
 // Reads a Message into a record; or says why it is not read, and changes nothing.
 pub fn read_message(bytes: &[u8], record: &mut [u64; 13]) -> Result<(), Unread>
-    ensures answer { unread_or_0 result ≡ message_answer (message bytes.now) }
+    ensures answer { unread_word (λ _. 0) result ≡ message_answer (message bytes.now) }
     ensures words { «record».new ≡ record_after «record».old (message bytes.now) }
 {
     let base = read_base(bytes).ok_or(Unread::Malformed)?;
+    // The one type that is read here; CommandType has the six commands.
     if base.kind != MESSAGE {
         return Err(Unread::OtherType);
     }

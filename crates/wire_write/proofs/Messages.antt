@@ -12,8 +12,12 @@ use Rattle.rules.proofs.Table.{by_test}
 use Rattle.wire.specs.Message.{number_bytes, part_bytes, ack_set_bytes, content_bytes, message_bytes}
 use Rattle.wire.specs.Answers.{message_from, writable, write_message, bytes_answer, buffer_after}
 use Rattle.words.specs.Wrote.{Wrote}
-use Rattle.std.specs.Prelude.{Option, Some, None}
-use Rattle.wire_write.specs.Numbers.{id_numbers, size_word}
+use Rattle.std.specs.Prelude.{Result, Ok, Err}
+use Rattle.wire_fields.specs.Found.{as_is}
+use Rattle.wire_fields.specs.Unread.{unread_word}
+use Rattle.wire_fields.specs.declared.unread.Unread.{Unread}
+use Rattle.wire_fields.specs.declared.unread.Unread.TheVariants.{Malformed}
+use Rattle.wire_write.specs.Numbers.{id_numbers}
 use Rattle.words.proofs.Writers.{and_then}
 
 -- consumer, id, redelivery count and ack words, one after the other, are a record's content
@@ -31,24 +35,24 @@ content_written words u v w x =
 -- ---- the answer and the buffer after the call
 
 -- both are the definition's
-pub record Answered (buffer words : List ℕ) (result : Option ℕ) (after : List ℕ) : Type 0 where
-  pub answer : size_word result ≡ bytes_answer (write_message buffer words)
+pub record Answered (buffer words : List ℕ) (result : Result ℕ Unread) (after : List ℕ) : Type 0 where
+  pub answer : unread_word as_is result ≡ bytes_answer (write_message buffer words)
   pub bytes : after ≡ buffer_after buffer (write_message buffer words)
 
 -- a buffer that is too small is refused
-pub refuses_buffer : (buffer words : List ℕ) → length buffer < 256 → Answered buffer words None buffer
+pub refuses_buffer : (buffer words : List ℕ) → length buffer < 256 → Answered buffer words (Err Malformed) buffer
 unfolding write_message bytes_answer buffer_after
 refuses_buffer buffer words h = let t = lt-leb 256 (length buffer) h in record { answer = rw t; bytes = rw t }
 
 -- a record that cannot be written is refused
-pub refuses_record : (buffer words : List ℕ) → writable words ≡ false → Answered buffer words None buffer
+pub refuses_record : (buffer words : List ℕ) → writable words ≡ false → Answered buffer words (Err Malformed) buffer
 unfolding write_message bytes_answer buffer_after
 refuses_record buffer words t =
     by_test (leb 256 (length buffer)) (λ s. record { answer = rw (s, t); bytes = rw (s, t) }) (λ s. record { answer = rw s; bytes = rw s })
 
 -- another is written
 pub writes : {buffer after : List ℕ} {next : ℕ} (words : List ℕ) → 256 ≤ length buffer → writable words ≡ true
-    → Wrote 136 buffer 0 (message_bytes (message_from words)) after next → Answered buffer words (Some next) after
+    → Wrote 136 buffer 0 (message_bytes (message_from words)) after next → Answered buffer words (Ok next) after
 unfolding write_message bytes_answer buffer_after
 writes {buffer} {next = next} words h t w =
     let s = le-leb 256 (length buffer) h in

@@ -1,28 +1,25 @@
 // The Message of a record, from the inside out. An id and a message's content take fewer than 128 bytes, so that their
 // lengths are one byte each: it is left open while the bytes after it are written, and filled in when their number is known.
-ghost use Rattle.std.specs.Prelude.{◌≡◌, ◌+◌, ◌≤◌, length, get_or, IfSome};
+ghost use Rattle.std.specs.Prelude.{◌≡◌, ◌+◌, ◌≤◌, length, get_or, IfOk};
 ghost use Rattle.wire.specs.Message.{number_bytes, part_bytes, content_bytes, message_bytes};
 ghost use Rattle.wire.specs.Answers.{message_from, writable, write_message, bytes_answer, buffer_after};
 ghost use Rattle.words.specs.Wrote.{Wrote};
-ghost use Rattle.wire_write.specs.Numbers.{id_numbers, size_word};
+ghost use Rattle.wire_fields.specs.Found.{as_is};
+ghost use Rattle.wire_fields.specs.Unread.{unread_word};
+ghost use Rattle.wire_write.specs.Numbers.{id_numbers};
 
 use super::fields::{write_ack_set, write_number};
+use wire_fields::format::{MESSAGE, MOST_ACK_SET_WORDS, UINT32_END};
+use wire_fields::unread::Unread;
 
 // The bytes that a buffer has at least.
 const BUFFER_BYTES: usize = 256;
 
-// The most words of a record, the largest batch size, and what a redelivery count is below.
-const MOST_WORDS: u64 = 4;
-
+// The largest batch size.
 const MOST_BATCH_SIZE: u64 = 256;
-
-const REDELIVERY_LIMIT: u64 = 4_294_967_296;
 
 // -1 as int32 is written, in ten bytes.
 const MINUS_ONE: u64 = 18_446_744_073_709_551_615;
-
-// The type of a Message.
-const MESSAGE: u64 = 9;
 
 // The tags of a part: of the id in the content, and of the content in the BaseCommand.
 const ID_TAG: u8 = 18;
@@ -89,27 +86,27 @@ fn write_command(buffer: &mut [u8], record: &[u64; 13]) -> usize
 fn can_write(record: &[u64; 13]) -> bool
     ensures { result ≡ writable «record».now }
 {
-    if MOST_WORDS < record[5] {
+    if MOST_ACK_SET_WORDS < record[5] {
         return false;
     }
     if MOST_BATCH_SIZE < record[4] {
         return false;
     }
-    record[10] < REDELIVERY_LIMIT
+    record[10] < UINT32_END
 }
 
 // Writes a record's Message as a BaseCommand at the start of a buffer and answers how many bytes it has; or writes nothing, where
 // the record is out of limits or the buffer short.
-pub fn write_message(record: &[u64; 13], buffer: &mut [u8]) -> Option<usize>
-    ensures answer { size_word result ≡ bytes_answer (write_message buffer.old «record».now) }
-    ensures short { IfSome result (λ size. size ≤ 136) }
+pub fn write_message(record: &[u64; 13], buffer: &mut [u8]) -> Result<usize, Unread>
+    ensures answer { unread_word as_is result ≡ bytes_answer (write_message buffer.old «record».now) }
+    ensures short { IfOk result (λ size. size ≤ 136) }
     ensures bytes { buffer.new ≡ buffer_after buffer.old (write_message buffer.old «record».now) }
 {
     if buffer.len() < BUFFER_BYTES {
-        return None;
+        return Err(Unread::Malformed);
     }
     if !can_write(record) {
-        return None;
+        return Err(Unread::Malformed);
     }
-    Some(write_command(buffer, record))
+    Ok(write_command(buffer, record))
 }

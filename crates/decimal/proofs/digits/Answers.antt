@@ -1,17 +1,10 @@
--- `decimal::digits` meets its contract. The loop's invariant: the digits counted and those of the rest together
--- are one more than the number's.
-use mathlib.Core.Path.{ap}
-use native.Mathlib.Omega.{arith}
-use lib.ListN.{length}
-use borrow.Author.Rules.{rules}
-use Rattle.decimal.proofs.Written.{one_digit, one_longer, short}
+-- `decimal::digits` meets its contract: a number from a power of ten on, and below the next, has a digit more than the power says.
+use Rattle.std.proofs.Common.{rules, sym, ap, arith, length}
+use Rattle.decimal.proofs.Written.{one_digit, by_power}
 use Rattle.decimal.proofs.digits.Goals as goal
 
-pub overflow_add-count : goal.overflow_add-count
-overflow_add-count c = omega (arith, short c.args.number)
+pub returns-in-Some : goal.returns-in-Some
+returns-in-Some c = let e = c.in-Some.ensures in sym (by_power _ _ (search rules) e.power_le e.next_power_gt)
 
-pub loop-rest-preserved : goal.loop-rest-preserved
-loop-rest-preserved c = (search rules, omega (arith, one_longer _ c.loop-rest.invariant.0 (search rules)))
-
-pub returns : goal.returns
-returns c = omega (arith, ap length (one_digit c.loop-rest.rest (search rules)))
+pub returns-in-None : goal.returns-in-None
+returns-in-None c = sym (ap length (one_digit _ (omega (arith, c.in-None.ensures.none))))

@@ -5,4 +5,4 @@ use Rattle.trace_lines.proofs.write_bad.Goals as goal
 
 pub returns : goal.returns
 unfolding bad_line
-returns c = and_then c.write_word-after_word.ensures c.write_number.ensures
+returns c = and_then c.write_text-after_word.ensures c.write_number.ensures

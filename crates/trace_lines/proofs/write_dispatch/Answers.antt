@@ -4,5 +4,5 @@ use Rattle.trace_lines.proofs.write_dispatch.Goals as goal
 
 pub returns : goal.returns
 returns c =
-    dispatch_wrote c.args.list.now c.args.from c.write_plus-after_plus.ensures c.write_number-after_consumer.ensures
+    dispatch_wrote c.args.list.now c.args.from c.write_text-after_plus.ensures c.write_number-after_consumer.ensures
     c.write_number-after_ledger.ensures c.write_number-after_entry.ensures c.write_permits.ensures

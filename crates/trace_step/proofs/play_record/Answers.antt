@@ -23,13 +23,13 @@ pub write_outcome-written-requires : goal.write_outcome-written-requires
 write_outcome-written-requires c =
     let p = c.requires in
     let few = few_told _ p.0 _ _ _ c.kind_of-kind.ensures (sym (ap words_told c.in-Some.is) ∙ c.make_record-made.ensures.answer) in
-    (search rules, few, omega (arith, few))
+    rw c.word_of.ensures (search rules, few, omega (arith, few))
 
 pub returns-in-Some : goal.returns-in-Some
 returns-in-Some c =
     let p = c.requires in
     played_call _ _ _ _ p.0 p.1 _ p.2 _ c.kind_of-kind.ensures (sym (ap words_told c.in-Some.is) ∙ c.make_record-made.ensures.answer)
-    c.make_record-made.ensures.words c.make_record-made.ensures.records c.write_outcome-written.ensures
+    c.make_record-made.ensures.words c.make_record-made.ensures.records (rw c.word_of.ensures at c.write_outcome-written.ensures)
 
 pub returns-in-None : goal.returns-in-None
 returns-in-None c =

@@ -5,7 +5,7 @@ use native.Mathlib.Omega.{arith}
 use Rattle.std.proofs.lemmas.Result.{err_from_is_err_and}
 use Rattle.wire_fields.specs.declared.unread.Unread.TheVariants.{Malformed}
 use Rattle.wire_fields.proofs.Answered.{was_some, was_none}
-use Rattle.wire_fields.proofs.Bases.{told_no_place, told_base, told_untyped, placed_message, message_stands, stands_inside}
+use Rattle.wire_fields.proofs.Bases.{told_no_place, told_base, told_untyped, placed_message, message_found, stands_inside}
 use Rattle.wire.specs.Commands.Reading.{refused}
 use Rattle.wire_command.proofs.Answers.{refused_done, same_done, too_short, untyped, other_type, no_message, message_decides, typed, untyped_number}
 use Rattle.wire_command.proofs.read.read_command.Goals as goal
@@ -48,19 +48,19 @@ returns-in_err-place c =
 pub slice_bounds-read_content-count : goal.slice_bounds-read_content-count
 slice_bounds-read_content-count c =
     let t = typed _ _ c.in_ok-kind.ensures in
-    let s = stands_inside (message_stands _ _ _ (was_some _ _ c.in_ok-base.ensures.value ∙ c.read_base.ensures) t.low (sym (was_some _ _ c.in_ok-place.ensures.value))) in
+    let s = stands_inside (message_found _ _ _ c.in_ok-base.ensures.value c.read_base.ensures t.low c.in_ok-place.ensures.value) in
     omega (arith, s.0, s.1)
 
 pub slice_bounds-read_content-start : goal.slice_bounds-read_content-start
 slice_bounds-read_content-start c =
     let t = typed _ _ c.in_ok-kind.ensures in
-    let s = stands_inside (message_stands _ _ _ (was_some _ _ c.in_ok-base.ensures.value ∙ c.read_base.ensures) t.low (sym (was_some _ _ c.in_ok-place.ensures.value))) in
+    let s = stands_inside (message_found _ _ _ c.in_ok-base.ensures.value c.read_base.ensures t.low c.in_ok-place.ensures.value) in
     omega (arith, s.0, s.1)
 
 pub slice_bounds-read_content-end : goal.slice_bounds-read_content-end
 slice_bounds-read_content-end c =
     let t = typed _ _ c.in_ok-kind.ensures in
-    let s = stands_inside (message_stands _ _ _ (was_some _ _ c.in_ok-base.ensures.value ∙ c.read_base.ensures) t.low (sym (was_some _ _ c.in_ok-place.ensures.value))) in
+    let s = stands_inside (message_found _ _ _ c.in_ok-base.ensures.value c.read_base.ensures t.low c.in_ok-place.ensures.value) in
     omega (arith, s.0, s.1)
 
 pub returns : goal.returns
@@ -68,7 +68,7 @@ returns c =
     let a = c.args in
     let b = told_base a.bytes.now _ (was_some _ _ c.in_ok-base.ensures.value ∙ c.read_base.ensures) in
     let t = typed _ _ c.in_ok-kind.ensures in
-    let p = message_stands _ _ _ (was_some _ _ c.in_ok-base.ensures.value ∙ c.read_base.ensures) t.low (sym (was_some _ _ c.in_ok-place.ensures.value)) in
+    let p = message_found _ _ _ c.in_ok-base.ensures.value c.read_base.ensures t.low c.in_ok-place.ensures.value in
     let e = message_decides a.list.now a.bytes.now (omega arith) b.0 t.taken p in
     let r = c.read_content.ensures in
     let d = same_done a.command.now a.list.now (rw t.is at e) (record { answer = r.answer; written = r.words; laid = r.ids }) in

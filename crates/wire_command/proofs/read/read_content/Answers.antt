@@ -16,19 +16,19 @@ returns-in_err-c c =
     let a = c.args in
     let p = err_from_is_err_and c.from_residual.result c.from_residual.ensures.1 in
     let e = was_none _ _ c.in_err-c.ensures.value in
-    let d = refused_done Malformed a.command.now a.list.now (told_no_command _ (e.0 ∙ c.content.ensures)) in
+    let d = refused_done Malformed a.command.now a.list.now (told_no_command _ (e.0 ∙ c.content_of.ensures)) in
     record { answer = rw (p.1, p.2, e.1) d.answer; words = d.written; ids = d.laid }
 
 pub lay_list-requires : goal.lay_list-requires
 lay_list-requires c =
     let a = c.args in
-    let t = from_some as_command (command_of (type_number a.kind) a.at a.m.now) (was_some _ _ c.in_ok-c.ensures.value ∙ c.content.ensures) in
+    let t = from_some as_command (command_of (type_number a.kind) a.at a.m.now) (was_some _ _ c.in_ok-c.ensures.value ∙ c.content_of.ensures) in
     (chosen a.at a.m.now (type_number a.kind) t.x t.is).ready _ c.requires.1
 
 pub returns : goal.returns
 returns c =
     let a = c.args in
-    let t = from_some as_command (command_of (type_number a.kind) a.at a.m.now) (was_some _ _ c.in_ok-c.ensures.value ∙ c.content.ensures) in
+    let t = from_some as_command (command_of (type_number a.kind) a.at a.m.now) (was_some _ _ c.in_ok-c.ensures.value ∙ c.content_of.ensures) in
     let k = chosen a.at a.m.now (type_number a.kind) t.x t.is in
     let d = read_done a.command.now a.list.now t k c.write_words.ensures c.lay_list.ensures in
     record { answer = d.answer; words = d.written; ids = d.laid }

@@ -1,10 +1,7 @@
 -- Laying what is left from here on is laying all.
-use Rattle.std.proofs.Common.{◌-◌, length}
 use Rattle.wire_fields.proofs.Laying.{Laying, number_of}
+use Rattle.wire_fields.proofs.Walks.{At}
 use Rattle.wire_fields.proofs.lay.lay_numbers.Given as goal
 
-abbrev pub invariant-loop-at : goal.invariant-loop-at
-invariant-loop-at l = Laying (number_of l.number) l.m l.fn.list l.fn.to l.at l.list l.next
-
-abbrev pub decreases-loop-at : goal.decreases-loop-at
-decreases-loop-at l = length l.m - l.at
+abbrev pub invariant-loop-field : goal.invariant-loop-field
+invariant-loop-field l = At l.m l.field-iterator × Laying (number_of l.number) l.m l.fn.list l.fn.to l.field-iterator.at l.list l.next

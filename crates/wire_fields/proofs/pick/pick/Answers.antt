@@ -1,40 +1,27 @@
 -- `wire_fields::pick::pick` meets its contract: what was seen so far and the fields that are left are what is picked (`Partly`).
--- A field of two bytes stands there as any other (`short_stands`).
-use native.Mathlib.Omega.{arith}
-use Rattle.wire_fields.specs.Picked.{wanted_of, first_of, seen_field}
-use Rattle.wire_fields.proofs.Walks.{stands, stands_not, partly_start, partly_end, partly_bad, partly_on}
-use Rattle.wire_fields.proofs.Tags.{short_stands, short_inside}
+use Rattle.std.proofs.Common.{◌≡◌, length, rules}
+use Rattle.wire_fields.proofs.Walks.{at_start, on, off, ended, partly_start, partly_end, partly_bad, partly_on}
 use Rattle.wire_fields.proofs.pick.pick.Goals as goal
 
-pub loop-at-init : goal.loop-at-init
-loop-at-init c =
+pub loop-field-init : goal.loop-field-init
+loop-field-init g c =
     let a = c.args in
-    rw (c.nothing-z.ensures, c.nothing-y.ensures, c.nothing-x.ensures)
-    (partly_start a.m.now (wanted_of a.a) (wanted_of a.b) (wanted_of a.c))
+    let s = c.of-field-items.ensures in
+    let n : g.row.N ≡ length a.tags = search rules in
+    rw (c.into_iter-field-iterator.ensures.into_iter_gives, c.nothing-seen.ensures, n)
+    (at_start s, rw s.1 (partly_start a.m.now a.tags))
 
-pub bounds-m-at : goal.bounds-m-at
-bounds-m-at c = omega (arith, short_inside _ _ _ c.short_tag-tag.ensures c.if-tag-ne0.true)
+pub returns-in_err-field : goal.returns-in_err-field
+returns-in_err-field g c =
+    let i = c.loop-field.invariant in
+    let o = off i.0 c.in-Some.ensures.steps c.in_err-field.was in
+    rw c.from_residual.ensures (partly_bad _ _ i.1 o.0 o.1)
 
-pub loop-at-preserved-then-tag-ne0 : goal.loop-at-preserved-then-tag-ne0
-unfolding seen_field first_of
-loop-at-preserved-then-tag-ne0 c =
-    let f = short_stands _ _ _ _ c.short_tag-tag.ensures c.if-tag-ne0.true c.from-value.ensures in
-    rw (c.with-z.ensures, c.with-y.ensures, c.with-x.ensures)
-    (partly_on _ _ _ _ c.loop-at.invariant (omega (arith, f.0)) _ f.1)
-
-pub returns-in_err-f : goal.returns-in_err-f
-returns-in_err-f c =
-    rw c.from_residual.ensures (partly_bad _ _ _ _ c.loop-at.invariant (omega arith) (stands_not _ _ c.in_err-f.ensures))
-
-pub loop-at-smaller : goal.loop-at-smaller
-loop-at-smaller c = let f = stands _ _ _ c.in_ok-f.ensures in omega (arith, f.more, f.ends)
-
-pub loop-at-preserved : goal.loop-at-preserved
-unfolding seen_field
-loop-at-preserved c =
-    let f = stands _ _ _ c.in_ok-f.ensures in
-    rw (c.with-z-in-loop-at.ensures, c.with-y-in-loop-at.ensures, c.with-x-in-loop-at.ensures, c.first_of-first.ensures)
-    (partly_on _ _ _ _ c.loop-at.invariant (omega arith) _ f)
+pub loop-field-preserved : goal.loop-field-preserved
+loop-field-preserved g c =
+    let i = c.loop-field.invariant in
+    let f = on i.0 c.in-Some.ensures.steps c.in_ok-field.was in
+    rw c.all_with-seen.ensures (f.3, rw f.2 (partly_on _ _ i.1 f.0 _ f.1))
 
 pub returns : goal.returns
-returns c = partly_end _ _ _ _ c.loop-at.invariant (omega arith)
+returns g c = let i = c.loop-field.invariant in partly_end _ _ i.1 (ended i.0 c.in-None.ensures.steps)

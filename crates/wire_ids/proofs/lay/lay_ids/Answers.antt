@@ -1,35 +1,54 @@
 -- `wire_ids::lay::lay_ids` meets its contract: laying what is left from here on is laying all, and what is left are ids (`Listing`).
-use mathlib.Core.Path.{sym, ◌∙◌}
+use mathlib.Core.Path.{◌∙◌}
 use native.Mathlib.Omega.{arith}
-use Rattle.wire_fields.proofs.Walks.{stands, stands_not}
-use Rattle.wire_fields.proofs.Tags.{passed_stands}
+use Rattle.wire_fields.proofs.Walks.{at_start, on, off, ended}
 use Rattle.wire_fields.proofs.Laying.{laying_end, formed_not_bad}
-use Rattle.wire_ids.proofs.Groups.{all_laid, field_other, lays_nothing, listing_start, listing_room, listing_on}
+use Rattle.wire_ids.proofs.Groups.{all_laid, lays_nothing, field_other, field_id, field_room, listing_start, listing_room, listing_on}
 use Rattle.wire_ids.proofs.lay.lay_ids.Goals as goal
 
-pub loop-at-init : goal.loop-at-init
-loop-at-init c = listing_start _ _ _ c.requires
-
-pub loop-at-preserved-then-passed_by : goal.loop-at-preserved-then-passed_by
-loop-at-preserved-then-passed_by c =
-    let p = passed_stands _ _ _ (sym c.passed_by.ensures ∙ c.if-passed_by.true) in
-    listing_on _ _ _ c.loop-at.invariant _ (omega (arith, p.0)) p.1 _ _ (lays_nothing _ _ _ (field_other _ _ _ p.2))
+pub loop-field-init : goal.loop-field-init
+loop-field-init c =
+    let s = c.of-field-items.ensures in
+    rw c.into_iter-field-iterator.ensures.into_iter_gives (at_start s, rw s.1 (listing_start _ _ _ c.requires))
 
 pub returns-in_default : goal.returns-in_default
 returns-in_default c =
-    formed_not_bad _ _ (omega arith) (stands_not _ _ c.in_default.ensures) c.loop-at.invariant.laying.formed
+    let i = c.loop-field.invariant in
+    let o = off i.0 c.in-Some.ensures.steps c.in_default.is in
+    formed_not_bad _ _ o.0 o.1 i.1.laying.formed
 
-pub lay_field-to-requires : goal.lay_field-to-requires
-lay_field-to-requires c =
-    listing_room _ _ _ c.loop-at.invariant _ (omega arith) (stands _ _ _ c.in-Some.ensures)
+pub loop-field-preserved-then-f-number : goal.loop-field-preserved-then-f-number
+loop-field-preserved-then-f-number c =
+    let i = c.loop-field.invariant in
+    let f = on i.0 c.in-Some.ensures.steps c.in-Some-field.is in
+    (f.3, rw f.2 (listing_on _ _ _ i.1 _ f.0 f.1 _ _ (lays_nothing _ _ _ (field_other _ _ _ c.if-f-number.true))))
 
-pub loop-at-smaller : goal.loop-at-smaller
-loop-at-smaller c = let f = stands _ _ _ c.in-Some.ensures in omega (arith, f.more, f.ends)
+pub slice_bounds-lay_id-count : goal.slice_bounds-lay_id-count
+slice_bounds-lay_id-count c =
+    let f = (on c.loop-field.invariant.0 c.in-Some.ensures.steps c.in-Some-field.is).1 in omega (arith, f.starts, f.ends)
 
-pub loop-at-preserved : goal.loop-at-preserved
-loop-at-preserved c =
-    listing_on _ _ _ c.loop-at.invariant _ (omega arith) (stands _ _ _ c.in-Some.ensures) _ _ c.lay_field-to.ensures
+pub slice_bounds-lay_id-start : goal.slice_bounds-lay_id-start
+slice_bounds-lay_id-start c =
+    let f = (on c.loop-field.invariant.0 c.in-Some.ensures.steps c.in-Some-field.is).1 in omega (arith, f.starts, f.ends)
+
+pub slice_bounds-lay_id-end : goal.slice_bounds-lay_id-end
+slice_bounds-lay_id-end c =
+    let f = (on c.loop-field.invariant.0 c.in-Some.ensures.steps c.in-Some-field.is).1 in omega (arith, f.starts, f.ends)
+
+pub lay_id-to-requires : goal.lay_id-to-requires
+lay_id-to-requires c =
+    let i = c.loop-field.invariant in
+    let f = on i.0 c.in-Some.ensures.steps c.in-Some-field.is in
+    field_room _ _ _ _ _ c.if-f-number.false (listing_room _ _ _ i.1 _ f.0 f.1)
+
+pub loop-field-preserved : goal.loop-field-preserved
+loop-field-preserved c =
+    let a = c.args in
+    let i = c.loop-field.invariant in
+    let f = on i.0 c.in-Some.ensures.steps c.in-Some-field.is in
+    (f.3, rw f.2 (listing_on _ _ _ i.1 _ f.0 f.1 _ _ (rw (field_id a.m.now a.number c.in-Some-field.f c.if-f-number.false) c.lay_id-to.ensures)))
 
 pub returns : goal.returns
 returns c =
-    laying_end _ _ _ _ c.loop-at.invariant.laying (omega arith) ∙ rw (all_laid c.args.m.now c.args.number c.requires.read).1
+    let i = c.loop-field.invariant in
+    laying_end _ _ _ _ i.1.laying (ended i.0 c.in-None.ensures.steps) ∙ rw (all_laid c.args.m.now c.args.number c.requires.read).1

@@ -10,7 +10,7 @@ unfolding tally_id
 returns-in_err-n c =
     rw (
       c.from_residual.ensures,
-      eq-eqb _ _ c.if-f-ne-DELIMITED.false,
+      eq-eqb _ _ c.if-wire-ne-DELIMITED.false,
       ne_eqb _ _ c.if-t-eq0.false,
       tallied_none c.args.t _ c.in_err-n.ensures,
     )
@@ -19,13 +19,13 @@ pub overflow_add-result : goal.overflow_add-result
 overflow_add-result c = omega (arith, words_few c.args.t _ _ c.in_ok-n.ensures)
 
 pub overflow_add-result-2 : goal.overflow_add-result-2
-overflow_add-result-2 c = omega (arith, words_few c.args.t _ _ c.in_ok-n.ensures, c.requires.2)
+overflow_add-result-2 c = omega (arith, words_few c.args.t _ _ c.in_ok-n.ensures, c.requires)
 
 pub returns : goal.returns
 unfolding tally_id
 returns c =
     rw (
-      eq-eqb _ _ c.if-f-ne-DELIMITED.false,
+      eq-eqb _ _ c.if-wire-ne-DELIMITED.false,
       ne_eqb _ _ c.if-t-eq0.false,
       tallied_some c.args.t _ _ c.in_ok-n.ensures,
     )

@@ -19,9 +19,11 @@ returns-in_err-head c =
 
 pub lay_numbers-requires : goal.lay_numbers-requires
 lay_numbers-requires c =
-    words_ready (told_content _ _ (was_some _ _ c.in_ok-head.ensures.value ∙ c.read_content.ensures)) _ (search rules) c.from.ensures c.write_record.ensures
+    let k = told_content _ _ (was_some _ _ c.in_ok-head.ensures.value ∙ c.read_content.ensures) in
+    words_ready k _ (search rules) c.from.ensures c.write_record.ensures
 
 pub returns : goal.returns
 returns c =
-    let d = content_filled (told_content _ _ (was_some _ _ c.in_ok-head.ensures.value ∙ c.read_content.ensures)) _ (search rules) c.from.ensures c.write_record.ensures c.lay_numbers.ensures in
+    let k = told_content _ _ (was_some _ _ c.in_ok-head.ensures.value ∙ c.read_content.ensures) in
+    let d = content_filled k _ (search rules) c.from.ensures c.write_record.ensures c.lay_numbers.ensures in
     record { answer = d.answer; words = d.written }

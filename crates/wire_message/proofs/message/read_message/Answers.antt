@@ -1,13 +1,13 @@
 -- `wire_message::message::read_message` meets its contract: 16 where there is no type, 17 for another, and then the message's
 -- content decides.
-use mathlib.Core.Path.{sym, ap, ◌∙◌}
+use mathlib.Core.Path.{ap, ◌∙◌}
 use mathlib.Core.Option.{some}
 use native.Mathlib.Omega.{arith}
 use Rattle.wire.specs.Message.{MESSAGE}
 use Rattle.wire_fields.specs.Selected.{placed}
 use Rattle.std.proofs.lemmas.Result.{err_from_is_err_and}
 use Rattle.wire_fields.proofs.Answered.{was_some, was_none}
-use Rattle.wire_fields.proofs.Bases.{told_no_place, told_base, told_untyped, placed_message, message_stands, stands_inside}
+use Rattle.wire_fields.proofs.Bases.{told_no_place, told_base, told_untyped, placed_message, message_found, stands_inside}
 use Rattle.wire_message.proofs.Records.{not_typed, other_type, no_message, message_read}
 use Rattle.wire_message.proofs.message.read_message.Goals as goal
 
@@ -39,17 +39,17 @@ returns-in_err-place c =
 
 pub slice_bounds-fill_record-count : goal.slice_bounds-fill_record-count
 slice_bounds-fill_record-count c =
-    let s = stands_inside (message_stands _ _ _ (was_some _ _ c.in_ok-base.ensures.value ∙ c.read_base.ensures) (omega (arith, c.if-base-ne-MESSAGE.false)) (sym (was_some _ _ c.in_ok-place.ensures.value))) in
+    let s = stands_inside (message_found _ _ _ c.in_ok-base.ensures.value c.read_base.ensures (omega (arith, c.if-base-ne-MESSAGE.false)) c.in_ok-place.ensures.value) in
     omega (arith, s.0, s.1)
 
 pub slice_bounds-fill_record-start : goal.slice_bounds-fill_record-start
 slice_bounds-fill_record-start c =
-    let s = stands_inside (message_stands _ _ _ (was_some _ _ c.in_ok-base.ensures.value ∙ c.read_base.ensures) (omega (arith, c.if-base-ne-MESSAGE.false)) (sym (was_some _ _ c.in_ok-place.ensures.value))) in
+    let s = stands_inside (message_found _ _ _ c.in_ok-base.ensures.value c.read_base.ensures (omega (arith, c.if-base-ne-MESSAGE.false)) c.in_ok-place.ensures.value) in
     omega (arith, s.0, s.1)
 
 pub slice_bounds-fill_record-end : goal.slice_bounds-fill_record-end
 slice_bounds-fill_record-end c =
-    let s = stands_inside (message_stands _ _ _ (was_some _ _ c.in_ok-base.ensures.value ∙ c.read_base.ensures) (omega (arith, c.if-base-ne-MESSAGE.false)) (sym (was_some _ _ c.in_ok-place.ensures.value))) in
+    let s = stands_inside (message_found _ _ _ c.in_ok-base.ensures.value c.read_base.ensures (omega (arith, c.if-base-ne-MESSAGE.false)) c.in_ok-place.ensures.value) in
     omega (arith, s.0, s.1)
 
 pub returns : goal.returns
@@ -57,7 +57,7 @@ returns c =
     let a = c.args in
     let k = c.if-base-ne-MESSAGE.false in
     let b = told_base a.bytes.now _ (was_some _ _ c.in_ok-base.ensures.value ∙ c.read_base.ensures) in
-    let s = rw k at (message_stands _ _ _ (was_some _ _ c.in_ok-base.ensures.value ∙ c.read_base.ensures) (omega (arith, k)) (sym (was_some _ _ c.in_ok-place.ensures.value))) in
+    let s = rw k at (message_found _ _ _ c.in_ok-base.ensures.value c.read_base.ensures (omega (arith, k)) c.in_ok-place.ensures.value) in
     let r = c.fill_record.ensures in
     let d = message_read a.bytes.now a.record.now (b.0 ∙ ap some k) s.is (rw (s.starts, s.ends) (record { answer = r.answer; written = r.words })) in
     record { answer = d.answer; words = d.written }
