@@ -11,4 +11,4 @@ pub returns : goal.returns
 returns c =
     let a = c.args in
     let s = decode a.store.now in
-    c.permitted.ensures ∙ ap (λ (n : ℕ). min (a.permits - zero_permits) n) c.waiting_for.ensures ∙ waits_permitted s (consumer_nth s a.i) a.permits
+    c.permitted.ensures ∙ ap (λ (n : ℕ). min (a.reader.permits - zero_permits) n) c.waiting_for.ensures ∙ waits_permitted s (consumer_nth s a.reader.i) a.reader.permits
