@@ -7,7 +7,7 @@ use Prim.Native.Nat.{ℕ, zero, suc, ◌+◌, ◌-◌, ◌*◌, ◌≤◌, ◌<�
 use native.Mathlib.Nat.{min-le_left, min-le_right}
 use native.Mathlib.Omega.{arith}
 use lib.Dec.{ltb}
-use lib.ListN.{length, get_or, take, drop, length-append, drop_of_length-le}
+use lib.ListN.{length, get_or, drop, length-append, drop_of_length-le}
 use lib.Seq.{drop-cons, drop-nil}
 use borrow.Author.Tests.{lt-ltb, le-ltb, ltb-true, ltb-false}
 use Rattle.words.specs.Act.{lay}
@@ -19,7 +19,8 @@ use Rattle.rules.specs.Commands.{with_permits, with_reading}
 use Rattle.rules.specs.Outcome.{Dispatch}
 use Rattle.rules.specs.Push.{flat}
 use Rattle.rules.proofs.Table.{by_test}
-use Rattle.push_laws.specs.Plain.{plain_due, next_position, taken_next, after_one, plain_record, plain_records, after_entries, ledger_for, plain_served, all_plain_records}
+use Rattle.push_laws.specs.Plain.{plain_due, next_position, taken_next, after_one, plain_record, plain_records, after_entries, ledger_for, plain_served}
+use Rattle.push_laws.specs.Plain.{all_plain_records}
 use Rattle.record.specs.Flat.{filled}
 use Rattle.record.proofs.Filled.{rest, handed_back, laid_rest}
 use Rattle.operation_laws.proofs.Frame.{every_nth}
@@ -136,7 +137,8 @@ module _ (g : List StoredMessage) (c : Consumer) (n : ℕ) (first : List ℕ) wh
   pub filling_on : (list : List ℕ) (j : ℕ) {written : List ℕ} → Filling j list → j < n → j * 13 ≤ length list
       → written ≡ (lay (flat (entry_record g c j))).run 0 (rest (j * 13) list) → Filling (j + 1) (handed_back (j * 13) list written)
   filling_on list j f h room w =
-      ap (λ (l : List ℕ). filled l (j + 1) (plain_records g (after_entries c (j + 1)) (n - (j + 1)))) (laid_rest (flat (entry_record g c j)) (j * 13) list room w)
+      ap (λ (l : List ℕ). filled l (j + 1) (plain_records g (after_entries c (j + 1)) (n - (j + 1))))
+      (laid_rest (flat (entry_record g c j)) (j * 13) list room w)
       ∙ sym (fill_turn list j h)
       ∙ f
 
@@ -230,7 +232,8 @@ position_inside g c j n a b h k =
 -- the records of the consumers from i on: those of consumer i, then of the others
 pub all_turn : (s : State) (l : List Consumer) (i : ℕ) (z : Consumer) → i < length l
     → all_plain_records s (drop i l)
-    ≡ plain_records (ledger_for s (get_or l i z)) (get_or l i z) (plain_due (ledger_for s (get_or l i z)) (get_or l i z)) ++ all_plain_records s (drop (i + 1) l)
+    ≡ plain_records (ledger_for s (get_or l i z)) (get_or l i z) (plain_due (ledger_for s (get_or l i z)) (get_or l i z)) ++ all_plain_records s
+    (drop (i + 1) l)
 unfolding all_plain_records
 all_turn s l i z h = let on : i + 1 ≡ suc i = omega arith in rw (on, drop-cons l i z h)
 
@@ -239,5 +242,7 @@ pub all_turn_length : (s : State) (l : List Consumer) (i : ℕ) (z : Consumer) �
     → length (all_plain_records s (drop i l)) ≡ plain_due (ledger_for s (get_or l i z)) (get_or l i z) + length (all_plain_records s (drop (i + 1) l))
 all_turn_length s l i z h =
     ap (λ (r : List Dispatch). length r) (all_turn s l i z h)
-    ∙ length-append (plain_records (ledger_for s (get_or l i z)) (get_or l i z) (plain_due (ledger_for s (get_or l i z)) (get_or l i z))) (all_plain_records s (drop (i + 1) l))
-    ∙ ap (λ (n : ℕ). n + length (all_plain_records s (drop (i + 1) l))) (length_records (ledger_for s (get_or l i z)) (get_or l i z) (plain_due (ledger_for s (get_or l i z)) (get_or l i z)))
+    ∙ length-append (plain_records (ledger_for s (get_or l i z)) (get_or l i z) (plain_due (ledger_for s (get_or l i z)) (get_or l i z)))
+    (all_plain_records s (drop (i + 1) l))
+    ∙ ap (λ (n : ℕ). n + length (all_plain_records s (drop (i + 1) l)))
+    (length_records (ledger_for s (get_or l i z)) (get_or l i z) (plain_due (ledger_for s (get_or l i z)) (get_or l i z)))

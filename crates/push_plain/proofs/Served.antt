@@ -154,12 +154,13 @@ module _ {e : ℕ} {ws₀ ps list₀ ws list : List ℕ} {at i : ℕ} (h : Canon
         record {
           here = there;
           readable = subst (λ (c : Consumer). ReadableConsumer (decode ws) c) (sym nth_now)
-        (readable_by (decode ws₀) (decode ws) (consumer_nth (decode ws₀) i) (ledger_now (consumer_nth (decode ws₀) i))
-        (every_nth {P = ReadableConsumer (decode ws₀)} (decode ws₀).consumers i zero_consumer r.each l));
+              (readable_by (decode ws₀) (decode ws) (consumer_nth (decode ws₀) i) (ledger_now (consumer_nth (decode ws₀) i))
+              (every_nth {P = ReadableConsumer (decode ws₀)} (decode ws₀).consumers i zero_consumer r.each l));
         }
 
     -- what it is due
-    due_now : plain_due (ledger_for (decode ws) (consumer_nth (decode ws) i)) (with_permits (consumer_nth (decode ws) i) (get_or ps i 0)) ≡ due_of (decode ws₀) ps i
+    due_now : plain_due (ledger_for (decode ws) (consumer_nth (decode ws) i)) (with_permits (consumer_nth (decode ws) i) (get_or ps i 0))
+        ≡ due_of (decode ws₀) ps i
     due_now =
         ap (λ (c : Consumer). plain_due (ledger_for (decode ws) c) (with_permits c (get_or ps i 0))) nth_now
         ∙ ap (λ (k : List StoredMessage). plain_due k (with_permits (consumer_nth (decode ws₀) i) (get_or ps i 0))) (ledger_now (consumer_nth (decode ws₀) i))
@@ -169,39 +170,48 @@ module _ {e : ℕ} {ws₀ ps list₀ ws list : List ℕ} {at i : ℕ} (h : Canon
         → (at + plain_due (ledger_for (decode ws) (consumer_nth (decode ws) i)) (with_permits (consumer_nth (decode ws) i) (get_or ps i 0))) * 13 ≤ length list
     going_whole r =
         rw (due_now, g.long)
-        (room_left at (due_of (decode ws₀) ps i) (length (all_plain_records (decode ws₀) (drop (i + 1) (with_each (decode ws₀).consumers ps)))) g.count (due_turn (decode ws₀) ps i l) r)
+        (room_left at (due_of (decode ws₀) ps i)
+        (length (all_plain_records (decode ws₀) (drop (i + 1) (with_each (decode ws₀).consumers ps)))) g.count (due_turn (decode ws₀) ps i l) r)
 
     -- so the rest behind those before it has room for its own
     pub going_room : length (all_plain_records (decode ws₀) (with_each (decode ws₀).consumers ps)) * 13 ≤ length list₀
-        → plain_due (ledger_for (decode ws) (consumer_nth (decode ws) i)) (with_permits (consumer_nth (decode ws) i) (get_or ps i 0)) * 13 ≤ length (behind (at * 13) list)
+        → plain_due (ledger_for (decode ws) (consumer_nth (decode ws) i)) (with_permits (consumer_nth (decode ws) i) (get_or ps i 0)) * 13 ≤ length
+        (behind (at * 13) list)
     going_room r = let a = going_whole r in rw (take_rest list (at * 13), length-drop (at * 13) list) (omega arith)
 
     -- ---- after consumer i
 
     -- the state with it served
-    until_on : set_consumer (served_until (decode ws₀) ps i) i (plain_served (served_until (decode ws₀) ps i) (with_permits (consumer_nth (served_until (decode ws₀) ps i) i) (get_or ps i 0)))
+    until_on : set_consumer (served_until (decode ws₀) ps i) i
+        (plain_served (served_until (decode ws₀) ps i) (with_permits (consumer_nth (served_until (decode ws₀) ps i) i) (get_or ps i 0)))
         ≡ served_until (decode ws₀) ps (i + 1)
     until_on =
-        ap (λ (c : Consumer). set_consumer (served_until (decode ws₀) ps i) i (plain_served (served_until (decode ws₀) ps i) (with_permits c (get_or ps i 0)))) (until_nth (decode ws₀) ps i l)
-        ∙ ap (λ (c : Consumer). set_consumer (served_until (decode ws₀) ps i) i c) (until_served (decode ws₀) ps i (with_permits (consumer_nth (decode ws₀) i) (get_or ps i 0)))
+        ap (λ (c : Consumer). set_consumer (served_until (decode ws₀) ps i) i
+        (plain_served (served_until (decode ws₀) ps i) (with_permits c (get_or ps i 0)))) (until_nth (decode ws₀) ps i l)
+        ∙ ap (λ (c : Consumer). set_consumer (served_until (decode ws₀) ps i) i c)
+        (until_served (decode ws₀) ps i (with_permits (consumer_nth (decode ws₀) i) (get_or ps i 0)))
         ∙ until_set (decode ws₀) ps i l
 
     shaped_on : Shaped (served_until (decode ws₀) ps (i + 1))
     shaped_on =
         subst Shaped (until_set (decode ws₀) ps i l)
-        (shaped_set_consumer (served_until (decode ws₀) ps i) g.shaped i (plain_served (decode ws₀) (with_permits (consumer_nth (decode ws₀) i) (get_or ps i 0)))
-        (served_shaped (decode ws₀) (with_permits (consumer_nth (decode ws₀) i) (get_or ps i 0)) (shaped_permits (consumer_nth (decode ws₀) i) (get_or ps i 0) (nacked_short h i l))))
+        (shaped_set_consumer (served_until (decode ws₀) ps i) g.shaped i
+        (plain_served (decode ws₀) (with_permits (consumer_nth (decode ws₀) i) (get_or ps i 0)))
+        (served_shaped (decode ws₀) (with_permits (consumer_nth (decode ws₀) i) (get_or ps i 0))
+        (shaped_permits (consumer_nth (decode ws₀) i) (get_or ps i 0) (nacked_short h i l))))
 
     words_on : {vs : List ℕ} → vs ≡ put ws (set_consumer (decode ws) i (plain_served (decode ws) (with_permits (consumer_nth (decode ws) i) (get_or ps i 0))))
         → vs ≡ put ws₀ (served_until (decode ws₀) ps (i + 1))
     unfolding set_consumer with_consumers
     words_on w =
-        then_write ws₀ (served_until (decode ws₀) ps i) (λ (x : State). set_consumer x i (plain_served x (with_permits (consumer_nth x i) (get_or ps i 0)))) g.shaped refl g.words w
+        then_write ws₀ (served_until (decode ws₀) ps i)
+        (λ (x : State). set_consumer x i (plain_served x (with_permits (consumer_nth x i) (get_or ps i 0)))) g.shaped refl g.words w
         ∙ ap (put ws₀) until_on
 
     -- its records
     abbrev here : List Dispatch
-    here = plain_records (ledger_for (decode ws₀) (consumer_nth (decode ws₀) i)) (with_permits (consumer_nth (decode ws₀) i) (get_or ps i 0)) (due_of (decode ws₀) ps i)
+    here = plain_records (ledger_for (decode ws₀) (consumer_nth (decode ws₀) i)) (with_permits (consumer_nth (decode ws₀) i) (get_or ps i 0))
+        (due_of (decode ws₀) ps i)
 
     -- those of the consumers after it
     abbrev rest : List Dispatch
@@ -210,14 +220,17 @@ module _ {e : ℕ} {ws₀ ps list₀ ws list : List ℕ} {at i : ℕ} (h : Canon
     records_here : plain_records (ledger_for (decode ws) (consumer_nth (decode ws) i)) (with_permits (consumer_nth (decode ws) i) (get_or ps i 0))
         (plain_due (ledger_for (decode ws) (consumer_nth (decode ws) i)) (with_permits (consumer_nth (decode ws) i) (get_or ps i 0))) ≡ here
     records_here =
-        ap (λ (c : Consumer). plain_records (ledger_for (decode ws) c) (with_permits c (get_or ps i 0)) (plain_due (ledger_for (decode ws) c) (with_permits c (get_or ps i 0)))) nth_now
-        ∙ ap (λ (k : List StoredMessage). plain_records k (with_permits (consumer_nth (decode ws₀) i) (get_or ps i 0)) (plain_due k (with_permits (consumer_nth (decode ws₀) i) (get_or ps i 0)))) (ledger_now (consumer_nth (decode ws₀) i))
+        ap (λ (c : Consumer). plain_records (ledger_for (decode ws) c) (with_permits c (get_or ps i 0))
+        (plain_due (ledger_for (decode ws) c) (with_permits c (get_or ps i 0)))) nth_now
+        ∙ ap (λ (k : List StoredMessage). plain_records k (with_permits (consumer_nth (decode ws₀) i) (get_or ps i 0))
+        (plain_due k (with_permits (consumer_nth (decode ws₀) i) (get_or ps i 0)))) (ledger_now (consumer_nth (decode ws₀) i))
 
     records_on : {us : List ℕ} {r : ℕ} → r ≡ at + due_of (decode ws₀) ps i → us ≡ filled list at here
         → filled us r rest ≡ filled list₀ 0 (all_plain_records (decode ws₀) (with_each (decode ws₀).consumers ps))
     records_on a b =
         let n : at + due_of (decode ws₀) ps i ≡ at + length here =
-        ap (λ (k : ℕ). at + k) (sym (length_records (ledger_for (decode ws₀) (consumer_nth (decode ws₀) i)) (with_permits (consumer_nth (decode ws₀) i) (get_or ps i 0)) (due_of (decode ws₀) ps i))) in
+        ap (λ (k : ℕ). at + k) (sym (length_records (ledger_for (decode ws₀) (consumer_nth (decode ws₀) i))
+        (with_permits (consumer_nth (decode ws₀) i) (get_or ps i 0)) (due_of (decode ws₀) ps i))) in
         ap₂ (λ (k : List ℕ) (j : ℕ). filled k j rest) b (a ∙ n)
         ∙ sym (filled_append list at here rest)
         ∙ ap (filled list at) (sym (records_turn (decode ws₀) ps i l))
@@ -226,7 +239,8 @@ module _ {e : ℕ} {ws₀ ps list₀ ws list : List ℕ} {at i : ℕ} (h : Canon
     pub going_on : {vs us : List ℕ} {r : ℕ} → length (all_plain_records (decode ws₀) (with_each (decode ws₀).consumers ps)) * 13 ≤ length list₀
         → r ≡ plain_due (ledger_for (decode ws) (consumer_nth (decode ws) i)) (with_permits (consumer_nth (decode ws) i) (get_or ps i 0))
         → vs ≡ put ws (set_consumer (decode ws) i (plain_served (decode ws) (with_permits (consumer_nth (decode ws) i) (get_or ps i 0))))
-        → us ≡ filled (behind (at * 13) list) 0 (plain_records (ledger_for (decode ws) (consumer_nth (decode ws) i)) (with_permits (consumer_nth (decode ws) i) (get_or ps i 0))
+        → us ≡ filled (behind (at * 13) list) 0
+        (plain_records (ledger_for (decode ws) (consumer_nth (decode ws) i)) (with_permits (consumer_nth (decode ws) i) (get_or ps i 0))
         (plain_due (ledger_for (decode ws) (consumer_nth (decode ws) i)) (with_permits (consumer_nth (decode ws) i) (get_or ps i 0))))
         → Going ws₀ ps list₀ vs (handed_back (at * 13) list us) (at + r) (i + 1)
     going_on {us = us} {r = r} room a b d =

@@ -17,7 +17,7 @@ use Rattle.store.specs.Find.{slot}
 use Rattle.topic.proofs.Ledgers.{ledger_at, ledger_none}
 use Rattle.topic.proofs.LedgerWords.{ledger_fits}
 use Rattle.push_laws.specs.Plain.{plain_due, ledger_for}
-use Rattle.push_plain.specs.Reading.{position_at, ReadableConsumer, ReadableIn, SendableTo}
+use Rattle.push_plain.specs.Reading.{position_at, ReadableIn, SendableTo}
 use Rattle.push_plain.specs.declared.reader.Reader as readers
 use Rattle.push_plain.proofs.Entries.{charged_waiting, charged_permitted, position_inside}
 
@@ -36,7 +36,8 @@ module _ {e : ℕ} {ws : List ℕ} (i : ℕ) (h : ReadableIn e ws i) where
       omega arith
 
   -- few entries wait for it
-  pub waiting_few : length (consumer_nth (decode ws) i).nacked + (length (ledger_for (decode ws) (consumer_nth (decode ws) i)) - (consumer_nth (decode ws) i).cursor) ≤ 4160
+  pub waiting_few : length (consumer_nth (decode ws) i).nacked +
+      (length (ledger_for (decode ws) (consumer_nth (decode ws) i)) - (consumer_nth (decode ws) i).cursor) ≤ 4160
   waiting_few =
       let g = ledger_fits h.here.canon (consumer_nth (decode ws) i).pair.topic in
       let m = h.here.canon.E_to in

@@ -63,8 +63,11 @@ drop_min n l =
 pub read_on_done : {e : ℕ} {ws us vs : List ℕ} (i from taken n : ℕ) → ConsumerIn e ws i → from ≡ (consumer_nth (decode ws) i).cursor
     → taken ≡ min n (length (consumer_nth (decode ws) i).nacked)
     → us ≡ put ws (set_consumer (decode ws) i (with_reading (consumer_nth (decode ws) i) (from + (n - taken)) (consumer_nth (decode ws) i).nacked))
-    → vs ≡ put us (set_consumer (decode us) i (with_reading (consumer_nth (decode us) i) (consumer_nth (decode us) i).cursor (drop taken (consumer_nth (decode us) i).nacked)))
-    → vs ≡ put ws (set_consumer (decode ws) i (with_reading (consumer_nth (decode ws) i) ((consumer_nth (decode ws) i).cursor + (n - length (consumer_nth (decode ws) i).nacked)) (drop n (consumer_nth (decode ws) i).nacked)))
+    → vs ≡ put us (set_consumer (decode us) i
+    (with_reading (consumer_nth (decode us) i) (consumer_nth (decode us) i).cursor (drop taken (consumer_nth (decode us) i).nacked)))
+    → vs ≡ put ws (set_consumer (decode ws) i
+    (with_reading (consumer_nth (decode ws) i) ((consumer_nth (decode ws) i).cursor + (n - length (consumer_nth (decode ws) i).nacked))
+    (drop n (consumer_nth (decode ws) i).nacked)))
 unfolding with_reading
 read_on_done {ws = ws} i from taken n h f t w v =
     let c : Consumer = consumer_nth (decode ws) i in
@@ -110,7 +113,9 @@ module _ {e : ℕ} {ws us : List ℕ} (i p : ℕ) (h : ConsumerIn e ws i)
 
 pub take_done : {e : ℕ} {ws us vs : List ℕ} (i p n : ℕ) → ConsumerIn e ws i
     → us ≡ put ws (set_consumer (decode ws) i (with_permits (consumer_nth (decode ws) i) (p - n)))
-    → vs ≡ put us (set_consumer (decode us) i (with_reading (consumer_nth (decode us) i) ((consumer_nth (decode us) i).cursor + (n - length (consumer_nth (decode us) i).nacked)) (drop n (consumer_nth (decode us) i).nacked)))
+    → vs ≡ put us (set_consumer (decode us) i
+    (with_reading (consumer_nth (decode us) i) ((consumer_nth (decode us) i).cursor + (n - length (consumer_nth (decode us) i).nacked))
+    (drop n (consumer_nth (decode us) i).nacked)))
     → vs ≡ put ws (set_consumer (decode ws) i (entries_taken (with_permits (consumer_nth (decode ws) i) p) n))
 unfolding with_permits with_reading entries_taken
 take_done {ws = ws} i p n h w v =

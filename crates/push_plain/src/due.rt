@@ -57,6 +57,13 @@ pub fn due_plain(store: &[u64], e: usize, permits: &[u64]) -> usize
     ensures { result ≡ length (plain_records_now store.now permits.now) }
 {
     added_up(permits.len(), |i| {
-        plain_due(store, Reader { e, i, permits: permits[i] })
+        plain_due(
+            store,
+            Reader {
+                e,
+                i,
+                permits: permits[i],
+            },
+        )
     })
 }

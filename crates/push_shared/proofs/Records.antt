@@ -2,7 +2,7 @@
 use mathlib.Core.Path.{◌≡◌, sym, ap, ap₂, ◌∙◌}
 use mathlib.Core.Bool.{cond}
 use mathlib.Core.List.{List, [], ◌∷◌, ◌++◌}
-use Prim.Native.Nat.{ℕ, ◌+◌, ◌-◌, ◌*◌, ◌%◌, ◌^◌, ◌≤◌, ◌<◌}
+use Prim.Native.Nat.{ℕ, ◌+◌, ◌-◌, ◌%◌, ◌^◌, ◌≤◌, ◌<◌}
 use native.Mathlib.Omega.{arith}
 use lib.ListN.{get_or}
 use Rattle.bits.specs.Bits.{bits_empty, word_count}
@@ -53,7 +53,8 @@ module _ {p : places.Served} {ws : List ℕ} (h : ServedHere p ws) (k : ℕ) (wi
   unfolding message_at
   batch_read =
       let l = h.ledger_length in
-      let b : (get_or (ledger_under (decode ws) p.d) k no_message).batch_size ≤ 256 = every_nth (ledger_under (decode ws) p.d) k no_message h.batches (omega arith) in
+      let b : (get_or (ledger_under (decode ws) p.d) k no_message).batch_size ≤ 256 =
+      every_nth (ledger_under (decode ws) p.d) k no_message h.batches (omega arith) in
       let s : m.batch_size ≡ (get_or (ledger_under (decode ws) p.d) k no_message).batch_size = ap (λ (x : StoredMessage). x.batch_size) message_here in
       omega arith
 
@@ -78,7 +79,8 @@ module _ {p : places.Served} {ws : List ℕ} (h : ServedHere p ws) (k : ℕ) (wi
       record_flat _ x.permits t
       (rw s
       (ap₂ {A = StoredMessage} {B = Mark} {C = Dispatch} (λ a b. recorded id a b (step_of x)) message_here r
-      ∙ ap (λ (j : ℕ). recorded id (message_at (ledger_under (decode ws) p.d) j) (get_or (dispatcher_nth (decode ws) p.d).marks j new_mark) (step_of x)) (sym q)))
+      ∙ ap (λ (j : ℕ). recorded id (message_at (ledger_under (decode ws) p.d) j) (get_or (dispatcher_nth (decode ws) p.d).marks j new_mark)
+      (step_of x)) (sym q)))
 
 -- one record written
 pub one_filled : {us l : List ℕ} (list : List ℕ) (x : Dispatch) → us ≡ (lay l).run 0 list → l ≡ flat x → us ≡ filled list 0 (x ∷ [])
@@ -92,7 +94,10 @@ record_found s f id x e = ap (λ (i : ℕ). record_to i f x) e
 
 -- its entry in flight
 pub flight_found : {us : List ℕ} (ws : List ℕ) (s : State) (d id : ℕ) (x : Step) → id ≡ (consumer_nth s x.consumer).id
-    → us ≡ put ws (set_dispatcher s d (with_places (dispatcher_nth s d) (dispatcher_nth s d).redelivery ((dispatcher_nth s d).in_flight ++ held id x.position ∷ [])))
+    → us ≡ put ws (set_dispatcher s d
+    (with_places (dispatcher_nth s d) (dispatcher_nth s d).redelivery ((dispatcher_nth s d).in_flight ++ held id x.position ∷ [])))
     → us ≡ put ws (set_dispatcher s d (with_places (dispatcher_nth s d) (dispatcher_nth s d).redelivery ((dispatcher_nth s d).in_flight ++ held_of s x ∷ [])))
 unfolding held_of
-flight_found ws s d id x e w = w ∙ ap (λ (i : ℕ). put ws (set_dispatcher s d (with_places (dispatcher_nth s d) (dispatcher_nth s d).redelivery ((dispatcher_nth s d).in_flight ++ held i x.position ∷ [])))) e
+flight_found ws s d id x e w = w
+    ∙ ap (λ (i : ℕ). put ws (set_dispatcher s d
+    (with_places (dispatcher_nth s d) (dispatcher_nth s d).redelivery ((dispatcher_nth s d).in_flight ++ held i x.position ∷ [])))) e

@@ -59,10 +59,13 @@ pub record Sharing (e : ℕ) (ws ps ls us qs ks : List ℕ) (d m : ℕ) : Type 0
   pub looked : d ≤ length (decode ws).dispatchers
   pub words : us ≡ put ws (with_dispatchers (decode ws) (done ++ drop d (decode ws).dispatchers))
   pub fit : All (ShapedDispatcher (decode ws).entries) (done ++ drop d (decode ws).dispatchers)
-  pub whole : done ++ map (served_dispatcher (decode ws)) (services_from (decode ws) d qs) ≡ map (served_dispatcher (decode ws)) (services (decode ws) (decode ws).dispatchers ps)
+  pub whole : done ++ map (served_dispatcher (decode ws)) (services_from (decode ws) d qs)
+      ≡ map (served_dispatcher (decode ws)) (services (decode ws) (decode ws).dispatchers ps)
   pub ends : permits_left qs (services_from (decode ws) d qs) ≡ permits_left ps (services (decode ws) (decode ws).dispatchers ps)
-  pub records : filled ks m (all_service_records (decode ws) (services_from (decode ws) d qs)) ≡ filled ls 0 (all_service_records (decode ws) (services (decode ws) (decode ws).dispatchers ps))
-  pub count : m + length (all_service_records (decode ws) (services_from (decode ws) d qs)) ≡ length (all_service_records (decode ws) (services (decode ws) (decode ws).dispatchers ps))
+  pub records : filled ks m (all_service_records (decode ws) (services_from (decode ws) d qs))
+      ≡ filled ls 0 (all_service_records (decode ws) (services (decode ws) (decode ws).dispatchers ps))
+  pub count : m + length (all_service_records (decode ws) (services_from (decode ws) d qs))
+      ≡ length (all_service_records (decode ws) (services (decode ws) (decode ws).dispatchers ps))
   pub sized : length qs ≡ length (decode ws).consumers
   pub as_long : length ks ≡ length ls
 
@@ -179,7 +182,8 @@ module _ {e : ℕ} (ws : List ℕ) (spelt : spells ws ≡ true) (E : e ≡ (deco
       counted =
           ap (λ (r : List Service). length (all_service_records s r)) (services_step s qs d l)
           ∙ length-append (service_records s v) (all_service_records s (services_from s (suc d) v.steps.after.permits))
-          ∙ ap (λ (n : ℕ). n + length (all_service_records s (services_from s (suc d) v.steps.after.permits))) (length-map (served s x qs).made (record_of s (fixed_of s x)))
+          ∙ ap (λ (n : ℕ). n + length (all_service_records s (services_from s (suc d) v.steps.after.permits)))
+          (length-map (served s x qs).made (record_of s (fixed_of s x)))
 
       -- the list has room for the records up to its own
       pub room_whole : length (all_service_records s (services s ds ps)) * 13 ≤ length ls

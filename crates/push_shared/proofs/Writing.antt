@@ -84,7 +84,8 @@ module _ {p : places.Served} {ws : List ℕ} (v : ServedHere p ws) where
 
   -- ---- at first
 
-  pub writing_start : (ps ls : List ℕ) (h : moved.Numbers) → h ≡ numbers_from (head_of x) → x.next ≤ length (fixed ws d).ring → length ps ≡ length (decode ws).consumers
+  pub writing_start : (ps ls : List ℕ) (h : moved.Numbers) → h ≡ numbers_from (head_of x) → x.next ≤ length (fixed ws d).ring
+      → length ps ≡ length (decode ws).consumers
       → length x.in_flight + (length x.redelivery + (n - x.cursor)) ≤ e
       → Writing p ws ps ls ws ps ls h 0
   unfolding with_places local_from numbers_from head_of fixed_of
@@ -95,7 +96,12 @@ module _ {p : places.Served} {ws : List ℕ} (v : ServedHere p ws) where
       record {
         flight = x.in_flight;
         moved = moved_start v.here;
-        ranged = rw q (record { next_in = a; lists_in = (omega arith, rw (← v.ledger_length) v.cursor_in_ledger); queue_in = rw (← v.ledger_length) v.queue_in_ledger });
+        ranged = rw q (record {
+          next_in = a;
+          lists_in = (omega arith, rw (← v.ledger_length) v.cursor_in_ledger);
+          queue_in =
+              rw (← v.ledger_length) v.queue_in_ledger;
+        });
         sized = b;
         after_same = ap (λ (r : Steps). r.after) whole_rest;
         flight_same = ap (λ (r : Steps). x.in_flight ++ holds ws r.made) whole_rest;
@@ -177,7 +183,9 @@ module _ {p : places.Served} {ws : List ℕ} (v : ServedHere p ws) where
 
       -- it is written
       pub writing_on : {vs ns : List ℕ}
-          → vs ≡ put us (set_dispatcher (decode us) d (with_places (dispatcher_nth (decode us) d) (dispatcher_nth (decode us) d).redelivery ((dispatcher_nth (decode us) d).in_flight ++ held_of (decode us) z ∷ [])))
+          → vs ≡ put us (set_dispatcher (decode us) d
+          (with_places (dispatcher_nth (decode us) d) (dispatcher_nth (decode us) d).redelivery
+          ((dispatcher_nth (decode us) d).in_flight ++ held_of (decode us) z ∷ [])))
           → ns ≡ filled ks m (record_of (decode us) (fixed us d) z ∷ [])
           → Writing p ws ps ls vs rs ns k (m + 1)
       unfolding with_places local_from filled
@@ -190,9 +198,18 @@ module _ {p : places.Served} {ws : List ℕ} (v : ServedHere p ws) where
           let some = w.room in
           let less = lower in
           let fits : ShapedDispatcher e (with_places x x.redelivery (w.flight ++ y ∷ [])) =
-          record { ring_fits = f.ring_fits; outside_fits = f.outside_fits; queue_fits = f.queue_fits; flight_fits = omega (arith, more, some, less); marks_fit = f.marks_fit } in
+          record {
+            ring_fits = f.ring_fits;
+            outside_fits = f.outside_fits;
+            queue_fits = f.queue_fits;
+            flight_fits =
+                omega (arith, more, some, less);
+            marks_fit = f.marks_fit;
+          } in
           let a' : vs ≡ put us (set_dispatcher (decode us) d (g (dispatcher_nth (decode us) d))) =
-          a ∙ ap (λ (q : Held). put us (set_dispatcher (decode us) d (with_places (dispatcher_nth (decode us) d) (dispatcher_nth (decode us) d).redelivery ((dispatcher_nth (decode us) d).in_flight ++ q ∷ [])))) (held_now w.flight v.here w.moved z) in
+          a ∙ ap (λ (q : Held). put us (set_dispatcher (decode us) d
+          (with_places (dispatcher_nth (decode us) d) (dispatcher_nth (decode us) d).redelivery
+          ((dispatcher_nth (decode us) d).in_flight ++ q ∷ [])))) (held_now w.flight v.here w.moved z) in
           let same : record_of (decode us) (fixed us d) z ≡ r =
           record_now w.flight v.here w.moved (fixed us d) z ∙ ap (λ (q : Fixed). record_of (decode ws) q z) fixed_same in
           let b' : ns ≡ (lay (flat r)).run (m * 13) ks = b ∙ ap (λ (q : Dispatch). (lay (flat q)).run (m * 13) ks) same in
@@ -282,9 +299,11 @@ module _ {p : places.Served} {ws : List ℕ} (v : ServedHere p ws) where
 -- ---- the end of a service
 
 module _ {e d : ℕ} {ws us : List ℕ} (k : moved.Numbers) (h : DispatcherIn e ws d)
-    (a : us ≡ put ws (set_dispatcher (decode ws) d (with_places (dispatcher_nth (decode ws) d) (drop k.taken (dispatcher_nth (decode ws) d).redelivery) (dispatcher_nth (decode ws) d).in_flight))) where
+    (a : us ≡ put ws (set_dispatcher (decode ws) d
+    (with_places (dispatcher_nth (decode ws) d) (drop k.taken (dispatcher_nth (decode ws) d).redelivery) (dispatcher_nth (decode ws) d).in_flight))) where
   -- the queue dropped
-  dropped : Moved e d ws us (with_places (dispatcher_nth (decode ws) d) (drop k.taken (dispatcher_nth (decode ws) d).redelivery) (dispatcher_nth (decode ws) d).in_flight)
+  dropped : Moved e d ws us (with_places (dispatcher_nth (decode ws) d) (drop k.taken (dispatcher_nth (decode ws) d).redelivery)
+      (dispatcher_nth (decode ws) d).in_flight)
   unfolding with_places
   dropped =
       let x = dispatcher_nth (decode ws) d in
@@ -312,7 +331,14 @@ module _ {e d : ℕ} {ws us : List ℕ} (k : moved.Numbers) (h : DispatcherIn e 
       let z : Dispatcher = with_places x (drop k.taken x.redelivery) x.in_flight in
       let g : ShapedDispatcher e z = rw (← dropped.now) f in
       (moved_on h dropped (λ p. with_head p (stored mark_delete))
-      (record { ring_fits = g.ring_fits; outside_fits = g.outside_fits; queue_fits = g.queue_fits; flight_fits = g.flight_fits; marks_fit = g.marks_fit }) b).words
+      (record {
+        ring_fits = g.ring_fits;
+        outside_fits = g.outside_fits;
+        queue_fits = g.queue_fits;
+        flight_fits = g.flight_fits;
+        marks_fit =
+            g.marks_fit;
+      }) b).words
       ∙ ap₂ {A = ℕ} {B = List Held} {C = List ℕ}
       (λ n i.
       put ws (set_dispatcher (decode ws) d

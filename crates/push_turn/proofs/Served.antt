@@ -23,7 +23,7 @@ use Rattle.operation_laws.proofs.Frame.{every_nth, valid_now, canon_of}
 use Rattle.dispatcher.specs.Values.{head_of}
 use Rattle.push_laws.specs.Local.{fixed_of, local_of, turns_of, local_turns, served}
 use Rattle.push_turn.specs.declared.service.Served as places
-use Rattle.push_turn.specs.Turns.{ServedHere, served_in, served_now, ledger_under, local_from, numbers_from}
+use Rattle.push_turn.specs.Turns.{ServedHere, served_in, served_now, local_from, numbers_from}
 use Rattle.push_turn.proofs.Left.{all_turns, made_few}
 
 module _ (s : State) (topic : ℕ) where
@@ -31,7 +31,8 @@ module _ (s : State) (topic : ℕ) where
   topic_exists : 0 < length (ledger_of s topic) → slot by_number topic s.topics < length s.topics
   topic_exists h =
       by_test (ltb (slot by_number topic s.topics) (length s.topics)) (λ t. ltb-true _ _ t)
-      (λ t. let n = ap (λ (l : List StoredMessage). length l) (ledger_none s topic (ltb-false (slot by_number topic s.topics) (length s.topics) t)) in absurd (omega arith))
+      (λ t. let n = ap (λ (l : List StoredMessage). length l)
+      (ledger_none s topic (ltb-false (slot by_number topic s.topics) (length s.topics) t)) in absurd (omega arith))
 
   -- the batches of a ledger are small
   batches_small : Every (ValidTopic s.entries) s.topics → Every (λ (m : StoredMessage). m.batch_size ≤ 256) (ledger_of s topic)
@@ -56,7 +57,8 @@ module _ {e d : ℕ} {ws : List ℕ} (here : DispatcherIn e ws d) (v : ValidDisp
         ledger_here = λ h. sym (ledger_at (decode ws) topic (topic_exists (decode ws) topic h));
         one_mark_each = omega arith;
         batches = batches_small (decode ws) topic topics;
-        queue_in_ledger = λ k i. let l = every_right (map (λ (h : Held). h.position) (dispatcher_nth (decode ws) d).in_flight) (dispatcher_nth (decode ws) d).redelivery v.places.places_below_cursor k i in omega arith;
+        queue_in_ledger = λ k i. let l = every_right (map (λ (h : Held). h.position) (dispatcher_nth (decode ws) d).in_flight)
+            (dispatcher_nth (decode ws) d).redelivery v.places.places_below_cursor k i in omega arith;
         cursor_in_ledger = omega arith;
       }
 
@@ -100,7 +102,8 @@ found_at s e d q = ap (λ (y : places.Served). y.d) q
 pub served_few : {x : places.Served} {ws : List ℕ} (permits : List ℕ) → ServedHere x ws → length (served_now ws x.d permits).made ≤ 8193
 unfolding served turns_of
 served_few {x} {ws} permits h =
-    let f = made_few (turns_of (decode ws) (dispatcher_nth (decode ws) x.d)) (fixed_of (decode ws) (dispatcher_nth (decode ws) x.d)) (local_of (dispatcher_nth (decode ws) x.d) permits) in
+    let f = made_few (turns_of (decode ws) (dispatcher_nth (decode ws) x.d)) (fixed_of (decode ws) (dispatcher_nth (decode ws) x.d))
+    (local_of (dispatcher_nth (decode ws) x.d) permits) in
     let q = h.here.lists_fit.queue_fits in
     let m = h.here.lists_fit.marks_fit in
     let o = h.one_mark_each in
@@ -129,5 +132,6 @@ module _ (s : State) (d : Dispatcher) (permits : List ℕ) where
   pub served_turns : served s d permits ≡ all_turns (fixed_of s d) (local_from permits (numbers_from (head_of d)))
   unfolding served turns_of local_from numbers_from head_of local_of fixed_of
   served_turns =
-      let n : suc (length d.redelivery + (length (ledger_of s d.pair.topic) - d.cursor)) ≡ suc (length d.redelivery - 0 + (length (ledger_of s d.pair.topic) - d.cursor)) = omega arith in
+      let n : suc (length d.redelivery + (length (ledger_of s d.pair.topic) - d.cursor))
+      ≡ suc (length d.redelivery - 0 + (length (ledger_of s d.pair.topic) - d.cursor)) = omega arith in
       ap (λ (k : ℕ). local_turns k (fixed_of s d) (local_of d permits)) n

@@ -1,5 +1,6 @@
 -- Records written one after the other: some and then others, the length that stays, and all of them from the start on.
-use Rattle.std.proofs.Common.{◌≡◌, ℕ, suc, ◌+◌, ◌-◌, ◌*◌, ◌%◌, ◌^◌, ◌≤◌, List, [], ◌∷◌, ◌++◌, length, take, drop, sym, refl, ap, ap₂, ◌∙◌, append_assoc, add-zero, arith}
+use Rattle.std.proofs.Common.{◌≡◌, ℕ, suc, ◌+◌, ◌-◌, ◌*◌, ◌%◌, ◌^◌, ◌≤◌, List, [], ◌∷◌, ◌++◌, length, take, drop, sym, refl, ap, ap₂, ◌∙◌, append_assoc}
+use Rattle.std.proofs.Common.{add-zero, arith}
 use Rattle.std.proofs.Common.{length-append, length-drop, take-append-drop, drop-drop}
 use mathlib.Core.List.{append-nil}
 use lib.ListN.{drop_of_length-le}
@@ -32,7 +33,8 @@ pub record_flat : (x : declared.Dispatch) (permits : ℕ) {d : Dispatch} → x.p
     → record_words x ≡ flat d
 unfolding record_words flat
 record_flat x permits e f =
-    ap (λ (p : ℕ). x.consumer ∷ x.ledger ∷ x.entry ∷ x.handle ∷ x.batch_size ∷ x.ack_set_words ∷ x.ack_set.w0 ∷ x.ack_set.w1 ∷ x.ack_set.w2 ∷ x.ack_set.w3 ∷ x.redelivery_count ∷ x.cost ∷ p ∷ []) e
+    ap (λ (p : ℕ). x.consumer ∷ x.ledger ∷ x.entry ∷ x.handle ∷ x.batch_size ∷ x.ack_set_words
+    ∷ x.ack_set.w0 ∷ x.ack_set.w1 ∷ x.ack_set.w2 ∷ x.ack_set.w3 ∷ x.redelivery_count ∷ x.cost ∷ p ∷ []) e
     ∙ ap flat f
 
 -- some records, then others

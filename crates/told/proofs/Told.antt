@@ -6,12 +6,7 @@ use Rattle.trace.specs.Calls.{PUSH}
 use Rattle.refusal.specs.Words.{valued, refusal_word, word_of}
 use Rattle.refusal.specs.declared.Refusal.{Refusal}
 use Rattle.refusal.specs.declared.Refusal.TheVariants.{NoState, BadEntries, StoreShort, NotLive, TopicsFull, EntriesFull, IdTaken, BadBatch, PermitsRange, BadList, IdsFull, ConsumersFull, DispatchersFull, RingFull, ListShort, NoCall, AnswersShort}
-use Rattle.told.specs.Told.{dispatches_told}
-
--- of a value
-value_number : (v : ℕ) → number_in (valued v) ≡ 0
-unfolding number_in
-value_number v = let m : ℕ = v % 2 ^ 56 in let e : m * 256 % 256 ≡ 0 = omega arith in e
+use Rattle.told.specs.Told.{made_told, dispatches_told}
 
 -- of a refusal
 refused_number : (r : Refusal) → refusal_word r % 256 ≡ 0 → ⊥
@@ -44,13 +39,13 @@ pub other_told : (kind word : ℕ) → (kind ≡ PUSH → ⊥) → 0 ≡ dispatc
 unfolding dispatches_told
 other_told kind word h = rw (ne_eqb kind PUSH h)
 
--- a push that is done tells its value
-pub done_told : {a : Result ℕ Refusal} {v : ℕ} (kind : ℕ) → a ≡ Ok v → kind ≡ PUSH → value_in (word_of a) ≡ dispatches_told kind (word_of a)
-unfolding dispatches_told
-done_told {v = v} kind is k = rw (is, eq-eqb kind PUSH k, value_number v)
+-- a push tells of those that its answer does
+pub push_told : (kind word : ℕ) → kind ≡ PUSH → made_told word ≡ dispatches_told kind word
+unfolding dispatches_told made_told
+push_told kind word h = rw (eq-eqb kind PUSH h)
 
 -- one that is refused tells of none
-pub refused_told : {a : Result ℕ Refusal} {r : Refusal} (kind : ℕ) → a ≡ Err r → 0 ≡ dispatches_told kind (word_of a)
+refused_told : {a : Result ℕ Refusal} {r : Refusal} (kind : ℕ) → a ≡ Err r → 0 ≡ dispatches_told kind (word_of a)
 unfolding dispatches_told
 refused_told {r = r} kind is = rw (is, refusal_number r) (go (eqb kind PUSH))
   where

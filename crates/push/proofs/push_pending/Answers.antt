@@ -17,7 +17,8 @@ use Rattle.record.specs.Flat.{filled}
 use Rattle.record.proofs.Filled.{filled_length}
 use Rattle.push_plain.specs.Reading.{all_served}
 use Rattle.push_turn.proofs.Zeros.{zeros_enough, zeros_lent, zeros_sized}
-use Rattle.push.proofs.Pushing.{due_small, consumers_few, length_permits, left, shared_records, all_counted, served_rows, canon_now, readable_on, permits_on, room_on, pushed_count, pushed_words, pushed_records}
+use Rattle.push.proofs.Pushing.{due_small, consumers_few, length_permits, left, shared_records, all_counted, served_rows, canon_now, readable_on}
+use Rattle.push.proofs.Pushing.{permits_on, room_on, pushed_count, pushed_words, pushed_records}
 use borrow.Author.Rules.{rules}
 use Rattle.push.proofs.push_pending.Goals as goal
 

@@ -1,6 +1,6 @@
 -- `push_plain::serve::serve_consumer` meets its contract: the records of what is due, then the consumer's words.
 use mathlib.Core.Path.{ap, ◌∙◌}
-use Prim.Native.Nat.{ℕ, ◌*◌}
+use Prim.Native.Nat.{ℕ}
 use Rattle.rules.specs.State.{Consumer}
 use Rattle.rules.specs.Commands.{with_permits}
 use Rattle.layout.specs.Layout.{decode, put}

@@ -1,6 +1,6 @@
 -- `push_plain::serve::serve_records` meets its contract: each entry joins the list.
 use mathlib.Core.Path.{◌≡◌}
-use Prim.Native.Nat.{◌+◌, ◌*◌, ◌≤◌, ◌<◌}
+use Prim.Native.Nat.{◌+◌, ◌*◌, ◌≤◌}
 use native.Mathlib.Omega.{arith}
 use lib.ListN.{length, length-drop}
 use Rattle.rules.specs.Commands.{with_permits}
@@ -35,7 +35,8 @@ loop-j-preserved c =
     let t = c.loop-j-test.true in
     let v = c.loop-j.auto.list in
     let room : j * 13 ≤ length c.loop-j.list = omega arith in
-    filling_on (ledger_for (decode c.args.store.now) x) (with_permits x r.permits) c.args.n c.args.list.now c.loop-j.list j c.loop-j.invariant t room c.send_entry.ensures
+    filling_on (ledger_for (decode c.args.store.now) x)
+    (with_permits x r.permits) c.args.n c.args.list.now c.loop-j.list j c.loop-j.invariant t room c.send_entry.ensures
 
 pub returns : goal.returns
 returns c =

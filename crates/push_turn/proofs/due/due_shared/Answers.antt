@@ -31,7 +31,8 @@ loop-d-preserved c =
     let a = c.args in
     let d = c.loop-d.d in
     let here : d < length (decode a.store.now).dispatchers = rw (← c.dispatcher_count-n.ensures) c.loop-d-test.true in
-    let small : c.due_of-count.result ≤ 8193 = rw c.due_of-count.ensures.count (served_small a.store.now d c.requires.0 here a.e c.requires.1 c.loop-d.permits) in
+    let small : c.due_of-count.result ≤ 8193 =
+    rw c.due_of-count.ensures.count (served_small a.store.now d c.requires.0 here a.e c.requires.1 c.loop-d.permits) in
     carried_on (decode a.store.now) a.permits.now c.loop-d.permits d c.loop-d.count c.loop-d.invariant
     c.due_of-count.new.permits c.due_of-count.result here c.due_of-count.ensures.count c.due_of-count.ensures.permits small
 

@@ -17,7 +17,8 @@ loop-served-init c =
     let n = ap (λ (m : List ℕ). length m) c.requires.1 in
     let p = c.requires.2 in
     let f : Fixed = fixed_of (decode a.store.now) (dispatcher_nth (decode a.store.now) a.served.d) in
-    rw (c.from-numbers.ensures, c.load_head.ensures) (since_start f (local_from a.permits.now (numbers_from (head_of (dispatcher_nth (decode a.store.now) a.served.d)))) (omega arith))
+    rw (c.from-numbers.ensures, c.load_head.ensures)
+    (since_start f (local_from a.permits.now (numbers_from (head_of (dispatcher_nth (decode a.store.now) a.served.d)))) (omega arith))
 
 pub take_turn-requires : goal.take_turn-requires
 unfolding local_from
