@@ -24,7 +24,7 @@ use Rattle.layout.proofs.FewDue.{few_due}
 use Rattle.operation_laws.proofs.Frame.{valid_now}
 use Rattle.rules.proofs.Answers.{flats_length}
 use Rattle.record.specs.declared.Dispatch as declared
-use Rattle.told.specs.Told.{made_told}
+use Rattle.told.specs.Told.{made_told as told}
 use Rattle.push_records.specs.Listed.{records_in, dispatched, room, listed}
 use Rattle.push_records.proofs.Reading.{read_made}
 
@@ -33,17 +33,17 @@ abbrev pub made : Outcome → ℕ
 made o = length (dispatched o)
 
 -- a number below 2 ^ 56 is told
-told_done : (n : ℕ) → n < 2 ^ 56 → made_told (n % 2 ^ 56 * 256) ≡ n
-unfolding made_told number_in value_in
+told_done : (n : ℕ) → n < 2 ^ 56 → told (n % 2 ^ 56 * 256) ≡ n
+unfolding told number_in value_in
 told_done n h =
     let whole : n % 2 ^ 56 ≡ n = mod-eq_of_lt h in
     let low : n * 256 % 256 ≡ 0 = omega arith in
     let high : n * 256 / 256 ≡ n = omega arith in
-    ap (λ (k : ℕ). made_told (k * 256)) whole ∙ rw (low, high)
+    ap (λ (k : ℕ). told (k * 256)) whole ∙ rw (low, high)
 
 -- with 15 none is
-told_short : (n : ℕ) → made_told (n % 2 ^ 56 * 256 + 15) ≡ 0
-unfolding made_told number_in
+told_short : (n : ℕ) → told (n % 2 ^ 56 * 256 + 15) ≡ 0
+unfolding told number_in
 told_short n =
     let m : ℕ = n % 2 ^ 56 in
     let low : (m * 256 + 15) % 256 ≡ 15 = omega arith in
@@ -51,7 +51,7 @@ told_short n =
 
 -- a push of a state, of which few are due: done within the room, or short
 record Pushing (r : ℕ) (o : Outcome) : Type 0 where
-  pub counted : made_told (answer_word o) ≡ made o
+  pub counted : told (answer_word o) ≡ made o
   pub within : made o ≤ r
 
 by_room : (r : ℕ) (l : List Dispatch) (s : State) → length l < 2 ^ 56 → (b : Bool) → leb (length l) r ≡ b
@@ -65,7 +65,7 @@ module _ (ws : List ℕ) (r : ℕ) where
   few spelt = omega (arith, few_due (decode ws) (valid_now ws spelt))
 
   by_words : (b : Bool) → spells ws ≡ b → Pushing r (cond b (rule (decode ws) (Push r)) (refused 1))
-  unfolding answer_word dispatched rule push made_told number_in value_in
+  unfolding answer_word dispatched rule push told number_in value_in
   by_words true h =
       let all : Pushed = push_pending (decode ws) in
       by_room r all.dispatched all.state (few h) (leb (length all.dispatched) r) refl
@@ -76,9 +76,9 @@ module _ (ws : List ℕ) (r : ℕ) where
   pushing = by_words (spells ws) refl
 
   -- the answer says how many dispatches were made
-  pub told_made : made_told (answer ws (Push r)) ≡ made (outcome ws (Push r))
+  pub made_told : told (answer ws (Push r)) ≡ made (outcome ws (Push r))
   unfolding answer
-  told_made = pushing.counted
+  made_told = pushing.counted
 
   -- they are at most as many as there is room for
   pub made_within : made (outcome ws (Push r)) ≤ r
@@ -120,9 +120,9 @@ unfolding room
 room_records words records = omega arith
 
 -- the number that an answer tells: it fits into the records, and its words into the words
-module _ (ws ys : List ℕ) (m : ℕ) {a k : ℕ} (answered : a ≡ answer ws (Push (room (length ys) m))) (counted : k ≡ made_told a) where
+module _ (ws ys : List ℕ) (m : ℕ) {a k : ℕ} (answered : a ≡ answer ws (Push (room (length ys) m))) (counted : k ≡ told a) where
   pub made_is : k ≡ made (outcome ws (Push (room (length ys) m)))
-  made_is = counted ∙ ap (λ (z : ℕ). made_told z) answered ∙ told_made ws (room (length ys) m)
+  made_is = counted ∙ ap (λ (z : ℕ). told z) answered ∙ made_told ws (room (length ys) m)
 
   pub made_records : k ≤ m
   made_records = omega (arith, made_is, made_within ws (room (length ys) m), room_records (length ys) m)

@@ -97,6 +97,7 @@ pub fn take_turn(
         return None;
     }
     let place = choose(ring, permits, numbers.next)?;
-    numbers.next = place_after(place, ring.len());
+    let next = place_after(place, ring.len());
+    numbers.next = next;
     take_entry(store, served, permits, ring[place], numbers)
 }

@@ -42,5 +42,5 @@ returns c =
     let l = local_from a.permits.now a.numbers.now in
     let r = c.in_ok-place.place in
     c.take_entry.ensures
-    ∙ ap (λ (n : ℕ). take_entry f l n (get_or a.ring.now r 0)) c.place_after-numbers.ensures
+    ∙ ap (λ (n : ℕ). take_entry f l n (get_or a.ring.now r 0)) c.place_after-next.ensures
     ∙ at_place f l a.ring.now c.requires.1 r c.in_ok-place.ensures.place c.if-numbers-le-ZERO_PERMITS.false c.in_ok-place.ensures.within
