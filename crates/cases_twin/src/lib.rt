@@ -10,7 +10,7 @@ ghost use Rattle.cases_twin.specs.Twin.{written_back, told, pushed, lent_after, 
 
 use cases_line::word_or_zero;
 use push_records::listed::{Listed, push_listed};
-use record::{Dispatch, write_record};
+use record::{Dispatch, RECORD_WORDS, write_record};
 use told::{number_in, value_in};
 
 // Copies words to the whole of another slice, 0 past their end.
@@ -43,7 +43,7 @@ fn write_back(records: [Dispatch; 64], n: usize, list: &mut [u64])
     ensures { list.new ≡ written_back records n list.old }
 {
     for i in 0..n {
-        write_record(list, i, records[i]);
+        write_record(&mut list[i * RECORD_WORDS..], records[i]);
     }
 }
 

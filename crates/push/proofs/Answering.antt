@@ -35,7 +35,8 @@ module _ (ws : List ℕ) (spelt : spells ws ≡ true) (room : ℕ) where
 
   module _ (n r : ℕ) (counted : n ≡ length all.dispatched) (answered : r ≡ n % 2 ^ 56 * 256) where
     -- more is due than the list holds
-    pub answers_short : (list : List ℕ) → room < n → (r + 15 ≡ answer ws (Push room)) × (ws ≡ after ws (Push room)) × (list ≡ list_after list (outcome ws (Push room)))
+    pub answers_short : (list : List ℕ) → room < n
+        → (r + 15 ≡ answer ws (Push room)) × (ws ≡ after ws (Push room)) × (list ≡ list_after list (outcome ws (Push room)))
     unfolding answer after answer_word words_after made_words with_records list_after
     answers_short list h =
         let o : outcome ws (Push room) ≡ short (length all.dispatched) =

@@ -5,7 +5,8 @@ use mathlib.Core.List.{List, [], ◌∷◌, ◌++◌, map}
 use Prim.Native.Nat.{ℕ, zero, suc, ◌+◌, ◌*◌, ◌≤◌, ◌<◌}
 use native.Mathlib.Nat.{le_of_suc-le-suc, not-suc-le-zero}
 use native.Mathlib.Omega.{arith}
-use lib.ListN.{length, get_or, length-append, length-map}
+use lib.ListN.{length, get_or, length-append, length-drop, length-map}
+use Rattle.std.proofs.lemmas.List.{take_rest}
 use Rattle.words.specs.Codec.{All}
 use Rattle.rules.specs.State.{Consumer, Dispatcher, State, with_consumers, with_dispatchers}
 use Rattle.rules.specs.Outcome.{Dispatch}
@@ -22,7 +23,7 @@ use Rattle.push_laws.specs.Plain.{plain_served, all_plain_records}
 use Rattle.push_laws.specs.Whole.{permits_now, services_of, charged_consumers, local_push}
 use Rattle.push_laws.proofs.Shared.{served_sized}
 use Rattle.record.specs.Flat.{filled}
-use Rattle.record.proofs.Filled.{filled_append}
+use Rattle.record.proofs.Filled.{filled_append, filled_rest, handed_back, rest}
 use Rattle.push_plain.specs.Reading.{Readable}
 use Rattle.push_plain.proofs.Same.{readable_now, readable_same, all_served_same, all_records_same}
 use Rattle.push.specs.Bound.{most_due}
@@ -149,13 +150,16 @@ module _ {e : ℕ} (ws : List ℕ) (spelt : spells ws ≡ true) (E : e ≡ (deco
           ap₂ {A = List Consumer} {B = List ℕ} {C = List Dispatch} (λ l q. all_plain_records (decode us) (with_each l q)) consumers_now b
           ∙ all_records_same s (decode us) topics_now (with_each s.consumers (left s))
 
-      pub room_on : {m n : ℕ} → m ≡ length (shared_records s) → length (local_push s).dispatched * 13 ≤ n
-          → (m + length (all_plain_records (decode us) (with_each (decode us).consumers qs))) * 13 ≤ n
-      room_on {m} {n} q r = let c = all_counted s in rw records_now (omega (arith, c, q, r))
+      -- a list with room for all records has room for them behind those of the shared part
+      pub room_on : {m : ℕ} (ks : List ℕ) → m ≡ length (shared_records s) → length (local_push s).dispatched * 13 ≤ length ks
+          → length (all_plain_records (decode us) (with_each (decode us).consumers qs)) * 13 ≤ length (rest (m * 13) ks)
+      room_on {m} ks q r =
+          let c = all_counted s in
+          rw (records_now, take_rest ks (m * 13), length-drop (m * 13) ks) (omega (arith, c, q, r))
 
       -- how many are made
-      pub pushed_count : {m n : ℕ} → m ≡ length (shared_records s) → n ≡ m + length (all_plain_records (decode us) (with_each (decode us).consumers qs))
-          → n ≡ length (local_push s).dispatched
+      pub pushed_count : {m n : ℕ} → m ≡ length (shared_records s) → n ≡ length (all_plain_records (decode us) (with_each (decode us).consumers qs))
+          → m + n ≡ length (local_push s).dispatched
       pushed_count {m} {n} q v =
           let c = all_counted s in
           let r : length (all_plain_records (decode us) (with_each (decode us).consumers qs)) ≡ length (plain_records s) = ap length records_now in
@@ -173,12 +177,13 @@ module _ {e : ℕ} (ws : List ℕ) (spelt : spells ws ≡ true) (E : e ≡ (deco
           then_write ws T f shaped refl a (v ∙ ap (λ (l : List Consumer). put us (with_consumers (decode us) l)) same)
 
       -- the list at the end
-      pub pushed_records : {ks ns : List ℕ} (ls : List ℕ) (m : ℕ) → m ≡ length (shared_records s) → ks ≡ filled ls 0 (shared_records s)
-          → ns ≡ filled ks m (all_plain_records (decode us) (with_each (decode us).consumers qs))
-          → ns ≡ filled ls 0 (local_push s).dispatched
-      pushed_records ls m q k v =
+      pub pushed_records : {ns : List ℕ} (ks ls : List ℕ) (m : ℕ) → m ≡ length (shared_records s) → ks ≡ filled ls 0 (shared_records s) → m * 13 ≤ length ks
+          → ns ≡ filled (rest (m * 13) ks) 0 (all_plain_records (decode us) (with_each (decode us).consumers qs))
+          → handed_back (m * 13) ks ns ≡ filled ls 0 (local_push s).dispatched
+      pushed_records ks ls m q k room v =
           let zero_first : 0 + length (shared_records s) ≡ m = omega (arith, q) in
-          v ∙ ap₂ {A = List ℕ} {B = List Dispatch} {C = List ℕ} (λ r x. filled r m x) k records_now
+          filled_rest m ks (plain_records s) room (v ∙ ap (λ (x : List Dispatch). filled (rest (m * 13) ks) 0 x) records_now)
+          ∙ ap (λ (r : List ℕ). filled r m (plain_records s)) k
           ∙ ap (λ (j : ℕ). filled (filled ls 0 (shared_records s)) j (plain_records s)) (sym zero_first)
           ∙ sym (filled_append ls 0 (shared_records s) (plain_records s))
           ∙ ap (λ (x : List Dispatch). filled ls 0 x) (all_records s)

@@ -61,8 +61,8 @@ fn push_pending(store: &mut [u64], e: usize, list: &mut [u64]) -> usize
     let mut all = [0u64; 32];
     let permits = &mut all[..n];
     load_permits(store, e, permits);
-    let m = push_pending_shared(store, e, permits, list);
-    serve_plain(store, e, permits, list, m)
+    let shared = push_pending_shared(store, e, permits, list);
+    shared + serve_plain(store, e, permits, &mut list[shared * RECORD_WORDS..])
 }
 
 // 15 with the number due if more dispatches are due than the list holds records of 13 words. The value is

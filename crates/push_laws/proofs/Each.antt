@@ -43,7 +43,8 @@ each_own [] = refl
 each_own (c ∷ l) = ap (λ (r : List Consumer). c ∷ r) (each_own l)
 
 -- the consumer in a slot
-pub nth_each : (l : List Consumer) (ps : List ℕ) (i : ℕ) (z : Consumer) → i < length l → get_or (with_each l ps) i z ≡ with_permits (get_or l i z) (get_or ps i 0)
+pub nth_each : (l : List Consumer) (ps : List ℕ) (i : ℕ) (z : Consumer) → i < length l
+    → get_or (with_each l ps) i z ≡ with_permits (get_or l i z) (get_or ps i 0)
 unfolding with_each
 nth_each [] ps i z h = absurd (not-suc-le-zero h)
 nth_each (c ∷ l) ps zero z h = refl

@@ -10,7 +10,8 @@ use lib.ListN.{length}
 use borrow.Author.Tests.{lt-ltb, le-ltb, ltb-true, eq-eqb, ne_eqb}
 use Rattle.rules.specs.Permits.{zero_permits, above_zero}
 use Rattle.rules.specs.Table.{Every}
-use Rattle.rules.specs.State.{StoredMessage, Pair, Kind, by_kind, Consumer, State, by_id, topic_of, consumer_of, ledger_of, insert, with_tables, with_consumers, put_consumer}
+use Rattle.rules.specs.State.{StoredMessage, Pair, Kind, by_kind, Consumer, State, by_id, topic_of, consumer_of, ledger_of, insert, with_tables}
+use Rattle.rules.specs.State.{with_consumers, put_consumer}
 use Rattle.rules.specs.State.Kind.{plain, shared}
 use Rattle.rules.specs.Valid.{Ascending}
 use Rattle.rules.specs.Commands.{with_permits, with_reading}
@@ -20,7 +21,8 @@ use Rattle.rules.specs.Push.Turn.{halt, sent}
 use Rattle.rules.proofs.Table.{by_test}
 use Rattle.rules.proofs.Kept.Every.{every_snoc}
 use Rattle.push_laws.proofs.Shared.{find_here}
-use Rattle.push_laws.specs.Plain.{plain_due, next_position, taken_next, after_one, plain_record, plain_records, after_entries, ledger_for, plain_served, all_plain_records}
+use Rattle.push_laws.specs.Plain.{plain_due, next_position, taken_next, after_one, plain_record, plain_records, after_entries, ledger_for, plain_served}
+use Rattle.push_laws.specs.Plain.{all_plain_records}
 
 -- the smaller of two numbers, each less 1
 min_less : (x y n : ℕ) → min x y ≡ suc n → min (x - 1) (y - 1) ≡ n
@@ -64,7 +66,8 @@ module _ (s : State) (done rest : List Consumer) where
   among c = with_tables s s.topics (done ++ c ∷ rest) s.dispatchers
 
   module _ (i : ℕ) (lower : Every (λ (x : Consumer). x.id < i) done) where
-    insert_among : (c b : Consumer) → c.id ≡ i → b.id ≡ i → (l : List Consumer) → Every (λ (x : Consumer). x.id < i) l → insert b (l ++ c ∷ rest) ≡ l ++ b ∷ rest
+    insert_among : (c b : Consumer) → c.id ≡ i → b.id ≡ i → (l : List Consumer) → Every (λ (x : Consumer). x.id < i) l
+        → insert b (l ++ c ∷ rest) ≡ l ++ b ∷ rest
     unfolding insert
     insert_among c b p q [] w = rw (le-ltb b.id c.id (omega arith), eq-eqb b.id c.id (omega arith))
     insert_among c b p q (x ∷ l) w =
@@ -106,7 +109,8 @@ module _ (s : State) (done rest : List Consumer) where
     sends_of : (j : ℕ) → j ≡ i → (p : Pair) (k : Kind) (m cursor : ℕ) (l : List ℕ) (n : ℕ) → plain_due (ledger_of s p.topic) (of j p k m cursor l) ≡ suc n
         → plain_turn_of (among (of j p k m cursor l)) (some (of j p k m cursor l))
         ≡ sent (plain_record (ledger_of s p.topic) (of j p k m cursor l) (next_position cursor l)) (among (taken_next (of j p k m cursor l) l))
-    unfolding plain_turn_of send_plain_next send_plain above_zero plain_due by_kind ledger_of topic_of plain_record next_position taken_next with_permits with_reading
+    unfolding plain_turn_of send_plain_next send_plain above_zero plain_due by_kind ledger_of topic_of plain_record next_position
+        taken_next with_permits with_reading
     sends_of j e p shared m cursor l n z = absurd (omega (arith, z))
     sends_of j e p plain m cursor [] n z =
         let a : zero_permits < m = omega (arith, z) in
@@ -126,9 +130,11 @@ module _ (s : State) (done rest : List Consumer) where
     unfolding plain_due by_kind taken_next with_permits with_reading
     less_of j p shared m cursor l n z = absurd (omega (arith, z))
     less_of j p plain m cursor [] n z =
-        ap₂ min (sub_twice m 1 zero_permits) (sub_more (length (ledger_of s p.topic)) cursor) ∙ min_less (m - zero_permits) (0 + (length (ledger_of s p.topic) - cursor)) n z
+        ap₂ min (sub_twice m 1 zero_permits) (sub_more (length (ledger_of s p.topic)) cursor)
+        ∙ min_less (m - zero_permits) (0 + (length (ledger_of s p.topic) - cursor)) n z
     less_of j p plain m cursor (k ∷ l) n z =
-        ap₂ min (sub_twice m 1 zero_permits) (sub_suc (length l) (length (ledger_of s p.topic) - cursor)) ∙ min_less (m - zero_permits) (suc (length l) + (length (ledger_of s p.topic) - cursor)) n z
+        ap₂ min (sub_twice m 1 zero_permits) (sub_suc (length l) (length (ledger_of s p.topic) - cursor))
+        ∙ min_less (m - zero_permits) (suc (length l) + (length (ledger_of s p.topic) - cursor)) n z
 
     -- the same of a consumer with the id
     halt_turn : (c : Consumer) → c.id ≡ i → plain_due (ledger_for s c) c ≡ 0 → plain_turn i (among c) ≡ halt (among c)

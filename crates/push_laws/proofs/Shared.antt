@@ -8,7 +8,8 @@ use mathlib.Core.Option.{some}
 use Prim.Native.Nat.{ℕ, suc, ◌+◌, ◌-◌}
 use lib.ListN.{length, length-map}
 use Rattle.rules.specs.Table.{Key, find, put, or_else, Every, Distinct}
-use Rattle.rules.specs.State.{same_pair, Consumer, Held, Dispatcher, State, by_id, by_pair, topic_of, ledger_of, dispatcher_of, dispatcher, with_tables, with_consumers, with_dispatchers, put_dispatcher}
+use Rattle.rules.specs.State.{same_pair, Consumer, Held, Dispatcher, State, by_id, by_pair, topic_of, ledger_of, dispatcher_of, dispatcher, with_tables}
+use Rattle.rules.specs.State.{with_consumers, with_dispatchers, put_dispatcher}
 use Rattle.rules.specs.Valid.{Ascending}
 use Rattle.rules.specs.Dispatcher.{of_parts}
 use Rattle.rules.specs.Outcome.{Dispatch}

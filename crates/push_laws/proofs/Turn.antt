@@ -12,7 +12,8 @@ use lib.Seq.{drop-cons}
 use borrow.Author.Tests.{ltb-true, ltb-false}
 use Rattle.rules.specs.Permits.{above_zero}
 use Rattle.rules.specs.Table.{is_empty}
-use Rattle.rules.specs.State.{Consumer, Held, Dispatcher, State, by_id, by_pair, topic_of, consumer_of, ledger_of, dispatcher, insert, with_consumers, with_dispatchers, put_consumer, put_dispatcher}
+use Rattle.rules.specs.State.{Consumer, Held, Dispatcher, State, by_id, by_pair, topic_of, consumer_of, ledger_of, dispatcher, insert, with_consumers}
+use Rattle.rules.specs.State.{with_dispatchers, put_consumer, put_dispatcher}
 use Rattle.rules.specs.Valid.{Ascending}
 use Rattle.rules.specs.Dispatcher.{of_parts, with_next, with_cursor, with_total, with_places, mark_at, dispatch_gate_open}
 use Rattle.rules.specs.Commands.{with_permits}
@@ -23,7 +24,8 @@ use Rattle.rules.proofs.State.{decides_pairs, dispatcher_put}
 use Rattle.layout.specs.Fields.{zero_consumer, consumer_nth}
 use Rattle.store.specs.Find.{slot}
 use Rattle.store.proofs.Finding.{slot_found, slot_none}
-use Rattle.push_laws.specs.Local.{Local, Step, Place, LocalTurn, first_with_permits, choose_place, price_of, hand_over, take_entry, serve_place, local_turn, fixed_of}
+use Rattle.push_laws.specs.Local.{Local, Step, Place, LocalTurn, first_with_permits, choose_place, price_of, hand_over, take_entry, serve_place}
+use Rattle.push_laws.specs.Local.{local_turn, fixed_of}
 use Rattle.push_laws.specs.Local.LocalTurn.{stop, move}
 use Rattle.push_laws.specs.Applied.{with_each, record_to, record_of, held_of, applied_dispatcher, applied}
 use Rattle.operation_laws.proofs.Frame.{insert_found}
@@ -188,7 +190,8 @@ module _ (s : State) (d : Dispatcher) (l : Local) (added : List Held) where
 
       stored : ltb l.taken (length d.redelivery) ≡ false → ltb l.cursor (length (ledger_of s d.pair.topic)) ≡ true
           → after_queue (drop l.taken d.redelivery) ≡ lifted s d added (take_entry (fixed_of s d) l next c)
-      unfolding hand_out_next with_next with_cursor applied_dispatcher take_entry fixed_of ledger_of topic_of applied put_dispatcher with_dispatchers with_consumers
+      unfolding hand_out_next with_next with_cursor applied_dispatcher take_entry fixed_of ledger_of topic_of applied put_dispatcher
+          with_dispatchers with_consumers
       stored t u =
           ap after_queue (no_queue t)
           ∙ rw (t, u) (hand_same next (suc l.cursor) l.taken c l.cursor a h)
@@ -246,7 +249,8 @@ module _ (s : State) (d : Dispatcher) (l : Local) (added : List Held) where
     unfolding applied_dispatcher
     after_taken a r e = take_same (slot_after r.place d.attached) r.consumer a (chosen_in r e)
 
-    after_choice : Ascending C → (o : Option Place) → choose_place (fixed_of s d) l ≡ o → serve_choice S D (Option.map chosen o) ≡ lifted s d added (serve_place (fixed_of s d) l o)
+    after_choice : Ascending C → (o : Option Place) → choose_place (fixed_of s d) l ≡ o
+        → serve_choice S D (Option.map chosen o) ≡ lifted s d added (serve_place (fixed_of s d) l o)
     unfolding serve_choice serve_place lifted
     after_choice a none e = refl
     after_choice a (some r) e =

@@ -13,7 +13,8 @@ use Rattle.rules.specs.Valid.{Ascending}
 use Rattle.rules.specs.Outcome.{Dispatch}
 use Rattle.rules.specs.Push.{Turn, Pushed, after_turn, turns, shared_turn}
 use Rattle.rules.proofs.Table.{by_test}
-use Rattle.push_laws.specs.Local.{Fixed, Local, Place, LocalTurn, Steps, choose_place, hand_over, take_entry, serve_place, local_turn, then_turns, local_turns, fixed_of}
+use Rattle.push_laws.specs.Local.{Fixed, Local, Place, LocalTurn, Steps, choose_place, hand_over, take_entry, serve_place, local_turn, then_turns}
+use Rattle.push_laws.specs.Local.{local_turns, fixed_of}
 use Rattle.push_laws.specs.Local.LocalTurn.{stop, move}
 use Rattle.push_laws.specs.Applied.{record_of, held_of, applied}
 use Rattle.push_laws.proofs.Turn.{lifted, turn_same}

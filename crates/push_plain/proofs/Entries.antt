@@ -19,8 +19,10 @@ use Rattle.rules.specs.Commands.{with_permits, with_reading}
 use Rattle.rules.specs.Outcome.{Dispatch}
 use Rattle.rules.specs.Push.{flat}
 use Rattle.rules.proofs.Table.{by_test}
-use Rattle.push_laws.specs.Plain.{plain_due, next_position, taken_next, after_one, plain_record, plain_records, after_entries, ledger_for, plain_served, all_plain_records}
+use Rattle.push_laws.specs.Plain.{plain_due, next_position, taken_next, after_one, plain_record, plain_records, after_entries, ledger_for, plain_served}
+use Rattle.push_laws.specs.Plain.{all_plain_records}
 use Rattle.record.specs.Flat.{filled}
+use Rattle.record.proofs.Filled.{rest, handed_back, laid_rest}
 use Rattle.operation_laws.proofs.Frame.{every_nth}
 use Rattle.push_plain.specs.Reading.{position_at, record_to, entry_record, entries_taken}
 
@@ -106,35 +108,44 @@ pub entry_is : (g : List StoredMessage) (c : Consumer) (p j : ℕ) {l : List Sto
 unfolding entry_record with_permits position_at
 entry_is g c p j a b d = rw (a, b, d)
 
--- record j written, the others left
-pub fill_turn : (g : List StoredMessage) (c : Consumer) (list : List ℕ) (m n j : ℕ) → j < n
-    → filled list (m + j) (plain_records g (after_entries c j) (n - j))
-    ≡ filled ((lay (flat (entry_record g c j))).run ((m + j) * 13) list) (m + (j + 1)) (plain_records g (after_entries c (j + 1)) (n - (j + 1)))
-unfolding filled plain_records
-fill_turn g c list m n j h =
-    let one : n - j ≡ suc (n - (j + 1)) = omega arith in
-    let up : m + (j + 1) ≡ suc (m + j) = omega arith in
-    let on : j + 1 ≡ suc j = omega arith in
-    rw (one, up, record_next g c j, after_last c j, on)
-
--- none written, all left
-pub fill_start : (g : List StoredMessage) (c : Consumer) (list : List ℕ) (m n : ℕ)
-    → filled list (m + 0) (plain_records g (after_entries c 0) (n - 0)) ≡ filled list m (plain_records g c n)
-unfolding after_entries
-fill_start g c list m n =
-    let a : m + 0 ≡ m = omega arith in
-    let b : n - 0 ≡ n = omega arith in
-    ap₂ (λ (k l : ℕ). filled list k (plain_records g c l)) a b
-
--- all written, none left
-pub fill_end : (g : List StoredMessage) (c : Consumer) (list : List ℕ) (m n j : ℕ) → j ≡ n → list ≡ filled list (m + j) (plain_records g c (n - j))
-unfolding filled plain_records
-fill_end g c list m n j e = let z : n - j ≡ 0 = omega arith in rw z
-
 -- none to write
-pub fill_none : (g : List StoredMessage) (c : Consumer) (list : List ℕ) (m n : ℕ) → n ≡ 0 → list ≡ filled list m (plain_records g c n)
+pub fill_none : (g : List StoredMessage) (c : Consumer) (list : List ℕ) (n : ℕ) → n ≡ 0 → list ≡ filled list 0 (plain_records g c n)
 unfolding filled plain_records
-fill_none g c list m n e = rw e
+fill_none g c list n e = rw e
+
+module _ (g : List StoredMessage) (c : Consumer) (n : ℕ) (first : List ℕ) where
+  -- a list with the first j records and those that are left is the first list with all
+  abbrev pub Filling : ℕ → List ℕ → Type 0
+  Filling j list = filled list j (plain_records g (after_entries c j) (n - j)) ≡ filled first 0 (plain_records g c n)
+
+  -- none is written
+  pub filling_start : Filling 0 first
+  unfolding after_entries
+  filling_start = let all : n - 0 ≡ n = omega arith in ap (λ (k : ℕ). filled first 0 (plain_records g c k)) all
+
+  -- record j written, the others left
+  fill_turn : (list : List ℕ) (j : ℕ) → j < n
+      → filled list j (plain_records g (after_entries c j) (n - j))
+      ≡ filled ((lay (flat (entry_record g c j))).run (j * 13) list) (j + 1) (plain_records g (after_entries c (j + 1)) (n - (j + 1)))
+  unfolding filled plain_records
+  fill_turn list j h =
+      let one : n - j ≡ suc (n - (j + 1)) = omega arith in
+      let on : j + 1 ≡ suc j = omega arith in
+      rw (one, record_next g c j, after_last c j, on)
+
+  -- one more is, to the rest of the list
+  pub filling_on : (list : List ℕ) (j : ℕ) {written : List ℕ} → Filling j list → j < n → j * 13 ≤ length list
+      → written ≡ (lay (flat (entry_record g c j))).run 0 (rest (j * 13) list) → Filling (j + 1) (handed_back (j * 13) list written)
+  filling_on list j f h room w =
+      ap (λ (l : List ℕ). filled l (j + 1) (plain_records g (after_entries c (j + 1)) (n - (j + 1))))
+      (laid_rest (flat (entry_record g c j)) (j * 13) list room w)
+      ∙ sym (fill_turn list j h)
+      ∙ f
+
+  -- all are
+  pub filling_end : (list : List ℕ) (j : ℕ) → Filling j list → j ≡ n → list ≡ filled first 0 (plain_records g c n)
+  unfolding filled plain_records
+  filling_end list j f e = let none : n - j ≡ 0 = omega arith in rw none at f
 
 -- as many records as entries
 pub length_records : (g : List StoredMessage) (c : Consumer) (n : ℕ) → length (plain_records g c n) ≡ n
@@ -221,7 +232,8 @@ position_inside g c j n a b h k =
 -- the records of the consumers from i on: those of consumer i, then of the others
 pub all_turn : (s : State) (l : List Consumer) (i : ℕ) (z : Consumer) → i < length l
     → all_plain_records s (drop i l)
-    ≡ plain_records (ledger_for s (get_or l i z)) (get_or l i z) (plain_due (ledger_for s (get_or l i z)) (get_or l i z)) ++ all_plain_records s (drop (i + 1) l)
+    ≡ plain_records (ledger_for s (get_or l i z)) (get_or l i z) (plain_due (ledger_for s (get_or l i z)) (get_or l i z)) ++ all_plain_records s
+    (drop (i + 1) l)
 unfolding all_plain_records
 all_turn s l i z h = let on : i + 1 ≡ suc i = omega arith in rw (on, drop-cons l i z h)
 
@@ -230,5 +242,7 @@ pub all_turn_length : (s : State) (l : List Consumer) (i : ℕ) (z : Consumer) �
     → length (all_plain_records s (drop i l)) ≡ plain_due (ledger_for s (get_or l i z)) (get_or l i z) + length (all_plain_records s (drop (i + 1) l))
 all_turn_length s l i z h =
     ap (λ (r : List Dispatch). length r) (all_turn s l i z h)
-    ∙ length-append (plain_records (ledger_for s (get_or l i z)) (get_or l i z) (plain_due (ledger_for s (get_or l i z)) (get_or l i z))) (all_plain_records s (drop (i + 1) l))
-    ∙ ap (λ (n : ℕ). n + length (all_plain_records s (drop (i + 1) l))) (length_records (ledger_for s (get_or l i z)) (get_or l i z) (plain_due (ledger_for s (get_or l i z)) (get_or l i z)))
+    ∙ length-append (plain_records (ledger_for s (get_or l i z)) (get_or l i z) (plain_due (ledger_for s (get_or l i z)) (get_or l i z)))
+    (all_plain_records s (drop (i + 1) l))
+    ∙ ap (λ (n : ℕ). n + length (all_plain_records s (drop (i + 1) l)))
+    (length_records (ledger_for s (get_or l i z)) (get_or l i z) (plain_due (ledger_for s (get_or l i z)) (get_or l i z)))

@@ -51,11 +51,13 @@ module _ (s : State) (ps : List ℕ) where
 
     -- the records of consumer i and those left after it
     pub records_turn : all_plain_records s (drop i full)
-        ≡ plain_records (ledger_for s (consumer_nth s i)) (with_permits (consumer_nth s i) (get_or ps i 0)) (due_of i) ++ all_plain_records s (drop (i + 1) full)
+        ≡ plain_records (ledger_for s (consumer_nth s i)) (with_permits (consumer_nth s i) (get_or ps i 0)) (due_of i) ++ all_plain_records s
+        (drop (i + 1) full)
     records_turn =
         all_turn s full i zero_consumer in_full
         ∙ ap (λ (c : Consumer). plain_records (ledger_for s c) c (plain_due (ledger_for s c) c) ++ all_plain_records s (drop (i + 1) full)) nth
-        ∙ ap (λ (g : List StoredMessage). plain_records g (with_permits (consumer_nth s i) (get_or ps i 0)) (plain_due g (with_permits (consumer_nth s i) (get_or ps i 0))) ++ all_plain_records s (drop (i + 1) full))
+        ∙ ap (λ (g : List StoredMessage). plain_records g (with_permits (consumer_nth s i) (get_or ps i 0))
+        (plain_due g (with_permits (consumer_nth s i) (get_or ps i 0))) ++ all_plain_records s (drop (i + 1) full))
         (same_ledger s (consumer_nth s i) (get_or ps i 0))
 
   -- none is left

@@ -1,5 +1,5 @@
 -- A consumer's words as the code writes them, one write after another.
-use mathlib.Core.Path.{◌≡◌, ap, ap₂, ◌∙◌}
+use mathlib.Core.Path.{◌≡◌, sym, ap, ap₂, ◌∙◌, subst}
 use mathlib.Core.List.{List}
 use Prim.Native.Nat.{ℕ, ◌+◌, ◌-◌, min}
 use native.Mathlib.Omega.{arith}
@@ -7,7 +7,7 @@ use lib.ListN.{length, drop, drop_of_length-le}
 use lib.Seq.{get_or-set_same}
 use lib.Dec.{ltb}
 use borrow.Author.Tests.{ltb-true, ltb-false}
-use Rattle.rules.specs.State.{Consumer, State, with_consumers}
+use Rattle.rules.specs.State.{Consumer, State, with_consumers, ledger_of, topic_of}
 use Rattle.rules.specs.Commands.{with_permits, with_reading}
 use Rattle.rules.proofs.Table.{by_test}
 use Rattle.layout.specs.Layout.{decode, put}
@@ -17,7 +17,9 @@ use Rattle.layout.specs.Placed.{ConsumerIn}
 use Rattle.layout.proofs.Store.{canon_entries}
 use Rattle.layout.proofs.Placed.{shaped_set_consumer}
 use Rattle.operation_laws.proofs.Frame.{decode_after, consumer_twice, consumer_still_in}
-use Rattle.push_plain.specs.Reading.{entries_taken}
+use Rattle.push_laws.specs.Plain.{ledger_for}
+use Rattle.push_plain.specs.Reading.{ReadableConsumer, ReadableIn, entries_taken}
+use Rattle.push_plain.proofs.Same.{readable_by}
 
 -- ---- a consumer set, and what is then there
 
@@ -61,8 +63,11 @@ drop_min n l =
 pub read_on_done : {e : ℕ} {ws us vs : List ℕ} (i from taken n : ℕ) → ConsumerIn e ws i → from ≡ (consumer_nth (decode ws) i).cursor
     → taken ≡ min n (length (consumer_nth (decode ws) i).nacked)
     → us ≡ put ws (set_consumer (decode ws) i (with_reading (consumer_nth (decode ws) i) (from + (n - taken)) (consumer_nth (decode ws) i).nacked))
-    → vs ≡ put us (set_consumer (decode us) i (with_reading (consumer_nth (decode us) i) (consumer_nth (decode us) i).cursor (drop taken (consumer_nth (decode us) i).nacked)))
-    → vs ≡ put ws (set_consumer (decode ws) i (with_reading (consumer_nth (decode ws) i) ((consumer_nth (decode ws) i).cursor + (n - length (consumer_nth (decode ws) i).nacked)) (drop n (consumer_nth (decode ws) i).nacked)))
+    → vs ≡ put us (set_consumer (decode us) i
+    (with_reading (consumer_nth (decode us) i) (consumer_nth (decode us) i).cursor (drop taken (consumer_nth (decode us) i).nacked)))
+    → vs ≡ put ws (set_consumer (decode ws) i
+    (with_reading (consumer_nth (decode ws) i) ((consumer_nth (decode ws) i).cursor + (n - length (consumer_nth (decode ws) i).nacked))
+    (drop n (consumer_nth (decode ws) i).nacked)))
 unfolding with_reading
 read_on_done {ws = ws} i from taken n h f t w v =
     let c : Consumer = consumer_nth (decode ws) i in
@@ -86,13 +91,31 @@ module _ {e : ℕ} {ws us : List ℕ} (i p : ℕ) (h : ConsumerIn e ws i)
   pub permits_set_in : ConsumerIn e us i
   permits_set_in = set_in i charged h shaped_charged w
 
-  pub permits_set_cursor : (consumer_nth (decode us) i).cursor ≡ (consumer_nth (decode ws) i).cursor
+  -- its ledger is as it was
+  ledger_as_it_was : ledger_for (decode us) charged ≡ ledger_for (decode ws) charged
+  unfolding with_permits set_consumer with_consumers ledger_of topic_of
+  ledger_as_it_was =
+      ap (λ (x : State). ledger_for x charged)
+      (decode_after ws (set_consumer (decode ws) i charged) (shaped_set_consumer (decode ws) h.canon.shaped i charged shaped_charged) w)
+
+  -- and so it reads the same
+  same_read : ReadableConsumer (decode ws) (consumer_nth (decode ws) i) → ReadableConsumer (decode ws) charged
   unfolding with_permits
-  permits_set_cursor = ap (λ (c : Consumer). c.cursor) (set_is i charged h shaped_charged w)
+  same_read r = record { cursor_in = r.cursor_in; nacked_in = r.nacked_in }
+
+  pub permits_set_readable : ReadableConsumer (decode ws) (consumer_nth (decode ws) i) → ReadableIn e us i
+  permits_set_readable r =
+      record {
+        here = permits_set_in;
+        readable = subst (λ (c : Consumer). ReadableConsumer (decode us) c) (sym (set_is i charged h shaped_charged w))
+            (readable_by (decode ws) (decode us) charged ledger_as_it_was (same_read r));
+      }
 
 pub take_done : {e : ℕ} {ws us vs : List ℕ} (i p n : ℕ) → ConsumerIn e ws i
     → us ≡ put ws (set_consumer (decode ws) i (with_permits (consumer_nth (decode ws) i) (p - n)))
-    → vs ≡ put us (set_consumer (decode us) i (with_reading (consumer_nth (decode us) i) ((consumer_nth (decode us) i).cursor + (n - length (consumer_nth (decode us) i).nacked)) (drop n (consumer_nth (decode us) i).nacked)))
+    → vs ≡ put us (set_consumer (decode us) i
+    (with_reading (consumer_nth (decode us) i) ((consumer_nth (decode us) i).cursor + (n - length (consumer_nth (decode us) i).nacked))
+    (drop n (consumer_nth (decode us) i).nacked)))
     → vs ≡ put ws (set_consumer (decode ws) i (entries_taken (with_permits (consumer_nth (decode ws) i) p) n))
 unfolding with_permits with_reading entries_taken
 take_done {ws = ws} i p n h w v =

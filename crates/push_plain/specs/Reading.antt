@@ -10,7 +10,7 @@ use Rattle.layout.specs.Layout.{decode}
 use Rattle.layout.specs.Fields.{consumer_nth, topic_nth, consumer_now}
 use Rattle.layout.specs.Placed.{ConsumerIn, TopicIn}
 use Rattle.push_laws.specs.Applied.{with_each}
-use Rattle.push_plain.specs.declared.serve.Reader as readers
+use Rattle.push_plain.specs.declared.reader.Reader as readers
 use Rattle.push_laws.specs.Plain.{plain_due, plain_records, ledger_for, plain_served, all_plain_records}
 
 -- the position of entry j of those that wait: the nacked ones first, then from the cursor on
@@ -75,21 +75,19 @@ pub record ReadableConsumer (s : State) (c : Consumer) : Type 0 where
 pub record Readable (s : State) : Type 0 where
   pub each : Every (ReadableConsumer s) s.consumers
 
--- n entries can be sent to consumer i, whose ledger is that of topic t
-pub record Sendable (e : ℕ) (ws : List ℕ) (i t permits n : ℕ) : Type 0 where
-  pub consumer : ConsumerIn e ws i
-  pub topic : TopicIn e ws t
-  pub ledger : (topic_nth (decode ws) t).messages ≡ ledger_for (decode ws) (consumer_nth (decode ws) i)
+-- consumer i of a store is there, and those that it reads do
+pub record ReadableIn (e : ℕ) (ws : List ℕ) (i : ℕ) : Type 0 where
+  pub here : ConsumerIn e ws i
   pub readable : ReadableConsumer (decode ws) (consumer_nth (decode ws) i)
-  pub waiting : n ≤ length (consumer_nth (decode ws) i).nacked
-      + (length (ledger_for (decode ws) (consumer_nth (decode ws) i)) - (consumer_nth (decode ws) i).cursor)
-  pub permitted : n ≤ permits
-  pub low : (consumer_nth (decode ws) i).cursor ≤ 4096
-  pub few : n ≤ 4160
 
--- the same of a consumer that code has by value
-abbrev pub SendableTo : readers.Reader → List ℕ → ℕ → Type 0
-SendableTo r ws n = Sendable r.e ws r.i r.t r.permits n
+-- n entries can be sent to a reader, whose ledger is that of topic t: as many wait, and its permits are enough for them
+pub record SendableTo (x : readers.Reader) (t : ℕ) (ws : List ℕ) (n : ℕ) : Type 0 where
+  pub reader : ReadableIn x.e ws x.i
+  pub topic : TopicIn x.e ws t
+  pub ledger : (topic_nth (decode ws) t).messages ≡ ledger_for (decode ws) (consumer_nth (decode ws) x.i)
+  pub waiting : n ≤ length (consumer_nth (decode ws) x.i).nacked
+      + (length (ledger_for (decode ws) (consumer_nth (decode ws) x.i)) - (consumer_nth (decode ws) x.i).cursor)
+  pub permitted : n ≤ x.permits
 
 -- the consumers after their parts, by the permits given
 unfoldable pub all_served : State → List ℕ → List Consumer

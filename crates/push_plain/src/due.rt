@@ -6,6 +6,7 @@ ghost use Rattle.layout.specs.Fields.{consumer_now};
 ghost use Rattle.layout.specs.Placed.{ConsumerIn};
 ghost use Rattle.push_plain.specs.Reading.{ledger_now, waiting_for, due_now, plain_records_now};
 
+use super::reader::Reader;
 use super::sum::added_up;
 use consumer::fields::{cursor, is_shared, topic};
 use consumer::nacked::nacked_count;
@@ -41,12 +42,12 @@ pub fn waiting_for(store: &[u64], e: usize, i: usize) -> usize
     }
 }
 
-// How many entries consumer `i` is due with other permits.
-pub(crate) fn plain_due(store: &[u64], e: usize, i: usize, permits: u64) -> usize
-    requires { ConsumerIn e store.now i }
-    ensures { result ≡ due_now store.now i permits }
+// How many entries a consumer is due with the permits that it is left.
+pub(crate) fn plain_due(store: &[u64], reader: Reader) -> usize
+    requires { ConsumerIn reader.e store.now reader.i }
+    ensures { result ≡ due_now store.now reader.i reader.permits }
 {
-    permitted(permits, waiting_for(store, e, i))
+    permitted(reader.permits, waiting_for(store, reader.e, reader.i))
 }
 
 // How many entries all consumers are due, each with its permits of `permits`.
@@ -55,5 +56,14 @@ pub fn due_plain(store: &[u64], e: usize, permits: &[u64]) -> usize
         × (length permits.now ≡ length (decode store.now).consumers) }
     ensures { result ≡ length (plain_records_now store.now permits.now) }
 {
-    added_up(permits.len(), |i| plain_due(store, e, i, permits[i]))
+    added_up(permits.len(), |i| {
+        plain_due(
+            store,
+            Reader {
+                e,
+                i,
+                permits: permits[i],
+            },
+        )
+    })
 }

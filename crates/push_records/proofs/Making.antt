@@ -16,7 +16,7 @@ use Rattle.rules.specs.Outcome.Outcome.{refused, short, done}
 use Rattle.rules.specs.Outcome.Value.{dispatches}
 use Rattle.rules.specs.Push.{Pushed, push_pending, push, flat_records}
 use Rattle.rules.specs.Book.{records_of}
-use Rattle.rules.specs.Calls.{rule, value_number, answer_word}
+use Rattle.rules.specs.Calls.{rule, value_number, answer_word, number_in, value_in}
 use Rattle.rules.specs.Calls.Call.{Push}
 use Rattle.layout.specs.Layout.{decode, spells}
 use Rattle.layout.specs.Calls.{outcome, answer, with_records, made_words, list_after}
@@ -24,6 +24,7 @@ use Rattle.layout.proofs.FewDue.{few_due}
 use Rattle.operation_laws.proofs.Frame.{valid_now}
 use Rattle.rules.proofs.Answers.{flats_length}
 use Rattle.record.specs.declared.Dispatch as declared
+use Rattle.told.specs.Told.{made_told as told}
 use Rattle.push_records.specs.Listed.{records_in, dispatched, room, listed}
 use Rattle.push_records.proofs.Reading.{read_made}
 
@@ -31,12 +32,9 @@ use Rattle.push_records.proofs.Reading.{read_made}
 abbrev pub made : Outcome → ℕ
 made o = length (dispatched o)
 
--- what an answer says was made
-abbrev pub told : ℕ → ℕ
-told a = cond (eqb (a % 256) 0) (a / 256) 0
-
 -- a number below 2 ^ 56 is told
 told_done : (n : ℕ) → n < 2 ^ 56 → told (n % 2 ^ 56 * 256) ≡ n
+unfolding told number_in value_in
 told_done n h =
     let whole : n % 2 ^ 56 ≡ n = mod-eq_of_lt h in
     let low : n * 256 % 256 ≡ 0 = omega arith in
@@ -45,6 +43,7 @@ told_done n h =
 
 -- with 15 none is
 told_short : (n : ℕ) → told (n % 2 ^ 56 * 256 + 15) ≡ 0
+unfolding told number_in
 told_short n =
     let m : ℕ = n % 2 ^ 56 in
     let low : (m * 256 + 15) % 256 ≡ 15 = omega arith in
@@ -66,7 +65,7 @@ module _ (ws : List ℕ) (r : ℕ) where
   few spelt = omega (arith, few_due (decode ws) (valid_now ws spelt))
 
   by_words : (b : Bool) → spells ws ≡ b → Pushing r (cond b (rule (decode ws) (Push r)) (refused 1))
-  unfolding answer_word dispatched rule push
+  unfolding answer_word dispatched rule push told number_in value_in
   by_words true h =
       let all : Pushed = push_pending (decode ws) in
       by_room r all.dispatched all.state (few h) (leb (length all.dispatched) r) refl

@@ -7,7 +7,8 @@ use native.Mathlib.Numerals.{add-one}
 use lib.ListN.{length, get_or, drop, set, length-append}
 use lib.Seq.{drop-cons, append_snoc, set_at}
 use Rattle.record.specs.declared.Dispatch.{Dispatch}
-use Rattle.push_records.specs.Listed.{record_at, records_in}
+use Rattle.record.specs.Flat.{record_at}
+use Rattle.push_records.specs.Listed.{records_in}
 
 module _ (ws : List ℕ) where
   pub length_records : (n : ℕ) → length (records_in ws n) ≡ n

@@ -10,8 +10,9 @@ use Rattle.rules.specs.Outcome.Outcome.{refused, short, done}
 use Rattle.rules.specs.Push.{flat, flat_records}
 use Rattle.rules.specs.Book.{records_of}
 use Rattle.layout.specs.Calls.{with_records, made_words, list_after}
+use Rattle.record.specs.Flat.{word_of, record_at}
 use Rattle.record.specs.declared.Dispatch as declared
-use Rattle.push_records.specs.Listed.{word_of, record_at, records_in, record_for, dispatched}
+use Rattle.push_records.specs.Listed.{records_in, record_for, dispatched}
 
 module _ (x : Dispatch) (ws : List ℕ) where
   -- the first record

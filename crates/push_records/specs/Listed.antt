@@ -1,29 +1,10 @@
 -- Dispatches as records: those of the rules, and those that flat words spell.
-use Rattle.std.specs.Prelude.{ℕ, zero, suc, ◌+◌, ◌-◌, ◌*◌, ◌/◌, ◌%◌, ◌^◌, min, List, [], ◌∷◌, ◌++◌, map, length, get_or, drop}
+use Rattle.std.specs.Prelude.{ℕ, zero, suc, ◌+◌, ◌-◌, ◌/◌, ◌%◌, ◌^◌, min, List, [], ◌∷◌, ◌++◌, map, length, drop}
 use Rattle.rules.specs.Outcome.{Dispatch, Outcome}
 use Rattle.rules.specs.Outcome.Outcome.{refused, short, done}
 use Rattle.rules.specs.Book.{records_of}
+use Rattle.record.specs.Flat.{record_at}
 use Rattle.record.specs.declared.Dispatch as declared
-
--- word j of record i
-abbrev pub word_of : List ℕ → ℕ → ℕ → ℕ
-word_of ws i j = get_or ws (i * 13 + j) 0
-
--- record i of flat words: its fields are its 13 words in order
-unfoldable pub record_at : List ℕ → ℕ → declared.Dispatch
-record_at ws i =
-    record {
-      consumer = word_of ws i 0;
-      ledger = word_of ws i 1;
-      entry = word_of ws i 2;
-      handle = word_of ws i 3;
-      batch_size = word_of ws i 4;
-      ack_set_words = word_of ws i 5;
-      ack_set = record { w0 = word_of ws i 6; w1 = word_of ws i 7; w2 = word_of ws i 8; w3 = word_of ws i 9 };
-      redelivery_count = word_of ws i 10;
-      cost = word_of ws i 11;
-      permits = word_of ws i 12;
-    }
 
 -- the first n records of flat words
 unfoldable pub records_in : List ℕ → ℕ → List declared.Dispatch

@@ -1,7 +1,7 @@
 // Push with a lent list of dispatches. The flat push runs into a flat list that is lent beside it, with
 // room for as many records as both hold; then the list is filled from the flat records. The push for C
 // writes flat words, and there is no heap to put them in.
-ghost use Rattle.std.specs.Prelude.{◌≡◌, cond, ◌/◌, ◌%◌, eqb, length, replicate};
+ghost use Rattle.std.specs.Prelude.{◌≡◌, length, replicate};
 ghost use Rattle.rules.specs.Calls.Call.{Push};
 ghost use Rattle.layout.specs.Calls.{outcome, answer, after, list_after};
 ghost use Rattle.push_records.specs.Listed.{room, listed, no_dispatch};
@@ -10,7 +10,7 @@ use super::fill::fill;
 use bits::UnackedBits;
 use broker::broker_push;
 use record::{Dispatch, RECORD_WORDS};
-use refusal::NUMBERS;
+use told::made_in;
 
 // How many dispatches fit into a flat list of so many words and a list of so many records.
 fn room(words: usize, records: usize) -> usize
@@ -30,18 +30,6 @@ fn push_flat(store: &mut [u64], flat: &mut [u64], records: usize) -> u64
     broker_push(store, &mut flat[..end])
 }
 
-// How many dispatches an answer of push says were made: none with a refusal. The push that is called here is the one
-// for C, and its answer is one word.
-fn made(answer: u64) -> usize
-    ensures { result ≡ cond (eqb (answer % 256) 0) (answer / 256) 0 }
-{
-    if answer % NUMBERS == 0 {
-        (answer / NUMBERS) as usize
-    } else {
-        0
-    }
-}
-
 // Push into a list of dispatches, over a flat list for its words. The answer and the store are those of the
 // flat push; the list has the dispatches of the rules' own outcome. 15 is given where more are due than the
 // smaller of the two rooms, a thirteenth of the flat words and the list's length. With a refusal nothing changes.
@@ -54,7 +42,7 @@ fn push_records(store: &mut [u64], flat: &mut [u64], list: &mut [Dispatch]) -> u
         (outcome store.old (Push (room (length flat.old) (length list.old)))) list.old }
 {
     let answer = push_flat(store, flat, list.len());
-    fill(list, flat, made(answer));
+    fill(list, flat, made_in(answer) as usize);
     answer
 }
 

@@ -2,7 +2,7 @@
 use mathlib.Core.Path.{◌≡◌, sym, ap, ap₂, ◌∙◌}
 use mathlib.Core.Bool.{cond}
 use mathlib.Core.List.{List, [], ◌∷◌, ◌++◌}
-use Prim.Native.Nat.{ℕ, ◌+◌, ◌-◌, ◌*◌, ◌%◌, ◌^◌, ◌≤◌, ◌<◌}
+use Prim.Native.Nat.{ℕ, ◌+◌, ◌-◌, ◌%◌, ◌^◌, ◌≤◌, ◌<◌}
 use native.Mathlib.Omega.{arith}
 use lib.ListN.{get_or}
 use Rattle.bits.specs.Bits.{bits_empty, word_count}
@@ -26,7 +26,8 @@ use Rattle.push_laws.specs.Applied.{record_to, record_of, held_of}
 use Rattle.record.specs.Flat.{filled, record_words}
 use Rattle.record.proofs.Filled.{record_flat}
 use Rattle.push_turn.specs.declared.turn.Step as steps
-use Rattle.push_turn.specs.Turns.{step_of, Serving, ledger_under}
+use Rattle.push_turn.specs.declared.service.Served as places
+use Rattle.push_turn.specs.Turns.{step_of, ServedHere, ledger_under}
 
 -- the record of a step by its message and mark
 abbrev recorded : ℕ → StoredMessage → Mark → Step → Dispatch
@@ -41,10 +42,10 @@ recorded id m k x =
       permits = x.permits;
     }
 
-module _ {e d t n : ℕ} {ws : List ℕ} (h : Serving e ws d t n) (k : ℕ) (within : k < n)
-    (m : messages.StoredMessage) (q : message_of m.ledger m.entry m.handle m.batch_size ≡ message_at (topic_nth (decode ws) t).messages k) where
+module _ {p : places.Served} {ws : List ℕ} (h : ServedHere p ws) (k : ℕ) (within : k < p.n)
+    (m : messages.StoredMessage) (q : message_of m.ledger m.entry m.handle m.batch_size ≡ message_at (topic_nth (decode ws) p.t).messages k) where
   -- the message that was read is the ledger's
-  message_here : message_of m.ledger m.entry m.handle m.batch_size ≡ message_at (ledger_under (decode ws) d) k
+  message_here : message_of m.ledger m.entry m.handle m.batch_size ≡ message_at (ledger_under (decode ws) p.d) k
   message_here = q ∙ ap (λ (l : List StoredMessage). message_at l k) (h.ledger_here (omega arith))
 
   -- its batch is small
@@ -52,13 +53,14 @@ module _ {e d t n : ℕ} {ws : List ℕ} (h : Serving e ws d t n) (k : ℕ) (wit
   unfolding message_at
   batch_read =
       let l = h.ledger_length in
-      let b : (get_or (ledger_under (decode ws) d) k no_message).batch_size ≤ 256 = every_nth (ledger_under (decode ws) d) k no_message h.batches (omega arith) in
-      let s : m.batch_size ≡ (get_or (ledger_under (decode ws) d) k no_message).batch_size = ap (λ (x : StoredMessage). x.batch_size) message_here in
+      let b : (get_or (ledger_under (decode ws) p.d) k no_message).batch_size ≤ 256 =
+      every_nth (ledger_under (decode ws) p.d) k no_message h.batches (omega arith) in
+      let s : m.batch_size ≡ (get_or (ledger_under (decode ws) p.d) k no_message).batch_size = ap (λ (x : StoredMessage). x.batch_size) message_here in
       omega arith
 
   -- the record made of what was read
-  pub record_read : (id w p : ℕ) (y : marks.Mark) (x : steps.Step) → x.position ≡ k → mark_of y ≡ mark_at (dispatcher_nth (decode ws) d) k
-      → w ≡ cond (bits_empty (words y.unacked)) 0 (word_count m.batch_size) → p ≡ (x.permits + (2 ^ 64 - 2 ^ 62)) % 2 ^ 64
+  pub record_read : (id w left : ℕ) (y : marks.Mark) (x : steps.Step) → x.position ≡ k → mark_of y ≡ mark_at (dispatcher_nth (decode ws) p.d) k
+      → w ≡ cond (bits_empty (words y.unacked)) 0 (word_count m.batch_size) → left ≡ (x.permits + (2 ^ 64 - 2 ^ 62)) % 2 ^ 64
       → record_words (record {
         consumer = id;
         ledger = m.ledger;
@@ -69,20 +71,21 @@ module _ {e d t n : ℕ} {ws : List ℕ} (h : Serving e ws d t n) (k : ℕ) (wit
         ack_set = y.unacked;
         redelivery_count = y.redelivery_count;
         cost = x.price;
-        permits = p;
+        permits = left;
       })
-      ≡ flat (record_to id (fixed_of (decode ws) (dispatcher_nth (decode ws) d)) (step_of x))
+      ≡ flat (record_to id (fixed_of (decode ws) (dispatcher_nth (decode ws) p.d)) (step_of x))
   unfolding record_to fixed_of step_of mark_of mark_at
-  record_read id w p y x q r s t =
+  record_read id w left y x q r s t =
       record_flat _ x.permits t
       (rw s
       (ap₂ {A = StoredMessage} {B = Mark} {C = Dispatch} (λ a b. recorded id a b (step_of x)) message_here r
-      ∙ ap (λ (j : ℕ). recorded id (message_at (ledger_under (decode ws) d) j) (get_or (dispatcher_nth (decode ws) d).marks j new_mark) (step_of x)) (sym q)))
+      ∙ ap (λ (j : ℕ). recorded id (message_at (ledger_under (decode ws) p.d) j) (get_or (dispatcher_nth (decode ws) p.d).marks j new_mark)
+      (step_of x)) (sym q)))
 
 -- one record written
-pub one_filled : {us l : List ℕ} (list : List ℕ) (m : ℕ) (x : Dispatch) → us ≡ (lay l).run (m * 13) list → l ≡ flat x → us ≡ filled list m (x ∷ [])
+pub one_filled : {us l : List ℕ} (list : List ℕ) (x : Dispatch) → us ≡ (lay l).run 0 list → l ≡ flat x → us ≡ filled list 0 (x ∷ [])
 unfolding filled
-one_filled list m x w e = w ∙ ap (λ (z : List ℕ). (lay z).run (m * 13) list) e
+one_filled list x w e = w ∙ ap (λ (z : List ℕ). (lay z).run 0 list) e
 
 -- the record to a consumer found by its slot
 pub record_found : (s : State) (f : Fixed) (id : ℕ) (x : Step) → id ≡ (consumer_nth s x.consumer).id → record_to id f x ≡ record_of s f x
@@ -91,7 +94,10 @@ record_found s f id x e = ap (λ (i : ℕ). record_to i f x) e
 
 -- its entry in flight
 pub flight_found : {us : List ℕ} (ws : List ℕ) (s : State) (d id : ℕ) (x : Step) → id ≡ (consumer_nth s x.consumer).id
-    → us ≡ put ws (set_dispatcher s d (with_places (dispatcher_nth s d) (dispatcher_nth s d).redelivery ((dispatcher_nth s d).in_flight ++ held id x.position ∷ [])))
+    → us ≡ put ws (set_dispatcher s d
+    (with_places (dispatcher_nth s d) (dispatcher_nth s d).redelivery ((dispatcher_nth s d).in_flight ++ held id x.position ∷ [])))
     → us ≡ put ws (set_dispatcher s d (with_places (dispatcher_nth s d) (dispatcher_nth s d).redelivery ((dispatcher_nth s d).in_flight ++ held_of s x ∷ [])))
 unfolding held_of
-flight_found ws s d id x e w = w ∙ ap (λ (i : ℕ). put ws (set_dispatcher s d (with_places (dispatcher_nth s d) (dispatcher_nth s d).redelivery ((dispatcher_nth s d).in_flight ++ held i x.position ∷ [])))) e
+flight_found ws s d id x e w = w
+    ∙ ap (λ (i : ℕ). put ws (set_dispatcher s d
+    (with_places (dispatcher_nth s d) (dispatcher_nth s d).redelivery ((dispatcher_nth s d).in_flight ++ held i x.position ∷ [])))) e

@@ -6,6 +6,7 @@ use mathlib.Core.List.{List, [], ◌∷◌, ◌++◌, map}
 use Prim.Native.Nat.{ℕ, suc, ◌+◌, ◌-◌, ◌*◌, ◌≤◌, ◌<◌}
 use native.Mathlib.Omega.{arith}
 use native.Mathlib.Numerals.{add-one}
+use Rattle.std.proofs.lemmas.List.{take_rest}
 use lib.ListN.{length, get_or, set, drop, length-append, length-map, length-drop, drop_of_length-le}
 use lib.Seq.{drop-cons, append_snoc, set_at, get_or_at}
 use Rattle.words.specs.Codec.{All}
@@ -26,7 +27,7 @@ use Rattle.push_laws.specs.Applied.{record_of, held_of}
 use Rattle.push_laws.specs.Shared.{Service, services, permits_left, service_records, all_service_records, served_dispatcher}
 use Rattle.push_laws.proofs.Shared.{served_sized}
 use Rattle.record.specs.Flat.{filled}
-use Rattle.record.proofs.Filled.{filled_append, filled_length}
+use Rattle.record.proofs.Filled.{filled_append, filled_length, rest}
 use Rattle.push_turn.proofs.Totals.{services_from, services_step}
 use Rattle.push_shared.specs.Service.{service_of, Ready}
 
@@ -58,10 +59,13 @@ pub record Sharing (e : ℕ) (ws ps ls us qs ks : List ℕ) (d m : ℕ) : Type 0
   pub looked : d ≤ length (decode ws).dispatchers
   pub words : us ≡ put ws (with_dispatchers (decode ws) (done ++ drop d (decode ws).dispatchers))
   pub fit : All (ShapedDispatcher (decode ws).entries) (done ++ drop d (decode ws).dispatchers)
-  pub whole : done ++ map (served_dispatcher (decode ws)) (services_from (decode ws) d qs) ≡ map (served_dispatcher (decode ws)) (services (decode ws) (decode ws).dispatchers ps)
+  pub whole : done ++ map (served_dispatcher (decode ws)) (services_from (decode ws) d qs)
+      ≡ map (served_dispatcher (decode ws)) (services (decode ws) (decode ws).dispatchers ps)
   pub ends : permits_left qs (services_from (decode ws) d qs) ≡ permits_left ps (services (decode ws) (decode ws).dispatchers ps)
-  pub records : filled ks m (all_service_records (decode ws) (services_from (decode ws) d qs)) ≡ filled ls 0 (all_service_records (decode ws) (services (decode ws) (decode ws).dispatchers ps))
-  pub count : m + length (all_service_records (decode ws) (services_from (decode ws) d qs)) ≡ length (all_service_records (decode ws) (services (decode ws) (decode ws).dispatchers ps))
+  pub records : filled ks m (all_service_records (decode ws) (services_from (decode ws) d qs))
+      ≡ filled ls 0 (all_service_records (decode ws) (services (decode ws) (decode ws).dispatchers ps))
+  pub count : m + length (all_service_records (decode ws) (services_from (decode ws) d qs))
+      ≡ length (all_service_records (decode ws) (services (decode ws) (decode ws).dispatchers ps))
   pub sized : length qs ≡ length (decode ws).consumers
   pub as_long : length ks ≡ length ls
 
@@ -178,23 +182,29 @@ module _ {e : ℕ} (ws : List ℕ) (spelt : spells ws ≡ true) (E : e ≡ (deco
       counted =
           ap (λ (r : List Service). length (all_service_records s r)) (services_step s qs d l)
           ∙ length-append (service_records s v) (all_service_records s (services_from s (suc d) v.steps.after.permits))
-          ∙ ap (λ (n : ℕ). n + length (all_service_records s (services_from s (suc d) v.steps.after.permits))) (length-map (served s x qs).made (record_of s (fixed_of s x)))
+          ∙ ap (λ (n : ℕ). n + length (all_service_records s (services_from s (suc d) v.steps.after.permits)))
+          (length-map (served s x qs).made (record_of s (fixed_of s x)))
 
-      -- its records have room
-      pub room_next : length (all_service_records s (services s ds ps)) * 13 ≤ length ls
+      -- the list has room for the records up to its own
+      pub room_whole : length (all_service_records s (services s ds ps)) * 13 ≤ length ls
           → (m + length (served (decode us) (dispatcher_nth (decode us) d) qs).made) * 13 ≤ length ks
-      room_next r =
+      room_whole r =
           let a = counted in
           let b = w.count in
           let c = w.as_long in
           rw steps_now (omega (arith, a, b, c, r))
+
+      -- so the rest behind those before it has room for its own
+      pub room_next : length (all_service_records s (services s ds ps)) * 13 ≤ length ls
+          → length (served (decode us) (dispatcher_nth (decode us) d) qs).made * 13 ≤ length (rest (m * 13) ks)
+      room_next r = let a = room_whole r in rw (take_rest ks (m * 13), length-drop (m * 13) ks) (omega (arith, a))
 
       -- it is served
       module _ {vs rs ns : List ℕ} (k : ℕ)
           (a : vs ≡ put us (set_dispatcher (decode us) d (served_dispatcher (decode us) (service_of (decode us) d qs))))
           (b : rs ≡ (served (decode us) (dispatcher_nth (decode us) d) qs).after.permits)
           (c : ns ≡ filled ks m (service_records (decode us) (service_of (decode us) d qs)))
-          (q : k ≡ m + length (served (decode us) (dispatcher_nth (decode us) d) qs).made)
+          (q : k ≡ length (served (decode us) (dispatcher_nth (decode us) d) qs).made)
           (f : ShapedDispatcher e (served_dispatcher (decode us) (service_of (decode us) d qs))) where
         abbrev y : Dispatcher
         y = served_dispatcher s v
@@ -224,11 +234,11 @@ module _ {e : ℕ} (ws : List ℕ) (spelt : spells ws ≡ true) (E : e ≡ (deco
         on : services_from s d qs ≡ v ∷ services_from s (suc d) rs
         on = rw after_on (services_step s qs d l)
 
-        pub sharing_on : Sharing e ws ps ls vs rs ns (d + 1) k
+        pub sharing_on : Sharing e ws ps ls vs rs ns (d + 1) (m + k)
         unfolding permits_left all_service_records service_records
         sharing_on =
             let made : ℕ = length (served s x qs).made in
-            let q' : k ≡ m + made = q ∙ ap (λ (r : Steps). m + length r.made) steps_now in
+            let q' : m + k ≡ m + made = ap (λ (j : ℕ). m + j) (q ∙ ap (λ (r : Steps). length r.made) steps_now) in
             let z : List Dispatch = service_records s v in
             let many : length z ≡ made = length-map (served s x qs).made (record_of s (fixed_of s x)) in
             let before = w.count in

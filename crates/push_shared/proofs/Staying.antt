@@ -16,7 +16,8 @@ use Rattle.operation_laws.proofs.Frame.{decode_after}
 use Rattle.operation_laws.proofs.Moved.{Moved}
 use Rattle.push_laws.specs.Local.{Fixed, Step, fixed_of}
 use Rattle.push_laws.specs.Applied.{record_to, record_of, held_of}
-use Rattle.push_turn.specs.Turns.{Serving, ledger_under}
+use Rattle.push_turn.specs.Turns.{ServedHere, ledger_under}
+use Rattle.push_turn.specs.declared.service.Served as places
 
 module _ {e d : ℕ} {ws us : List ℕ} (flight : List Held) (h : DispatcherIn e ws d)
     (m : Moved e d ws us (with_places (dispatcher_nth (decode ws) d) (dispatcher_nth (decode ws) d).redelivery flight)) where
@@ -61,30 +62,34 @@ module _ {e d : ℕ} {ws us : List ℕ} (flight : List Held) (h : DispatcherIn e
   unfolding set_dispatcher with_dispatchers with_places ledger_of topic_of
   ledger_now = ap₂ {A = State} {B = Dispatcher} {C = List StoredMessage} (λ s z. ledger_of s z.pair.topic) state_now m.now
 
-  -- the dispatcher can be served on
-  pub serving_now : {t n : ℕ} → Serving e ws d t n → Serving e us d t n
-  unfolding with_places
-  serving_now {t} {n} v =
-      let marks_same : (dispatcher_nth (decode us) d).marks ≡ x.marks = ap (λ (z : Dispatcher). z.marks) m.now in
-      let queue_same : (dispatcher_nth (decode us) d).redelivery ≡ x.redelivery = ap (λ (z : Dispatcher). z.redelivery) m.now in
-      let cursor_same : (dispatcher_nth (decode us) d).cursor ≡ x.cursor = ap (λ (z : Dispatcher). z.cursor) m.now in
-      let topic_same : topic_nth (decode us) t ≡ topic_nth (decode ws) t = ap (λ (l : List Topic). get_or l t zero_topic) topics_now in
-      record {
-        here = m.here;
-        ledger_length = v.ledger_length ∙ sym (ap length ledger_now);
-        topic_here =
-            λ a.
-            let b = v.topic_here a in
-            record {
-              canon = m.here.canon;
-              there = rw topics_now b.there;
-              few = b.few;
-              inside = b.inside;
-              messages_fit = rw topic_same b.messages_fit;
-            };
-        ledger_here = λ a. ap (λ (z : Topic). z.messages) topic_same ∙ v.ledger_here a ∙ sym ledger_now;
-        one_mark_each = rw marks_same v.one_mark_each;
-        batches = rw ledger_now v.batches;
-        queue_in_ledger = rw queue_same v.queue_in_ledger;
-        cursor_in_ledger = rw cursor_same v.cursor_in_ledger;
-      }
+-- the dispatcher can be served on
+pub serving_now : {p : places.Served} {ws us : List ℕ} (flight : List Held) → ServedHere p ws
+    → Moved p.e p.d ws us (with_places (dispatcher_nth (decode ws) p.d) (dispatcher_nth (decode ws) p.d).redelivery flight) → ServedHere p us
+unfolding with_places
+serving_now {p} {ws} {us} flight v m =
+    let x = dispatcher_nth (decode ws) p.d in
+    let ledger_same = ledger_now flight v.here m in
+    let topics_same = topics_now flight v.here m in
+    let marks_same : (dispatcher_nth (decode us) p.d).marks ≡ x.marks = ap (λ (z : Dispatcher). z.marks) m.now in
+    let queue_same : (dispatcher_nth (decode us) p.d).redelivery ≡ x.redelivery = ap (λ (z : Dispatcher). z.redelivery) m.now in
+    let cursor_same : (dispatcher_nth (decode us) p.d).cursor ≡ x.cursor = ap (λ (z : Dispatcher). z.cursor) m.now in
+    let topic_same : topic_nth (decode us) p.t ≡ topic_nth (decode ws) p.t = ap (λ (l : List Topic). get_or l p.t zero_topic) topics_same in
+    record {
+      here = m.here;
+      ledger_length = v.ledger_length ∙ sym (ap length ledger_same);
+      topic_here =
+          λ a.
+          let b = v.topic_here a in
+          record {
+            canon = m.here.canon;
+            there = rw topics_same b.there;
+            few = b.few;
+            inside = b.inside;
+            messages_fit = rw topic_same b.messages_fit;
+          };
+      ledger_here = λ a. ap (λ (z : Topic). z.messages) topic_same ∙ v.ledger_here a ∙ sym ledger_same;
+      one_mark_each = rw marks_same v.one_mark_each;
+      batches = rw ledger_same v.batches;
+      queue_in_ledger = rw queue_same v.queue_in_ledger;
+      cursor_in_ledger = rw cursor_same v.cursor_in_ledger;
+    }

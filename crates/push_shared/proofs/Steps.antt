@@ -13,7 +13,8 @@ use Rattle.rules.specs.Table.{Every, is_empty, or_else}
 use Rattle.rules.specs.Push.{slot_after}
 use Rattle.rules.proofs.Table.{by_test}
 use Rattle.operation_laws.proofs.Frame.{every_nth}
-use Rattle.push_laws.specs.Local.{Fixed, Local, Step, Place, LocalTurn, first_with_permits, choose_place, price_of, hand_over, take_entry, serve_place, local_turn}
+use Rattle.push_laws.specs.Local.{Fixed, Local, Step, Place, LocalTurn, first_with_permits, choose_place, price_of, hand_over, take_entry, serve_place}
+use Rattle.push_laws.specs.Local.{local_turn}
 use Rattle.push_laws.specs.Local.LocalTurn.{stop, move}
 use Rattle.push_turn.proofs.Choosing.{some_not_none}
 use Rattle.push_turn.proofs.Handing.{above_in}

@@ -17,7 +17,9 @@ use Rattle.layout.specs.Whole.{ShapedDispatcher}
 use Rattle.layout.specs.Fields.{dispatcher_nth, set_dispatcher}
 use Rattle.layout.specs.Placed.{DispatcherIn}
 use Rattle.operation_laws.proofs.Moved.{Moved, moved_start, moved_on}
-use Rattle.head.specs.declared.Head as numbers
+use Rattle.head.specs.declared.Head as heads
+use Rattle.push_turn.specs.declared.service.Served as places
+use Rattle.push_turn.specs.declared.service.Numbers as moved
 use Rattle.dispatcher.specs.Values.{head_of, with_head}
 use Rattle.push_laws.specs.Local.{Fixed, Local, Step, Steps, local_turn, fixed_of, served}
 use Rattle.push_laws.specs.Local.LocalTurn.{stop, move}
@@ -25,7 +27,7 @@ use Rattle.push_laws.specs.Applied.{record_of, held_of, applied_dispatcher}
 use Rattle.push_laws.specs.Shared.{service_records, served_dispatcher}
 use Rattle.record.specs.Flat.{filled}
 use Rattle.record.proofs.Filled.{filled_length}
-use Rattle.push_turn.specs.Turns.{local_from, Serving}
+use Rattle.push_turn.specs.Turns.{local_from, numbers_from, ServedHere}
 use Rattle.push_shared.specs.Service.{service_of}
 use Rattle.push_turn.proofs.Left.{left, all_turns, turn_lowers, turn_less, stop_in_lists, turns_stop}
 use Rattle.push_turn.proofs.Served.{served_turns}
@@ -52,59 +54,74 @@ records ws d steps = map (record_of (decode ws) (fixed ws d)) steps
 abbrev pub holds : List ℕ → List Step → List Held
 holds ws steps = map (held_of (decode ws)) steps
 
--- from the words ws, the permits ps and the list ls with records up to m: now the words us, and the same for the others
-pub record Writing (e d : ℕ) (ws ps ls : List ℕ) (from : ℕ) (us qs ks : List ℕ) (h : numbers.Head) (taken m : ℕ) : Type 0 where
+-- from the words ws, the permits ps and the list ls: now the words us, and the same for the others, with m records written and
+-- the numbers h
+pub record Writing (p : places.Served) (ws ps ls us qs ks : List ℕ) (h : moved.Numbers) (m : ℕ) : Type 0 where
   pub flight : List Held
-  pub moved : Moved e d ws us (with_places (dispatcher_nth (decode ws) d) (dispatcher_nth (decode ws) d).redelivery flight)
-  pub ranged : Ranged (fixed ws d) (local_from qs h taken)
+  pub moved : Moved p.e p.d ws us (with_places (dispatcher_nth (decode ws) p.d) (dispatcher_nth (decode ws) p.d).redelivery flight)
+  pub ranged : Ranged (fixed ws p.d) (local_from qs h)
   pub sized : length qs ≡ length (decode ws).consumers
-  pub after_same : (rest ws d (local_from qs h taken)).after ≡ (whole ws d ps).after
-  pub flight_same : flight ++ holds ws (rest ws d (local_from qs h taken)).made ≡ (dispatcher_nth (decode ws) d).in_flight ++ holds ws (whole ws d ps).made
-  pub records_same : filled ks m (records ws d (rest ws d (local_from qs h taken)).made) ≡ filled ls from (records ws d (whole ws d ps).made)
-  pub count_same : m + length (rest ws d (local_from qs h taken)).made ≡ from + length (whole ws d ps).made
-  pub room : length flight + left (fixed ws d) (local_from qs h taken) ≤ e
+  pub after_same : (rest ws p.d (local_from qs h)).after ≡ (whole ws p.d ps).after
+  pub flight_same : flight ++ holds ws (rest ws p.d (local_from qs h)).made
+      ≡ (dispatcher_nth (decode ws) p.d).in_flight ++ holds ws (whole ws p.d ps).made
+  pub records_same : filled ks m (records ws p.d (rest ws p.d (local_from qs h)).made) ≡ filled ls 0 (records ws p.d (whole ws p.d ps).made)
+  pub count_same : m + length (rest ws p.d (local_from qs h)).made ≡ length (whole ws p.d ps).made
+  pub room : length flight + left (fixed ws p.d) (local_from qs h) ≤ p.e
   pub as_long : length ks ≡ length ls
-  pub mark_same : h.mark_delete ≡ (dispatcher_nth (decode ws) d).mark_delete
 
-module _ {e d t n : ℕ} {ws : List ℕ} (v : Serving e ws d t n) where
+module _ {p : places.Served} {ws : List ℕ} (v : ServedHere p ws) where
+  abbrev e : ℕ
+  e = p.e
+
+  abbrev d : ℕ
+  d = p.d
+
+  abbrev n : ℕ
+  n = p.n
+
   abbrev x : Dispatcher
   x = dispatcher_nth (decode ws) d
 
   -- ---- at first
 
-  pub writing_start : (ps ls : List ℕ) (from : ℕ) (h : numbers.Head) → h ≡ head_of x → x.next ≤ length (fixed ws d).ring → length ps ≡ length (decode ws).consumers
+  pub writing_start : (ps ls : List ℕ) (h : moved.Numbers) → h ≡ numbers_from (head_of x) → x.next ≤ length (fixed ws d).ring
+      → length ps ≡ length (decode ws).consumers
       → length x.in_flight + (length x.redelivery + (n - x.cursor)) ≤ e
-      → Writing e d ws ps ls from ws ps ls h 0 from
-  unfolding with_places local_from head_of fixed_of
-  writing_start ps ls from h q a b c =
-      let whole_rest : rest ws d (local_from ps h 0) ≡ whole ws d ps =
-      ap (λ (z : numbers.Head). rest ws d (local_from ps z 0)) q ∙ sym (served_turns (decode ws) x ps) in
+      → Writing p ws ps ls ws ps ls h 0
+  unfolding with_places local_from numbers_from head_of fixed_of
+  writing_start ps ls h q a b c =
+      let whole_rest : rest ws d (local_from ps h) ≡ whole ws d ps =
+      ap (λ (z : moved.Numbers). rest ws d (local_from ps z)) q ∙ sym (served_turns (decode ws) x ps) in
       let l = v.ledger_length in
       record {
         flight = x.in_flight;
         moved = moved_start v.here;
-        ranged = record { next_in = rw q a; lists_in = (omega arith, rw (q, ← v.ledger_length) v.cursor_in_ledger); queue_in = rw (← v.ledger_length) v.queue_in_ledger };
+        ranged = rw q (record {
+          next_in = a;
+          lists_in = (omega arith, rw (← v.ledger_length) v.cursor_in_ledger);
+          queue_in =
+              rw (← v.ledger_length) v.queue_in_ledger;
+        });
         sized = b;
         after_same = ap (λ (r : Steps). r.after) whole_rest;
         flight_same = ap (λ (r : Steps). x.in_flight ++ holds ws r.made) whole_rest;
-        records_same = ap (λ (r : Steps). filled ls from (records ws d r.made)) whole_rest;
-        count_same = ap (λ (r : Steps). from + length r.made) whole_rest;
+        records_same = ap (λ (r : Steps). filled ls 0 (records ws d r.made)) whole_rest;
+        count_same = rw whole_rest (omega arith);
         room = rw q (omega (arith, c, l));
         as_long = refl;
-        mark_same = ap (λ (z : numbers.Head). z.mark_delete) q;
       }
 
-  module _ {ps ls us qs ks : List ℕ} {from : ℕ} {h : numbers.Head} {taken m : ℕ} (w : Writing e d ws ps ls from us qs ks h taken m) where
+  module _ {ps ls us qs ks : List ℕ} {h : moved.Numbers} {m : ℕ} (w : Writing p ws ps ls us qs ks h m) where
     -- the numbers as they are
     abbrev l : Local
-    l = local_from qs h taken
+    l = local_from qs h
 
     -- what the turns read of the store as it is
     fixed_same : fixed us d ≡ fixed ws d
     fixed_same = fixed_now w.flight v.here w.moved
 
-    pub serving_on : Serving e us d t n
-    serving_on = serving_now w.flight v.here w.moved v
+    pub serving_on : ServedHere p us
+    serving_on = serving_now w.flight v w.moved
 
     pub ring_on : {ring : List ℕ} → ring ≡ (fixed ws d).ring → ring ≡ (fixed us d).ring
     ring_on q = q ∙ sym (ap (λ (f : Fixed). f.ring) fixed_same)
@@ -125,18 +142,18 @@ module _ {e d t n : ℕ} {ws : List ℕ} (v : Serving e ws d t n) where
 
     -- ---- a turn that hands out an entry
 
-    module _ (z : Step) (rs : List ℕ) (k : numbers.Head) (count : ℕ) (told : move z (local_from rs k count) ≡ local_turn (fixed us d) l) where
-      turned : local_turn (fixed ws d) l ≡ move z (local_from rs k count)
+    module _ (z : Step) (rs : List ℕ) (k : moved.Numbers) (told : move z (local_from rs k) ≡ local_turn (fixed us d) l) where
+      turned : local_turn (fixed ws d) l ≡ move z (local_from rs k)
       turned = ap (λ (f : Fixed). local_turn f l) (sym fixed_same) ∙ sym told
 
-      moves : Moves (fixed ws d) l z (local_from rs k count)
-      moves = turn_moves (fixed ws d) l w.ranged z (local_from rs k count) turned
+      moves : Moves (fixed ws d) l z (local_from rs k)
+      moves = turn_moves (fixed ws d) l w.ranged z (local_from rs k) turned
 
-      lower : suc (left (fixed ws d) (local_from rs k count)) ≡ left (fixed ws d) l
-      lower = turn_lowers (fixed ws d) l z (local_from rs k count) turned
+      lower : suc (left (fixed ws d) (local_from rs k)) ≡ left (fixed ws d) l
+      lower = turn_lowers (fixed ws d) l z (local_from rs k) turned
 
-      on : rest ws d l ≡ record { made = z ∷ (rest ws d (local_from rs k count)).made; after = (rest ws d (local_from rs k count)).after }
-      on = turns_on (fixed ws d) l w.ranged z (local_from rs k count) turned
+      on : rest ws d l ≡ record { made = z ∷ (rest ws d (local_from rs k)).made; after = (rest ws d (local_from rs k)).after }
+      on = turns_on (fixed ws d) l w.ranged z (local_from rs k) turned
 
       -- the entry is one of the ledger
       pub entry_in : z.position < n
@@ -153,24 +170,26 @@ module _ {e d t n : ℕ} {ws : List ℕ} (v : Serving e ws d t n) where
       flight_room = let a = w.room in let b = lower in rw flight_now (omega (arith, a, b))
 
       -- and for its record
-      pub list_room : (from + length (whole ws d ps).made) * 13 ≤ length ls → m * 13 + 13 ≤ length ks
+      pub list_room : length (whole ws d ps).made * 13 ≤ length ls → m * 13 + 13 ≤ length ks
       list_room r =
           let a = w.count_same in
-          let b : length (rest ws d l).made ≡ suc (length (rest ws d (local_from rs k count)).made) = ap (λ (s : Steps). length s.made) on in
+          let b : length (rest ws d l).made ≡ suc (length (rest ws d (local_from rs k)).made) = ap (λ (s : Steps). length s.made) on in
           let c = w.as_long in
           omega (arith, a, b, c, r)
 
       -- one entry less is left
-      pub left_on : left (fixed ws d) (local_from rs k count) < left (fixed ws d) l
-      left_on = turn_less (fixed ws d) l z (local_from rs k count) turned
+      pub left_on : left (fixed ws d) (local_from rs k) < left (fixed ws d) l
+      left_on = turn_less (fixed ws d) l z (local_from rs k) turned
 
       -- it is written
       pub writing_on : {vs ns : List ℕ}
-          → vs ≡ put us (set_dispatcher (decode us) d (with_places (dispatcher_nth (decode us) d) (dispatcher_nth (decode us) d).redelivery ((dispatcher_nth (decode us) d).in_flight ++ held_of (decode us) z ∷ [])))
-          → ns ≡ filled ks m (record_of (decode us) (fixed us d) z ∷ []) → k.mark_delete ≡ h.mark_delete
-          → Writing e d ws ps ls from vs rs ns k count (m + 1)
+          → vs ≡ put us (set_dispatcher (decode us) d
+          (with_places (dispatcher_nth (decode us) d) (dispatcher_nth (decode us) d).redelivery
+          ((dispatcher_nth (decode us) d).in_flight ++ held_of (decode us) z ∷ [])))
+          → ns ≡ filled ks m (record_of (decode us) (fixed us d) z ∷ [])
+          → Writing p ws ps ls vs rs ns k (m + 1)
       unfolding with_places local_from filled
-      writing_on {vs} {ns} a b same_mark =
+      writing_on {vs} {ns} a b =
           let y : Held = held_of (decode ws) z in
           let r : Dispatch = record_of (decode ws) (fixed ws d) z in
           let g : Dispatcher → Dispatcher = λ q. with_places q q.redelivery (q.in_flight ++ y ∷ []) in
@@ -179,20 +198,29 @@ module _ {e d t n : ℕ} {ws : List ℕ} (v : Serving e ws d t n) where
           let some = w.room in
           let less = lower in
           let fits : ShapedDispatcher e (with_places x x.redelivery (w.flight ++ y ∷ [])) =
-          record { ring_fits = f.ring_fits; outside_fits = f.outside_fits; queue_fits = f.queue_fits; flight_fits = omega (arith, more, some, less); marks_fit = f.marks_fit } in
+          record {
+            ring_fits = f.ring_fits;
+            outside_fits = f.outside_fits;
+            queue_fits = f.queue_fits;
+            flight_fits =
+                omega (arith, more, some, less);
+            marks_fit = f.marks_fit;
+          } in
           let a' : vs ≡ put us (set_dispatcher (decode us) d (g (dispatcher_nth (decode us) d))) =
-          a ∙ ap (λ (q : Held). put us (set_dispatcher (decode us) d (with_places (dispatcher_nth (decode us) d) (dispatcher_nth (decode us) d).redelivery ((dispatcher_nth (decode us) d).in_flight ++ q ∷ [])))) (held_now w.flight v.here w.moved z) in
+          a ∙ ap (λ (q : Held). put us (set_dispatcher (decode us) d
+          (with_places (dispatcher_nth (decode us) d) (dispatcher_nth (decode us) d).redelivery
+          ((dispatcher_nth (decode us) d).in_flight ++ q ∷ [])))) (held_now w.flight v.here w.moved z) in
           let same : record_of (decode us) (fixed us d) z ≡ r =
           record_now w.flight v.here w.moved (fixed us d) z ∙ ap (λ (q : Fixed). record_of (decode ws) q z) fixed_same in
           let b' : ns ≡ (lay (flat r)).run (m * 13) ks = b ∙ ap (λ (q : Dispatch). (lay (flat q)).run (m * 13) ks) same in
-          let now : List Step = (rest ws d (local_from rs k count)).made in
+          let now : List Step = (rest ws d (local_from rs k)).made in
           let made_on : (rest ws d l).made ≡ z ∷ now = ap (λ (s : Steps). s.made) on in
           let counted = w.count_same in
           let longer : length (rest ws d l).made ≡ suc (length now) = ap (λ (s : List Step). length s) made_on in
           record {
             flight = w.flight ++ y ∷ [];
             moved = moved_on v.here w.moved g fits a';
-            ranged = ranged_on (fixed ws d) l w.ranged z (local_from rs k count) turned;
+            ranged = ranged_on (fixed ws d) l w.ranged z (local_from rs k) turned;
             sized = moves.sized ∙ w.sized;
             after_same = sym (ap (λ (s : Steps). s.after) on) ∙ w.after_same;
             flight_same =
@@ -203,42 +231,36 @@ module _ {e d t n : ℕ} {ws : List ℕ} (v : Serving e ws d t n) where
             count_same = omega (arith, counted, longer);
             room = omega (arith, more, some, less);
             as_long = ap length b ∙ filled_length ks m (record_of (decode us) (fixed us d) z ∷ []) ∙ w.as_long;
-            mark_same = same_mark ∙ w.mark_same;
           }
 
     -- ---- the turn that stops
 
-    module _ (rs : List ℕ) (k : numbers.Head) (count : ℕ) (told : stop (local_from rs k count) ≡ local_turn (fixed us d) l) where
-      stopped : local_turn (fixed ws d) l ≡ stop (local_from rs k count)
+    module _ (rs : List ℕ) (k : moved.Numbers) (told : stop (local_from rs k) ≡ local_turn (fixed us d) l) where
+      stopped : local_turn (fixed ws d) l ≡ stop (local_from rs k)
       stopped = ap (λ (f : Fixed). local_turn f l) (sym fixed_same) ∙ sym told
 
-      done : rest ws d l ≡ record { made = []; after = local_from rs k count }
-      done = turns_stop (fixed ws d) l (left (fixed ws d) l) (local_from rs k count) stopped
+      done : rest ws d l ≡ record { made = []; after = local_from rs k }
+      done = turns_stop (fixed ws d) l (left (fixed ws d) l) (local_from rs k) stopped
 
       -- no more was taken off the queue than it has
-      pub taken_there : count ≤ length (dispatcher_nth (decode us) d).redelivery
+      pub taken_there : k.taken ≤ length (dispatcher_nth (decode us) d).redelivery
       unfolding local_from fixed_of
-      taken_there = rw queue_now (stop_in_lists (fixed ws d) l (local_from rs k count) w.ranged.lists_in stopped).0
+      taken_there = rw queue_now (stop_in_lists (fixed ws d) l (local_from rs k) w.ranged.lists_in stopped).0
 
-      -- mark-delete is as it was
-      pub mark_there : k.mark_delete ≡ h.mark_delete → k.mark_delete ≡ (dispatcher_nth (decode us) d).mark_delete
-      unfolding with_places
-      mark_there q = q ∙ w.mark_same ∙ sym (ap (λ (z : Dispatcher). z.mark_delete) w.moved.now)
-
-      last : local_from rs k count ≡ (whole ws d ps).after
+      last : local_from rs k ≡ (whole ws d ps).after
       last = sym (ap (λ (s : Steps). s.after) done) ∙ w.after_same
 
       pub permits_end : rs ≡ (whole ws d ps).after.permits
       unfolding local_from
       permits_end = ap (λ (q : Local). q.permits) last
 
-      pub count_end : m ≡ from + length (whole ws d ps).made
+      pub count_end : m ≡ length (whole ws d ps).made
       count_end =
           let a : length (rest ws d l).made ≡ 0 = ap (λ (s : Steps). length s.made) done in
           let b = w.count_same in
           omega (arith, a, b)
 
-      pub records_end : ks ≡ filled ls from (service_records (decode ws) (service_of (decode ws) d ps))
+      pub records_end : ks ≡ filled ls 0 (service_records (decode ws) (service_of (decode ws) d ps))
       unfolding filled service_records
       records_end = sym (ap (λ (s : Steps). filled ks m (records ws d s.made)) done) ∙ w.records_same
 
@@ -247,7 +269,7 @@ module _ {e d t n : ℕ} {ws : List ℕ} (v : Serving e ws d t n) where
 
       -- what the last writes make of the dispatcher
       abbrev g : Dispatcher → Dispatcher
-      g q = applied_dispatcher q (local_from [] k count) []
+      g q = applied_dispatcher q (local_from [] k) []
 
       -- its lists fit
       fits : ShapedDispatcher e (g (with_places x x.redelivery w.flight))
@@ -256,7 +278,7 @@ module _ {e d t n : ℕ} {ws : List ℕ} (v : Serving e ws d t n) where
           let f = v.here.lists_fit in
           let b : length w.flight ≤ e = let q = w.room in omega (arith, q) in
           let c : length (w.flight ++ []) ≤ e = rw (append-nil w.flight) b in
-          let fewer : length (drop count x.redelivery) ≤ e = rw (length-drop count x.redelivery) (let q = f.queue_fits in omega (arith, q)) in
+          let fewer : length (drop k.taken x.redelivery) ≤ e = rw (length-drop k.taken x.redelivery) (let q = f.queue_fits in omega (arith, q)) in
           record { ring_fits = f.ring_fits; outside_fits = f.outside_fits; queue_fits = fewer; flight_fits = c; marks_fit = f.marks_fit }
 
       -- it is the dispatcher as its service leaves it
@@ -270,42 +292,55 @@ module _ {e d t n : ℕ} {ws : List ℕ} (v : Serving e ws d t n) where
       pub fits_end : ShapedDispatcher e (served_dispatcher (decode ws) (service_of (decode ws) d ps))
       fits_end = subst (λ (q : Dispatcher). ShapedDispatcher e q) served_end fits
 
-      pub words_end : {vs : List ℕ} → vs ≡ put us (set_dispatcher (decode us) d (applied_dispatcher (dispatcher_nth (decode us) d) (local_from [] k count) []))
+      pub words_end : {vs : List ℕ} → vs ≡ put us (set_dispatcher (decode us) d (applied_dispatcher (dispatcher_nth (decode us) d) (local_from [] k) []))
           → vs ≡ put ws (set_dispatcher (decode ws) d (served_dispatcher (decode ws) (service_of (decode ws) d ps)))
       words_end {vs} a = (moved_on v.here w.moved g fits a).words ∙ ap (λ (q : Dispatcher). put ws (set_dispatcher (decode ws) d q)) served_end
 
 -- ---- the end of a service
 
-module _ {e d : ℕ} {ws us : List ℕ} (taken : ℕ) (h : DispatcherIn e ws d)
-    (a : us ≡ put ws (set_dispatcher (decode ws) d (with_places (dispatcher_nth (decode ws) d) (drop taken (dispatcher_nth (decode ws) d).redelivery) (dispatcher_nth (decode ws) d).in_flight))) where
+module _ {e d : ℕ} {ws us : List ℕ} (k : moved.Numbers) (h : DispatcherIn e ws d)
+    (a : us ≡ put ws (set_dispatcher (decode ws) d
+    (with_places (dispatcher_nth (decode ws) d) (drop k.taken (dispatcher_nth (decode ws) d).redelivery) (dispatcher_nth (decode ws) d).in_flight))) where
   -- the queue dropped
-  dropped : Moved e d ws us (with_places (dispatcher_nth (decode ws) d) (drop taken (dispatcher_nth (decode ws) d).redelivery) (dispatcher_nth (decode ws) d).in_flight)
+  dropped : Moved e d ws us (with_places (dispatcher_nth (decode ws) d) (drop k.taken (dispatcher_nth (decode ws) d).redelivery)
+      (dispatcher_nth (decode ws) d).in_flight)
   unfolding with_places
   dropped =
       let x = dispatcher_nth (decode ws) d in
       let f = h.lists_fit in
-      let fewer : length (drop taken x.redelivery) ≤ e = rw (length-drop taken x.redelivery) (let q = f.queue_fits in omega (arith, q)) in
-      moved_on h (moved_start h) (λ q. with_places q (drop taken q.redelivery) q.in_flight)
+      let fewer : length (drop k.taken x.redelivery) ≤ e = rw (length-drop k.taken x.redelivery) (let q = f.queue_fits in omega (arith, q)) in
+      moved_on h (moved_start h) (λ q. with_places q (drop k.taken q.redelivery) q.in_flight)
       (record { ring_fits = f.ring_fits; outside_fits = f.outside_fits; queue_fits = fewer; flight_fits = f.flight_fits; marks_fit = f.marks_fit }) a
 
   -- the dispatcher is still there
   pub dropped_in : DispatcherIn e us d
   dropped_in = dropped.here
 
-  -- then the numbers stored
-  pub finished : {vs : List ℕ} (k : numbers.Head) → k.mark_delete ≡ (dispatcher_nth (decode ws) d).mark_delete
-      → vs ≡ put us (set_dispatcher (decode us) d (with_head (dispatcher_nth (decode us) d) k))
-      → vs ≡ put ws (set_dispatcher (decode ws) d (applied_dispatcher (dispatcher_nth (decode ws) d) (local_from [] k taken) []))
+  -- the four numbers that are stored
+  abbrev stored : ℕ → heads.Head
+  stored mark_delete = record { next = k.next; cursor = k.cursor; mark_delete = mark_delete; total_available_permits = k.total_available_permits }
+
+  -- then these stored
+  pub finished : {vs : List ℕ} {mark_delete : ℕ} → mark_delete ≡ (dispatcher_nth (decode us) d).mark_delete
+      → vs ≡ put us (set_dispatcher (decode us) d (with_head (dispatcher_nth (decode us) d) (stored mark_delete)))
+      → vs ≡ put ws (set_dispatcher (decode ws) d (applied_dispatcher (dispatcher_nth (decode ws) d) (local_from [] k) []))
   unfolding with_places with_head applied_dispatcher local_from
-  finished {vs} k same b =
+  finished {vs} {mark_delete} same b =
       let x = dispatcher_nth (decode ws) d in
       let f = dropped.here.lists_fit in
-      let z : Dispatcher = with_places x (drop taken x.redelivery) x.in_flight in
+      let z : Dispatcher = with_places x (drop k.taken x.redelivery) x.in_flight in
       let g : ShapedDispatcher e z = rw (← dropped.now) f in
-      (moved_on h dropped (λ p. with_head p k)
-      (record { ring_fits = g.ring_fits; outside_fits = g.outside_fits; queue_fits = g.queue_fits; flight_fits = g.flight_fits; marks_fit = g.marks_fit }) b).words
+      (moved_on h dropped (λ p. with_head p (stored mark_delete))
+      (record {
+        ring_fits = g.ring_fits;
+        outside_fits = g.outside_fits;
+        queue_fits = g.queue_fits;
+        flight_fits = g.flight_fits;
+        marks_fit =
+            g.marks_fit;
+      }) b).words
       ∙ ap₂ {A = ℕ} {B = List Held} {C = List ℕ}
       (λ n i.
       put ws (set_dispatcher (decode ws) d
-      (of_parts x.pair x.attached k.next k.cursor n k.total_available_permits (drop taken x.redelivery) i x.marks x.outside)))
-      same (sym (append-nil x.in_flight))
+      (of_parts x.pair x.attached k.next k.cursor n k.total_available_permits (drop k.taken x.redelivery) i x.marks x.outside)))
+      (same ∙ ap (λ (z : Dispatcher). z.mark_delete) dropped.now) (sym (append-nil x.in_flight))

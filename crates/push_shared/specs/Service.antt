@@ -1,5 +1,5 @@
 -- The service of a dispatcher of a state, named by its place.
-use Rattle.std.specs.Prelude.{◌≡◌, ℕ, ◌+◌, List, length}
+use Rattle.std.specs.Prelude.{◌≡◌, ℕ, List, length}
 use Rattle.rules.specs.Table.{Every}
 use Rattle.rules.specs.State.{Dispatcher, State}
 use Rattle.rules.specs.Outcome.{Dispatch}
@@ -31,11 +31,11 @@ pub record Ready (e : ℕ) (ws : List ℕ) (d : ℕ) : Type 0 where
   pub dispatcher_valid : ValidDispatcher (decode ws) (dispatcher_nth (decode ws) d)
   pub topics_valid : Every (ValidTopic (decode ws).entries) (decode ws).topics
 
--- a service of dispatcher d is written, from some words, permits and list: the words, permits and list after it, and the
--- number of the record after its last
-pub record Written (e : ℕ) (ws : List ℕ) (d : ℕ) (ps ls : List ℕ) (from : ℕ) (us qs ks : List ℕ) (m : ℕ) : Type 0 where
-  pub value : m ≡ from + length (served_now ws d ps).made
+-- a service of dispatcher d is written, from some words, permits and list: the words, permits and list after it, and how many
+-- records it made, with which the list begins
+pub record Written (e : ℕ) (ws : List ℕ) (d : ℕ) (ps ls us qs ks : List ℕ) (made : ℕ) : Type 0 where
+  pub value : made ≡ length (served_now ws d ps).made
   pub words : us ≡ put_dispatcher_at ws d (dispatcher_served ws d ps)
   pub permits : qs ≡ (served_now ws d ps).after.permits
-  pub records : ks ≡ filled ls from (records_served ws d ps)
+  pub records : ks ≡ filled ls 0 (records_served ws d ps)
   pub fits : ShapedDispatcher e (dispatcher_served ws d ps)

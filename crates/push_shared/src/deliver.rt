@@ -1,5 +1,5 @@
-// One dispatch written: its record in the lent list, its entry at the end of what is in flight.
-ghost use Rattle.std.specs.Prelude.{◌≡◌, cond, ◌++◌, ◌∷◌, [], ◌+◌, ◌*◌, ◌≤◌, ◌<◌, length};
+// One dispatch written: its record to the start of a lent list, its entry at the end of what is in flight.
+ghost use Rattle.std.specs.Prelude.{◌≡◌, cond, ◌++◌, ◌∷◌, [], ◌≤◌, ◌<◌, length};
 ghost use Rattle.bits.specs.Bits.{bits_empty, word_count};
 ghost use Rattle.bits.specs.Four.{words};
 ghost use Rattle.rules.specs.Dispatcher.{with_places};
@@ -54,18 +54,18 @@ fn record_to(store: &[u64], served: Served, id: u64, step: Step) -> Dispatch
     }
 }
 
-// Record `m` of the list is that of a step of a dispatcher, and its entry is in flight.
-pub(crate) fn deliver(store: &mut [u64], served: Served, list: &mut [u64], m: usize, step: Step)
+// The first record of the list becomes that of a step of a dispatcher, and its entry is in flight.
+pub(crate) fn deliver(store: &mut [u64], served: Served, list: &mut [u64], step: Step)
     requires { ServedHere served store.old × (step.position < served.n) × (step.consumer < length (decode store.old).consumers)
-        × (length (dispatcher_now store.old served.d).in_flight < served.e) × (m * 13 + 13 ≤ length list.old) }
+        × (length (dispatcher_now store.old served.d).in_flight < served.e) × (13 ≤ length list.old) }
     ensures words { store.new ≡ dispatcher_changed store.old served.d
         (λ x. with_places x x.redelivery (x.in_flight ++ held_of (decode store.old) (step_of step) ∷ [])) }
-    ensures records { list.new ≡ filled list.old m
+    ensures records { list.new ≡ filled list.old 0
         (record_of (decode store.old) (fixed_now store.old served.d) (step_of step) ∷ []) }
 {
     let id = consumer_id(store, served.e, step.consumer);
     let k = step.position;
     let record = record_to(store, served, id, step);
-    write_record(list, m, record);
+    write_record(list, record);
     append_flight(store, served.e, served.d, id, k);
 }

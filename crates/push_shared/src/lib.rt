@@ -16,9 +16,10 @@ ghost use Rattle.push_laws.specs.Shared.{services, permits_left, served_dispatch
 ghost use Rattle.push_turn.specs.Turns.{services_now, shared_records_now};
 
 use dispatcher::table::dispatcher_count;
+use record::RECORD_WORDS;
 use serve::serve_dispatcher;
 
-// Serves every dispatcher, with records from the first on; the answer is how many were written.
+// Serves every dispatcher. The list begins with the records; the answer is how many there are.
 pub fn push_pending_shared(
     store: &mut [u64],
     e: usize,
@@ -36,9 +37,9 @@ pub fn push_pending_shared(
         (map (served_dispatcher (decode store.old)) (services_now store.old permits.old)) }
 {
     let n = dispatcher_count(store, e);
-    let mut m = 0;
+    let mut made = 0;
     for d in 0..n {
-        m = serve_dispatcher(store, e, d, permits, list, m);
+        made += serve_dispatcher(store, e, d, permits, &mut list[made * RECORD_WORDS..]);
     }
-    m
+    made
 }

@@ -12,7 +12,8 @@ use Rattle.rules.specs.Permits.{above_zero}
 use Rattle.rules.specs.Table.{is_empty, or_else}
 use Rattle.rules.specs.Push.{slot_after}
 use Rattle.rules.proofs.Table.{by_test}
-use Rattle.push_laws.specs.Local.{Fixed, Local, Step, Place, LocalTurn, Steps, first_with_permits, choose_place, hand_over, take_entry, serve_place, local_turn, then_turns, local_turns}
+use Rattle.push_laws.specs.Local.{Fixed, Local, Step, Place, LocalTurn, Steps, first_with_permits, choose_place, hand_over, take_entry, serve_place}
+use Rattle.push_laws.specs.Local.{local_turn, then_turns, local_turns}
 use Rattle.push_laws.specs.Local.LocalTurn.{stop, move}
 use Rattle.push_turn.proofs.Choosing.{some_not_none}
 

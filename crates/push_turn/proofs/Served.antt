@@ -23,7 +23,7 @@ use Rattle.operation_laws.proofs.Frame.{every_nth, valid_now, canon_of}
 use Rattle.dispatcher.specs.Values.{head_of}
 use Rattle.push_laws.specs.Local.{fixed_of, local_of, turns_of, local_turns, served}
 use Rattle.push_turn.specs.declared.service.Served as places
-use Rattle.push_turn.specs.Turns.{Serving, ServedHere, served_in, ledger_under, local_from}
+use Rattle.push_turn.specs.Turns.{ServedHere, served_in, served_now, local_from, numbers_from}
 use Rattle.push_turn.proofs.Left.{all_turns, made_few}
 
 module _ (s : State) (topic : ℕ) where
@@ -31,7 +31,8 @@ module _ (s : State) (topic : ℕ) where
   topic_exists : 0 < length (ledger_of s topic) → slot by_number topic s.topics < length s.topics
   topic_exists h =
       by_test (ltb (slot by_number topic s.topics) (length s.topics)) (λ t. ltb-true _ _ t)
-      (λ t. let n = ap (λ (l : List StoredMessage). length l) (ledger_none s topic (ltb-false (slot by_number topic s.topics) (length s.topics) t)) in absurd (omega arith))
+      (λ t. let n = ap (λ (l : List StoredMessage). length l)
+      (ledger_none s topic (ltb-false (slot by_number topic s.topics) (length s.topics) t)) in absurd (omega arith))
 
   -- the batches of a ledger are small
   batches_small : Every (ValidTopic s.entries) s.topics → Every (λ (m : StoredMessage). m.batch_size ≤ 256) (ledger_of s topic)
@@ -43,21 +44,21 @@ module _ (s : State) (topic : ℕ) where
 
 module _ {e d : ℕ} {ws : List ℕ} (here : DispatcherIn e ws d) (v : ValidDispatcher (decode ws) (dispatcher_nth (decode ws) d)) where
   -- a dispatcher that obeys the rules can be served
-  pub serving_valid : Every (ValidTopic (decode ws).entries) (decode ws).topics → (t n : ℕ)
-      → t ≡ slot by_number (dispatcher_nth (decode ws) d).pair.topic (decode ws).topics → n ≡ length (ledger_under (decode ws) d)
-      → Serving e ws d t n
-  serving_valid topics t n q m =
+  pub serving_valid : Every (ValidTopic (decode ws).entries) (decode ws).topics → ServedHere (served_in (decode ws) e d) ws
+  unfolding served_in
+  serving_valid topics =
       let o = v.entry_marks.one_each in
       let b = v.cursor_in_ledger in
       let topic : ℕ = (dispatcher_nth (decode ws) d).pair.topic in
       record {
         here = here;
-        ledger_length = m;
-        topic_here = λ h. topic_in here.canon t (rw q (topic_exists (decode ws) topic (omega arith)));
-        ledger_here = λ h. rw q (sym (ledger_at (decode ws) topic (topic_exists (decode ws) topic (omega arith))));
+        ledger_length = refl;
+        topic_here = λ h. topic_in here.canon _ (topic_exists (decode ws) topic h);
+        ledger_here = λ h. sym (ledger_at (decode ws) topic (topic_exists (decode ws) topic h));
         one_mark_each = omega arith;
         batches = batches_small (decode ws) topic topics;
-        queue_in_ledger = λ k i. let l = every_right (map (λ (h : Held). h.position) (dispatcher_nth (decode ws) d).in_flight) (dispatcher_nth (decode ws) d).redelivery v.places.places_below_cursor k i in omega arith;
+        queue_in_ledger = λ k i. let l = every_right (map (λ (h : Held). h.position) (dispatcher_nth (decode ws) d).in_flight)
+            (dispatcher_nth (decode ws) d).redelivery v.places.places_below_cursor k i in omega arith;
         cursor_in_ledger = omega arith;
       }
 
@@ -74,9 +75,8 @@ module _ (ws : List ℕ) (d : ℕ) (spelt : spells ws ≡ true) (there : d < len
   served_valid = every_nth (decode ws).dispatchers d zero_dispatcher (valid_now ws spelt).tables.each_dispatcher there
 
   -- it can be served
-  pub serving_now : (e t n : ℕ) → e ≡ (decode ws).entries → t ≡ slot by_number (dispatcher_nth (decode ws) d).pair.topic (decode ws).topics → n ≡ length (ledger_under (decode ws) d)
-      → Serving e ws d t n
-  serving_now e t n E q m = serving_valid (dispatcher_in (canon_of e ws spelt E) d there) served_valid (valid_now ws spelt).tables.each_topic t n q m
+  pub serving_now : (e : ℕ) → e ≡ (decode ws).entries → ServedHere (served_in (decode ws) e d) ws
+  serving_now e E = serving_valid (dispatcher_in (canon_of e ws spelt E) d there) served_valid (valid_now ws spelt).tables.each_topic
 
   -- it is there, and its ring is short
   pub served_here : (e : ℕ) → e ≡ (decode ws).entries → DispatcherIn e ws d
@@ -87,8 +87,7 @@ module _ (ws : List ℕ) (d : ℕ) (spelt : spells ws ≡ true) (there : d < len
 
   -- what is looked up is it
   pub serving_found : (e : ℕ) → e ≡ (decode ws).entries → (x : places.Served) → x ≡ served_in (decode ws) e d → ServedHere x ws
-  unfolding served_in
-  serving_found e E x q = rw q (serving_now e _ _ E refl refl)
+  serving_found e E x q = rw q (serving_now e E)
 
   -- next lies in the ring
   pub next_in_ring : (e : ℕ) → e ≡ (decode ws).entries → (dispatcher_nth (decode ws) d).next ≤ length (dispatcher_nth (decode ws) d).attached
@@ -100,17 +99,23 @@ unfolding served_in
 found_at s e d q = ap (λ (y : places.Served). y.d) q
 
 -- a service has at most a step for each entry of the queue and the ledger, and one more turn
-pub served_few : (e : ℕ) (ws : List ℕ) (d t n : ℕ) (permits : List ℕ) → Serving e ws d t n
-    → length (served (decode ws) (dispatcher_nth (decode ws) d) permits).made ≤ 8193
+pub served_few : {x : places.Served} {ws : List ℕ} (permits : List ℕ) → ServedHere x ws → length (served_now ws x.d permits).made ≤ 8193
 unfolding served turns_of
-served_few e ws d t n permits h =
-    let f = made_few (turns_of (decode ws) (dispatcher_nth (decode ws) d)) (fixed_of (decode ws) (dispatcher_nth (decode ws) d)) (local_of (dispatcher_nth (decode ws) d) permits) in
+served_few {x} {ws} permits h =
+    let f = made_few (turns_of (decode ws) (dispatcher_nth (decode ws) x.d)) (fixed_of (decode ws) (dispatcher_nth (decode ws) x.d))
+    (local_of (dispatcher_nth (decode ws) x.d) permits) in
     let q = h.here.lists_fit.queue_fits in
     let m = h.here.lists_fit.marks_fit in
     let o = h.one_mark_each in
     let l = h.ledger_length in
     let b = h.here.canon.E_to in
     omega arith
+
+-- and so has that of a dispatcher of a store that spells a state
+pub served_small : (ws : List ℕ) (d : ℕ) → spells ws ≡ true → d < length (decode ws).dispatchers → (e : ℕ) → e ≡ (decode ws).entries → (permits : List ℕ)
+    → length (served_now ws d permits).made ≤ 8193
+unfolding served_in
+served_small ws d spelt there e E permits = served_few {x = served_in (decode ws) e d} permits (serving_now ws d spelt there e E)
 
 -- a ring as slots is as long as the ring
 pub ring_length : (s : State) (d : Dispatcher) → length (fixed_of s d).ring ≡ length d.attached
@@ -119,13 +124,14 @@ ring_length s d = length-map d.attached (λ (i : ℕ). slot by_id i s.consumers)
 
 module _ (s : State) (d : Dispatcher) (permits : List ℕ) where
   -- the numbers at the start are those in the store
-  pub start_numbers : local_from permits (head_of d) 0 ≡ local_of d permits
-  unfolding local_from head_of local_of
+  pub start_numbers : local_from permits (numbers_from (head_of d)) ≡ local_of d permits
+  unfolding local_from numbers_from head_of local_of
   start_numbers = refl
 
   -- a service is all the turns from there
-  pub served_turns : served s d permits ≡ all_turns (fixed_of s d) (local_from permits (head_of d) 0)
-  unfolding served turns_of local_from head_of local_of fixed_of
+  pub served_turns : served s d permits ≡ all_turns (fixed_of s d) (local_from permits (numbers_from (head_of d)))
+  unfolding served turns_of local_from numbers_from head_of local_of fixed_of
   served_turns =
-      let n : suc (length d.redelivery + (length (ledger_of s d.pair.topic) - d.cursor)) ≡ suc (length d.redelivery - 0 + (length (ledger_of s d.pair.topic) - d.cursor)) = omega arith in
+      let n : suc (length d.redelivery + (length (ledger_of s d.pair.topic) - d.cursor))
+      ≡ suc (length d.redelivery - 0 + (length (ledger_of s d.pair.topic) - d.cursor)) = omega arith in
       ap (λ (k : ℕ). local_turns k (fixed_of s d) (local_of d permits)) n

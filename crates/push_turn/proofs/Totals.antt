@@ -30,7 +30,8 @@ module _ (s : State) where
   -- the service of a dispatcher and those after it
   pub services_step : (permits : List ℕ) (d : ℕ) → d < length s.dispatchers
       → services_from d permits
-      ≡ record { dispatcher = dispatcher_nth s d; steps = served s (dispatcher_nth s d) permits } ∷ services_from (suc d) (served s (dispatcher_nth s d) permits).after.permits
+      ≡ record { dispatcher = dispatcher_nth s d; steps = served s (dispatcher_nth s d) permits } ∷ services_from (suc d)
+      (served s (dispatcher_nth s d) permits).after.permits
   unfolding services
   services_step permits d k = ap (λ (l : List Dispatcher). services s l permits) (drop-cons s.dispatchers d zero_dispatcher k)
 

@@ -12,7 +12,7 @@ use Rattle.layout.specs.Placed.{TopicIn, DispatcherIn}
 use Rattle.push_laws.specs.Local.{Fixed, Local, Step, Place, LocalTurn, Steps, first_with_permits, fixed_of, served}
 use Rattle.push_laws.specs.Local.LocalTurn.{stop, move}
 use Rattle.push_laws.specs.Shared.{Service, services, all_service_records}
-use Rattle.head.specs.declared.Head as numbers
+use Rattle.head.specs.declared.Head as heads
 use Rattle.push_turn.specs.declared.turn.Step as steps
 use Rattle.push_turn.specs.declared.service.Served as places
 use Rattle.push_turn.specs.declared.service.Numbers as moved
@@ -27,10 +27,14 @@ unfoldable pub first_place : List ℕ → List ℕ → ℕ → Option Place
 first_place ring permits next =
     first_with_permits permits next (drop next ring) (first_with_permits permits 0 (take next ring) none)
 
--- the local numbers of a service, from the permits, the dispatcher's four numbers and how many were taken off the queue
-unfoldable pub local_from : List ℕ → numbers.Head → ℕ → Local
-local_from permits h taken =
-    record { permits = permits; next = h.next; cursor = h.cursor; total = h.total_available_permits; taken = taken }
+-- what the turns of a dispatcher move, before the first one: its own numbers, and nothing is taken off the queue
+unfoldable pub numbers_from : heads.Head → moved.Numbers
+numbers_from h = record { next = h.next; cursor = h.cursor; total_available_permits = h.total_available_permits; taken = 0 }
+
+-- the local numbers of a service, from the permits and what the turns move beside them
+unfoldable pub local_from : List ℕ → moved.Numbers → Local
+local_from permits m =
+    record { permits = permits; next = m.next; cursor = m.cursor; total = m.total_available_permits; taken = m.taken }
 
 -- the step that the code's record stands for
 unfoldable pub step_of : steps.Step → Step
@@ -38,8 +42,8 @@ step_of x = record { consumer = x.consumer; position = x.position; price = x.pri
 
 -- the turn that left permits and numbers, and made a step or none
 unfoldable pub turn_of : List ℕ → moved.Numbers → prelude.Option steps.Step → LocalTurn
-turn_of permits m None = stop (local_from permits m.head m.taken)
-turn_of permits m (Some x) = move (step_of x) (local_from permits m.head m.taken)
+turn_of permits m None = stop (local_from permits m)
+turn_of permits m (Some x) = move (step_of x) (local_from permits m)
 
 -- what a push only reads of dispatcher d of the state that words decode to
 abbrev pub fixed_now : List ℕ → ℕ → Fixed
@@ -61,21 +65,17 @@ shared_records_now ws permits = all_service_records (decode ws) (services_now ws
 abbrev pub ledger_under : State → ℕ → List StoredMessage
 ledger_under s d = ledger_of s (dispatcher_nth s d).pair.topic
 
--- dispatcher d is there; its ledger has n messages and, if any, is that of topic t; every entry has a mark and a batch size
--- in range, and only entries of the ledger are queued
-pub record Serving (e : ℕ) (ws : List ℕ) (d t n : ℕ) : Type 0 where
-  pub here : DispatcherIn e ws d
-  pub ledger_length : n ≡ length (ledger_under (decode ws) d)
-  pub topic_here : 0 < n → TopicIn e ws t
-  pub ledger_here : 0 < n → (topic_nth (decode ws) t).messages ≡ ledger_under (decode ws) d
-  pub one_mark_each : length (dispatcher_nth (decode ws) d).marks ≡ n
-  pub batches : Every (λ (m : StoredMessage). m.batch_size ≤ 256) (ledger_under (decode ws) d)
-  pub queue_in_ledger : Every (λ (k : ℕ). k < n) (dispatcher_nth (decode ws) d).redelivery
-  pub cursor_in_ledger : (dispatcher_nth (decode ws) d).cursor ≤ n
-
--- the same of a dispatcher that code has by value
-abbrev pub ServedHere : places.Served → List ℕ → Type 0
-ServedHere x ws = Serving x.e ws x.d x.t x.n
+-- a dispatcher that code has by value is there; its ledger is as long as told and, if it has messages, is that of the topic
+-- told; every entry has a mark and a batch size in range, and only entries of the ledger are queued
+pub record ServedHere (x : places.Served) (ws : List ℕ) : Type 0 where
+  pub here : DispatcherIn x.e ws x.d
+  pub ledger_length : x.n ≡ length (ledger_under (decode ws) x.d)
+  pub topic_here : 0 < x.n → TopicIn x.e ws x.t
+  pub ledger_here : 0 < x.n → (topic_nth (decode ws) x.t).messages ≡ ledger_under (decode ws) x.d
+  pub one_mark_each : length (dispatcher_nth (decode ws) x.d).marks ≡ x.n
+  pub batches : Every (λ (m : StoredMessage). m.batch_size ≤ 256) (ledger_under (decode ws) x.d)
+  pub queue_in_ledger : Every (λ (k : ℕ). k < x.n) (dispatcher_nth (decode ws) x.d).redelivery
+  pub cursor_in_ledger : (dispatcher_nth (decode ws) x.d).cursor ≤ x.n
 
 -- dispatcher d of a state with E entries, to be served
 unfoldable pub served_in : State → ℕ → ℕ → places.Served

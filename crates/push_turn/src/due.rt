@@ -21,10 +21,7 @@ fn due_turns(store: &[u64], served: Served, ring: &[usize], permits: &mut [u64])
     ensures count { result ≡ length (served_now store.now served.d permits.old).made }
     ensures permits { permits.new ≡ (served_now store.now served.d permits.old).after.permits }
 {
-    let mut numbers = Numbers {
-        head: load_head(store, served.e, served.d),
-        taken: 0,
-    };
+    let mut numbers = Numbers::from(load_head(store, served.e, served.d));
     let mut count = 0;
     while take_turn(store, served, ring, permits, &mut numbers).is_some() {
         count += 1;

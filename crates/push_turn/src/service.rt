@@ -2,7 +2,7 @@
 ghost use Rattle.std.specs.Prelude.{◌≡◌};
 ghost use Rattle.layout.specs.Layout.{decode};
 ghost use Rattle.layout.specs.Placed.{DispatcherIn};
-ghost use Rattle.push_turn.specs.Turns.{served_in};
+ghost use Rattle.push_turn.specs.Turns.{served_in, numbers_from};
 
 use dispatcher::numbers::topic;
 use head::Head;
@@ -19,11 +19,29 @@ pub struct Served {
     pub n: usize,
 }
 
-// What its turns move beside the consumers' permits: its numbers, and how many were taken off its queue.
+// What its turns move beside the consumers' permits: next, the cursor, the total, and how many were taken off its queue.
+// Mark-delete is none of it.
 #[derive(Clone, Copy)]
 pub struct Numbers {
-    pub head: Head,
+    pub next: usize,
+    pub cursor: usize,
+    pub total_available_permits: u64,
     pub taken: usize,
+}
+
+// The numbers before the first turn: those of the dispatcher, and nothing is taken.
+impl From<Head> for Numbers {
+    ghost from_gives = { λ head numbers. numbers ≡ numbers_from head };
+
+    #[tactic(auto, unfolding(crate::specs::Turns::numbers_from))]
+    fn from(head: Head) -> Numbers {
+        Numbers {
+            next: head.next,
+            cursor: head.cursor,
+            total_available_permits: head.total_available_permits,
+            taken: 0,
+        }
+    }
 }
 
 // Dispatcher `d`, to be served.

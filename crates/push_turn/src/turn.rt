@@ -28,27 +28,24 @@ fn place_after(place: usize, n: usize) -> usize
     if place + 1 == n { 0 } else { place + 1 }
 }
 
-// The entry at position `k` goes to the consumer in slot `c`; next and the cursor go where they are told.
+// The entry at position `k` goes to the consumer in slot `c`, and its cost leaves the consumer's permits and the total.
 fn hand_over(
     store: &[u64],
     served: Served,
     permits: &mut [u64],
     c: usize,
     k: usize,
-    next: usize,
-    cursor: usize,
     numbers: &mut Numbers,
 ) -> Step
     requires { ServedHere served store.now × (k < served.n) × (zero_permits < get_or permits.old c 0)
-        × (zero_permits < numbers.old.head.total_available_permits) }
-    ensures turn { turn_of permits.new numbers.new (Some result) ≡ hand_over (fixed_now store.now served.d) permits.old next cursor
-        numbers.old.head.total_available_permits numbers.old.taken c k }
-    ensures mark_delete { numbers.new.head.mark_delete ≡ numbers.old.head.mark_delete }
+        × (zero_permits < numbers.old.total_available_permits) }
+    ensures { turn_of permits.new numbers.new (Some result) ≡ hand_over (fixed_now store.now served.d) permits.old numbers.old.next
+        numbers.old.cursor numbers.old.total_available_permits numbers.old.taken c k }
 {
     let cost = price(store, served, k);
     let left = permits[c] - cost;
     permits[c] = left;
-    numbers.head = numbers.head.dispatched(next, cursor, cost);
+    numbers.total_available_permits -= cost;
     Step {
         consumer: c,
         position: k,
@@ -57,36 +54,35 @@ fn hand_over(
     }
 }
 
-// The next entry goes to the consumer in slot `c`, and next moves whether there is one or not.
+// The next entry goes to the consumer in slot `c`, if there is one. The queue or the cursor moves before it is handed over.
 fn take_entry(
     store: &[u64],
     served: Served,
     permits: &mut [u64],
     c: usize,
-    next: usize,
     numbers: &mut Numbers,
 ) -> Option<Step>
-    requires { ServedHere served store.now × (zero_permits < get_or permits.old c 0) × (zero_permits < numbers.old.head.total_available_permits) }
-    ensures turn { turn_of permits.new numbers.new result ≡ take_entry (fixed_now store.now served.d)
-        (local_from permits.old numbers.old.head numbers.old.taken) next c }
-    ensures mark_delete { numbers.new.head.mark_delete ≡ numbers.old.head.mark_delete }
+    requires { ServedHere served store.now × (zero_permits < get_or permits.old c 0) × (zero_permits < numbers.old.total_available_permits) }
+    ensures { turn_of permits.new numbers.new result ≡ take_entry (fixed_now store.now served.d)
+        (local_from permits.old numbers.old) numbers.old.next c }
 {
-    let cursor = numbers.head.cursor;
     if numbers.taken < queue_count(store, served.e, served.d) {
         let k = queued(store, served.e, served.d, numbers.taken);
         numbers.taken += 1;
-        let first = hand_over(store, served, permits, c, k, next, cursor, numbers);
+        let first = hand_over(store, served, permits, c, k, numbers);
         return Some(first);
     }
-    if cursor < served.n {
-        let step = hand_over(store, served, permits, c, cursor, next, cursor + 1, numbers);
+    if numbers.cursor < served.n {
+        let k = numbers.cursor;
+        numbers.cursor += 1;
+        let step = hand_over(store, served, permits, c, k, numbers);
         return Some(step);
     }
-    numbers.head = numbers.head.dispatched(next, cursor, 0);
     None
 }
 
-// One turn of a dispatcher whose ring is `ring`, on the permits and its numbers: the dispatch, if one is made.
+// One turn of a dispatcher whose ring is `ring`, on the permits and its numbers: the dispatch, if one is made. Next moves
+// whether there is an entry or not.
 pub fn take_turn(
     store: &[u64],
     served: Served,
@@ -94,15 +90,14 @@ pub fn take_turn(
     permits: &mut [u64],
     numbers: &mut Numbers,
 ) -> Option<Step>
-    requires { ServedHere served store.now × (ring.now ≡ (fixed_now store.now served.d).ring) × (numbers.old.head.next ≤ length ring.now) }
-    ensures turn { turn_of permits.new numbers.new result ≡ local_turn (fixed_now store.now served.d)
-        (local_from permits.old numbers.old.head numbers.old.taken) }
-    ensures mark_delete { numbers.new.head.mark_delete ≡ numbers.old.head.mark_delete }
+    requires { ServedHere served store.now × (ring.now ≡ (fixed_now store.now served.d).ring) × (numbers.old.next ≤ length ring.now) }
+    ensures { turn_of permits.new numbers.new result ≡ local_turn (fixed_now store.now served.d) (local_from permits.old numbers.old) }
 {
-    if numbers.head.total_available_permits <= ZERO_PERMITS {
+    if numbers.total_available_permits <= ZERO_PERMITS {
         return None;
     }
-    let place = choose(ring, permits, numbers.head.next)?;
+    let place = choose(ring, permits, numbers.next)?;
     let next = place_after(place, ring.len());
-    take_entry(store, served, permits, ring[place], next, numbers)
+    numbers.next = next;
+    take_entry(store, served, permits, ring[place], numbers)
 }

@@ -1,41 +1,19 @@
 -- Records written one after the other: some and then others, the length that stays, and all of them from the start on.
-use Rattle.std.proofs.Common.{◌≡◌, ℕ, suc, ◌+◌, ◌-◌, ◌*◌, ◌%◌, ◌^◌, ◌≤◌, List, [], ◌∷◌, ◌++◌, length, drop, set, sym, refl, ap, ◌∙◌, append_assoc, add-zero, arith, length-append, length-drop, drop-drop}
+use Rattle.std.proofs.Common.{◌≡◌, ℕ, suc, ◌+◌, ◌-◌, ◌*◌, ◌%◌, ◌^◌, ◌≤◌, List, [], ◌∷◌, ◌++◌, length, take, drop, sym, refl, ap, ap₂, ◌∙◌, append_assoc}
+use Rattle.std.proofs.Common.{add-zero, arith}
+use Rattle.std.proofs.Common.{length-append, length-drop, take-append-drop, drop-drop}
+use mathlib.Core.List.{append-nil}
+use lib.ListN.{drop_of_length-le}
+use borrow.Rule.Slice.PartMut.{put_mid}
+use Rattle.std.proofs.lemmas.List.{get_or-drop, length-take-le, take_rest}
 use lib.Seq.{sets-eq}
 use Rattle.words.specs.Act.{lay}
 use Rattle.rules.specs.Outcome.{Dispatch}
 use Rattle.rules.specs.Push.{flat, flat_records}
 use Rattle.rules.proofs.Answers.{flat_length}
 use Rattle.layout.specs.Calls.{with_records}
-use Rattle.record.specs.Flat.{filled, record_words}
+use Rattle.record.specs.Flat.{filled, record_words, record_at}
 use Rattle.record.specs.declared.Dispatch as declared
-
--- thirteen words written one after the other
-thirteen_words : (a b c d f g h i j k l m n to : ℕ) (ws : List ℕ)
-    → set (set (set (set (set (set (set (set (set (set (set (set (set ws to a) (to + 1) b) (to + 2) c) (to + 3) d) (to + 4) f) (to + 5) g) (to + 6) h) (to + 7) i) (to + 8) j) (to + 9) k) (to + 10) l) (to + 11) m) (to + 12) n
-    ≡ (lay (a ∷ b ∷ c ∷ d ∷ f ∷ g ∷ h ∷ i ∷ j ∷ k ∷ l ∷ m ∷ n ∷ [])).run to ws
-unfolding lay
-thirteen_words a b c d f g h i j k l m n to ws =
-    let one : to + 1 ≡ suc to = omega arith in
-    let two : to + 2 ≡ suc (suc to) = omega arith in
-    let three : to + 3 ≡ suc (suc (suc to)) = omega arith in
-    let four : to + 4 ≡ suc (suc (suc (suc to))) = omega arith in
-    let five : to + 5 ≡ suc (suc (suc (suc (suc to)))) = omega arith in
-    let six : to + 6 ≡ suc (suc (suc (suc (suc (suc to))))) = omega arith in
-    let seven : to + 7 ≡ suc (suc (suc (suc (suc (suc (suc to)))))) = omega arith in
-    let eight : to + 8 ≡ suc (suc (suc (suc (suc (suc (suc (suc to))))))) = omega arith in
-    let nine : to + 9 ≡ suc (suc (suc (suc (suc (suc (suc (suc (suc to)))))))) = omega arith in
-    let ten : to + 10 ≡ suc (suc (suc (suc (suc (suc (suc (suc (suc (suc to))))))))) = omega arith in
-    let eleven : to + 11 ≡ suc (suc (suc (suc (suc (suc (suc (suc (suc (suc (suc to)))))))))) = omega arith in
-    let twelve : to + 12 ≡ suc (suc (suc (suc (suc (suc (suc (suc (suc (suc (suc (suc to))))))))))) = omega arith in
-    rw (one, two, three, four, five, six, seven, eight, nine, ten, eleven, twelve)
-
--- a whole record written
-pub record_written : (x : declared.Dispatch) (to : ℕ) (ws : List ℕ)
-    → set (set (set (set (set (set (set (set (set (set (set (set (set ws to x.consumer) (to + 1) x.ledger) (to + 2) x.entry) (to + 3) x.handle) (to + 4) x.batch_size) (to + 5) x.ack_set_words) (to + 6) x.ack_set.w0) (to + 7) x.ack_set.w1) (to + 8) x.ack_set.w2) (to + 9) x.ack_set.w3) (to + 10) x.redelivery_count) (to + 11) x.cost) (to + 12) x.permits
-    ≡ (lay (record_words x)).run to ws
-unfolding record_words
-record_written x to ws =
-    thirteen_words x.consumer x.ledger x.entry x.handle x.batch_size x.ack_set_words x.ack_set.w0 x.ack_set.w1 x.ack_set.w2 x.ack_set.w3 x.redelivery_count x.cost x.permits to ws
 
 -- the rules' dispatch with the fields of the code's record, and permits in excess form
 abbrev pub dispatch_with : declared.Dispatch → ℕ → Dispatch
@@ -55,7 +33,8 @@ pub record_flat : (x : declared.Dispatch) (permits : ℕ) {d : Dispatch} → x.p
     → record_words x ≡ flat d
 unfolding record_words flat
 record_flat x permits e f =
-    ap (λ (p : ℕ). x.consumer ∷ x.ledger ∷ x.entry ∷ x.handle ∷ x.batch_size ∷ x.ack_set_words ∷ x.ack_set.w0 ∷ x.ack_set.w1 ∷ x.ack_set.w2 ∷ x.ack_set.w3 ∷ x.redelivery_count ∷ x.cost ∷ p ∷ []) e
+    ap (λ (p : ℕ). x.consumer ∷ x.ledger ∷ x.entry ∷ x.handle ∷ x.batch_size ∷ x.ack_set_words
+    ∷ x.ack_set.w0 ∷ x.ack_set.w1 ∷ x.ack_set.w2 ∷ x.ack_set.w3 ∷ x.redelivery_count ∷ x.cost ∷ p ∷ []) e
     ∙ ap flat f
 
 -- some records, then others
@@ -98,3 +77,56 @@ filled_local d m (x ∷ l) r e h =
 -- all of them from the start on
 pub filled_records : (list : List ℕ) (l : List Dispatch) → 13 * length l ≤ length list → with_records list (flat_records l) ≡ filled list 0 l
 filled_records list l h = sym (filled_local [] 0 l list refl h)
+
+-- ---- what is written to the rest of a list
+
+-- the rest of a list, as code lends it
+abbrev pub rest : ℕ → List ℕ → List ℕ
+rest to list = take (length list - to) (drop to list)
+
+-- the list with the rest as it was handed back
+abbrev pub handed_back : ℕ → List ℕ → List ℕ → List ℕ
+handed_back to list written = put_mid to (length list - to) list written
+
+-- nothing follows the rest
+back : (to : ℕ) (list written : List ℕ) → handed_back to list written ≡ take to list ++ written
+back to list written =
+    let none : drop (length list - to) (drop to list) ≡ [] = drop_of_length-le (drop to list) (rw (length-drop to list) (omega arith)) in
+    ap (λ (l : List ℕ). take to list ++ (written ++ l)) none ∙ ap (λ (l : List ℕ). take to list ++ l) (append-nil written)
+
+-- words laid at its start are laid there in the list
+pub laid_rest : (ws : List ℕ) (to : ℕ) (list : List ℕ) {written : List ℕ} → to ≤ length list → written ≡ (lay ws).run 0 (rest to list)
+    → handed_back to list written ≡ (lay ws).run to list
+laid_rest ws to list {written = written} h w =
+    let there : length (take to list) + 0 ≡ to = rw (length-take-le to list h) (omega arith) in
+    back to list written
+    ∙ ap (λ (l : List ℕ). take to list ++ l) (w ∙ ap (λ (l : List ℕ). (lay ws).run 0 l) (take_rest list to))
+    ∙ sym ((lay ws).local 0 (take to list) (drop to list))
+    ∙ ap₂ {A = ℕ} {B = List ℕ} {C = List ℕ} (λ k l. (lay ws).run k l) there (take-append-drop to list)
+
+-- records from one on, after some words that are m records long
+filled_after : (d r : List ℕ) (m k : ℕ) (l : List Dispatch) → length d ≡ m * 13 → d ++ filled r k l ≡ filled (d ++ r) (m + k) l
+unfolding filled
+filled_after d r m k [] e = refl
+filled_after d r m k (x ∷ l) e =
+    let there : length d + k * 13 ≡ (m + k) * 13 = omega arith in
+    let on : m + suc k ≡ suc (m + k) = omega arith in
+    filled_after d ((lay (flat x)).run (k * 13) r) m (suc k) l e
+    ∙ ap₂ {A = List ℕ} {B = ℕ} {C = List ℕ} (λ ws n. filled ws n l)
+    (sym ((lay (flat x)).local (k * 13) d r) ∙ ap (λ (n : ℕ). (lay (flat x)).run n (d ++ r)) there) on
+
+-- records from its first on are records from m on in the list
+pub filled_rest : (m : ℕ) (list : List ℕ) {written : List ℕ} (l : List Dispatch) → m * 13 ≤ length list → written ≡ filled (rest (m * 13) list) 0 l
+    → handed_back (m * 13) list written ≡ filled list m l
+filled_rest m list {written = written} l h w =
+    back (m * 13) list written
+    ∙ ap (λ (r : List ℕ). take (m * 13) list ++ r) (w ∙ ap (λ (r : List ℕ). filled r 0 l) (take_rest list (m * 13)))
+    ∙ filled_after (take (m * 13) list) (drop (m * 13) list) m 0 l (length-take-le (m * 13) list h)
+    ∙ ap₂ {A = List ℕ} {B = ℕ} {C = List ℕ} (λ ws n. filled ws n l) (take-append-drop (m * 13) list) (add-zero m)
+
+-- ---- what is read from it
+
+-- the record that the rest begins with is the list's
+pub record_rest : (ws : List ℕ) (i : ℕ) → record_at (rest (i * 13) ws) 0 ≡ record_at ws i
+unfolding record_at
+record_rest ws i = simp (take_rest, get_or-drop)

@@ -1,6 +1,6 @@
--- Dispatch records in flat words: the record that the code holds by value, and records written one after the other in a
--- lent list, 13 words each.
-use Rattle.std.specs.Prelude.{ℕ, suc, ◌*◌, List, [], ◌∷◌}
+-- Dispatch records in flat words: the record that the code holds by value, records written one after the other in a lent
+-- list, 13 words each, and the record that such words spell.
+use Rattle.std.specs.Prelude.{ℕ, suc, ◌+◌, ◌*◌, List, [], ◌∷◌, get_or}
 use Rattle.words.specs.Act.{lay}
 use Rattle.rules.specs.Outcome.{Dispatch}
 use Rattle.rules.specs.Push.{flat}
@@ -17,3 +17,23 @@ record_words x =
     x.consumer ∷ x.ledger ∷ x.entry ∷ x.handle ∷ x.batch_size
     ∷ x.ack_set_words ∷ x.ack_set.w0 ∷ x.ack_set.w1 ∷ x.ack_set.w2 ∷ x.ack_set.w3
     ∷ x.redelivery_count ∷ x.cost ∷ x.permits ∷ []
+
+-- word j of record i
+abbrev pub word_of : List ℕ → ℕ → ℕ → ℕ
+word_of ws i j = get_or ws (i * 13 + j) 0
+
+-- record i of flat words: its fields are its 13 words in order
+unfoldable pub record_at : List ℕ → ℕ → declared.Dispatch
+record_at ws i =
+    record {
+      consumer = word_of ws i 0;
+      ledger = word_of ws i 1;
+      entry = word_of ws i 2;
+      handle = word_of ws i 3;
+      batch_size = word_of ws i 4;
+      ack_set_words = word_of ws i 5;
+      ack_set = record { w0 = word_of ws i 6; w1 = word_of ws i 7; w2 = word_of ws i 8; w3 = word_of ws i 9 };
+      redelivery_count = word_of ws i 10;
+      cost = word_of ws i 11;
+      permits = word_of ws i 12;
+    }

@@ -1,9 +1,10 @@
-// A dispatch by value, and its 13 words in a lent list.
+// A dispatch by value, and its record in flat words: 13 of them, the fields in their order. It is written to the start of a
+// lent slice and read from there.
 #![tactic(auto)]
 
-ghost use Rattle.std.specs.Prelude.{◌≡◌, ◌+◌, ◌-◌, ◌*◌, ◌%◌, ◌^◌, ◌≤◌, length};
+ghost use Rattle.std.specs.Prelude.{◌≡◌, ◌+◌, ◌-◌, ◌%◌, ◌^◌, ◌≤◌, length};
 ghost use Rattle.words.specs.Act.{lay};
-ghost use Rattle.record.specs.Flat.{record_words};
+ghost use Rattle.record.specs.Flat.{record_words, record_at};
 
 use bits::UnackedBits;
 
@@ -36,23 +37,47 @@ pub fn signed(permits: u64) -> u64
     std::num::wrapping_add_u64(permits, TO_SIGNED)
 }
 
-// Writes a dispatch as record `m` of a list, word by word: an array of the words in between is as many lines and a copy more.
-pub fn write_record(list: &mut [u64], m: usize, record: Dispatch)
-    requires { m * 13 + 13 ≤ length list.old }
-    ensures { list.new ≡ (lay (record_words «record»)).run (m * 13) list.old }
+// Writes the record of a dispatch to the start of some words, one by one: an array of them in between is as many lines and
+// a copy more.
+pub fn write_record(words: &mut [u64], dispatch: Dispatch)
+    requires { 13 ≤ length words.old }
+    ensures { words.new ≡ (lay (record_words dispatch)).run 0 words.old }
 {
-    let at = m * RECORD_WORDS;
-    list[at] = record.consumer;
-    list[at + 1] = record.ledger;
-    list[at + 2] = record.entry;
-    list[at + 3] = record.handle;
-    list[at + 4] = record.batch_size;
-    list[at + 5] = record.ack_set_words;
-    list[at + 6] = record.ack_set.w0;
-    list[at + 7] = record.ack_set.w1;
-    list[at + 8] = record.ack_set.w2;
-    list[at + 9] = record.ack_set.w3;
-    list[at + 10] = record.redelivery_count;
-    list[at + 11] = record.cost;
-    list[at + 12] = record.permits;
+    words[0] = dispatch.consumer;
+    words[1] = dispatch.ledger;
+    words[2] = dispatch.entry;
+    words[3] = dispatch.handle;
+    words[4] = dispatch.batch_size;
+    words[5] = dispatch.ack_set_words;
+    words[6] = dispatch.ack_set.w0;
+    words[7] = dispatch.ack_set.w1;
+    words[8] = dispatch.ack_set.w2;
+    words[9] = dispatch.ack_set.w3;
+    words[10] = dispatch.redelivery_count;
+    words[11] = dispatch.cost;
+    words[12] = dispatch.permits;
+}
+
+// The dispatch whose record some words begin with.
+pub fn read_record(words: &[u64]) -> Dispatch
+    requires { 13 ≤ length words.now }
+    ensures { result ≡ record_at words.now 0 }
+{
+    Dispatch {
+        consumer: words[0],
+        ledger: words[1],
+        entry: words[2],
+        handle: words[3],
+        batch_size: words[4],
+        ack_set_words: words[5],
+        ack_set: UnackedBits {
+            w0: words[6],
+            w1: words[7],
+            w2: words[8],
+            w3: words[9],
+        },
+        redelivery_count: words[10],
+        cost: words[11],
+        permits: words[12],
+    }
 }

@@ -50,7 +50,7 @@ fn fill_record(m: &[u8], record: &mut [u64; 13]) -> Result<(), Unread>
     ensures words { «record».new ≡ content_after «record».old (content_of m.now) }
 {
     let head = read_content(m).ok_or(Unread::Malformed)?;
-    write_record(record, 0, Dispatch::from(head));
+    write_record(record, Dispatch::from(head));
     lay_numbers(m, ACK_SET, record, ACK_SET_AT);
     Ok(())
 }

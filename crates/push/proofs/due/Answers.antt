@@ -29,9 +29,13 @@ due_plain-requires c =
 
 pub overflow_add-result : goal.overflow_add-result
 overflow_add-result c =
-    let n = due_sum (decode c.args.store.now) c.load_permits.ensures c.due_shared-shared.ensures.count c.due_shared-shared.ensures.permits c.due_plain.ensures in
-    let f = due_small (decode c.args.store.now) (canon_of c.args.e c.args.store.now c.requires.0 c.requires.1).shaped in
+    let s = decode c.args.store.now in
+    let shared = c.due_shared-shared.ensures in
+    let n = due_sum s c.load_permits.ensures shared.count shared.permits c.due_plain.ensures in
+    let f = due_small s (canon_of c.args.e c.args.store.now c.requires.0 c.requires.1).shaped in
     record { fits = omega (arith, n, f) }
 
 pub returns : goal.returns
-returns c = due_sum (decode c.args.store.now) c.load_permits.ensures c.due_shared-shared.ensures.count c.due_shared-shared.ensures.permits c.due_plain.ensures
+returns c =
+    let shared = c.due_shared-shared.ensures in
+    due_sum (decode c.args.store.now) c.load_permits.ensures shared.count shared.permits c.due_plain.ensures

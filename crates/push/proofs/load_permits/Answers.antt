@@ -12,22 +12,26 @@ use Rattle.push_plain.proofs.Over.{over_set, over_all}
 use Rattle.push.proofs.Pushing.{length_permits, permits_nth}
 use Rattle.push.proofs.load_permits.Goals as goal
 
+-- a place in the list is that of a consumer
+below : {i m k : ℕ} → i < m → m ≡ k → i < k
+below a p = omega (arith, a, p)
+
 pub loop-i-init : goal.loop-i-init
 loop-i-init c = refl
 
 pub permits-requires : goal.permits-requires
 permits-requires c =
-    let here : c.loop-i.i < length (decode c.args.store.now).consumers = let a = c.loop-i-test.true in let b = c.loop-i.auto.list in let p = c.requires.1 in omega (arith, a, b, p) in
-    consumer_in c.requires.0 c.loop-i.i here
+    consumer_in c.requires.0 c.loop-i.i (below c.loop-i-test.true c.requires.1)
 
 pub offset_bounds-list-i : goal.offset_bounds-list-i
 offset_bounds-list-i c =
-    let here : c.loop-i.i < length (decode c.args.store.now).consumers = let a = c.loop-i-test.true in let b = c.loop-i.auto.list in let p = c.requires.1 in omega (arith, a, b, p) in
-    let l = here in let f = c.requires.0.shaped.consumers_fit in omega (arith, l, f)
+    let here = below c.loop-i-test.true c.requires.1 in
+    let few = c.requires.0.shaped.consumers_fit in
+    omega (arith, here, few)
 
 pub loop-i-preserved : goal.loop-i-preserved
 loop-i-preserved c =
-    let here : c.loop-i.i < length (decode c.args.store.now).consumers = let a = c.loop-i-test.true in let b = c.loop-i.auto.list in let p = c.requires.1 in omega (arith, a, b, p) in
+    let here = below c.loop-i-test.true c.requires.1 in
     let s = decode c.args.store.now in
     let list = c.args.list.now in
     let i = c.loop-i.i in

@@ -24,4 +24,6 @@ added_up-requires-clause-few c = let n = c.consumer_count.ensures in let f = c.r
 
 pub returns : goal.returns
 returns c =
-    added_all (waiting_for (decode c.args.store.now)) (decode c.args.store.now).consumers zero_consumer (λ i r h p. search rules) c.consumer_count.result c.added_up.result c.consumer_count.ensures c.added_up.ensures
+    let s = decode c.args.store.now in
+    added_all (waiting_for s) s.consumers zero_consumer
+    (λ i r h p. search rules) c.consumer_count.result c.added_up.result c.consumer_count.ensures c.added_up.ensures

@@ -24,4 +24,6 @@ added_up-requires-clause-few c = let n = c.dispatcher_count.ensures in let f = c
 
 pub returns : goal.returns
 returns c =
-    added_all (waiting_at (decode c.args.store.now)) (decode c.args.store.now).dispatchers zero_dispatcher (λ i r h p. search rules) c.dispatcher_count.result c.added_up.result c.dispatcher_count.ensures c.added_up.ensures
+    let s = decode c.args.store.now in
+    added_all (waiting_at s) s.dispatchers zero_dispatcher
+    (λ i r h p. search rules) c.dispatcher_count.result c.added_up.result c.dispatcher_count.ensures c.added_up.ensures

@@ -9,6 +9,8 @@ use Rattle.push_plain.proofs.due.plain_due.Goals as goal
 
 pub returns : goal.returns
 returns c =
-    let a = c.args in
-    let s = decode a.store.now in
-    c.permitted.ensures ∙ ap (λ (n : ℕ). min (a.permits - zero_permits) n) c.waiting_for.ensures ∙ waits_permitted s (consumer_nth s a.i) a.permits
+    let r = c.args.reader in
+    let s = decode c.args.store.now in
+    c.permitted.ensures
+    ∙ ap (λ (n : ℕ). min (r.permits - zero_permits) n) c.waiting_for.ensures
+    ∙ waits_permitted s (consumer_nth s r.i) r.permits

@@ -10,4 +10,13 @@ unfolding record_to
 returns c =
     let a = c.args in
     record_flat _ a.permits c.signed.ensures
-    (ap (λ (x : StoredMessage). record { consumer = a.id; message = x; ack_set_words = 0; ack_set = no_bits; redelivery_count = 0; cost = 1; permits = a.permits }) c.load_message-m.ensures)
+    (ap (λ (x : StoredMessage). record {
+      consumer = a.id;
+      message = x;
+      ack_set_words = 0;
+      ack_set = no_bits;
+      redelivery_count = 0;
+      cost = 1;
+      permits =
+          a.permits;
+    }) c.load_message-m.ensures)

@@ -3,4 +3,4 @@ use Rattle.push_plain.proofs.Served.{Going}
 use Rattle.push_plain.proofs.serve.serve_plain.Given as goal
 
 abbrev pub invariant-loop-i : goal.invariant-loop-i
-invariant-loop-i l = Going l.initial.store l.permits l.initial.list l.m l.store l.list l.at l.i
+invariant-loop-i l = Going l.initial.store l.permits l.initial.list l.store l.list l.made l.i

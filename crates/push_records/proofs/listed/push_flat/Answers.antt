@@ -48,6 +48,7 @@ returns-clause-records c =
     let ws = c.args.store.now in
     let n = c.room-end.result in
     let few : n * 13 ≤ length l = within l c.args.records c.room-end.ensures in
-    ap (λ (v : List ℕ). v ++ drop (n * 13) l) (c.broker_push.ensures.records ∙ ap (λ (m : ℕ). list_after (take (n * 13) l) (outcome ws (Push m))) (lent l n few))
+    ap (λ (v : List ℕ). v ++ drop (n * 13) l)
+    (c.broker_push.ensures.records ∙ ap (λ (m : ℕ). list_after (take (n * 13) l) (outcome ws (Push m))) (lent l n few))
     ∙ part_lent ws n l few
     ∙ ap (λ (m : ℕ). list_after l (outcome ws (Push m))) c.room-end.ensures

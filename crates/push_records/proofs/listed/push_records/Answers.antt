@@ -6,11 +6,16 @@ use Rattle.push_records.proofs.listed.push_records.Goals as goal
 
 pub fill-requires : goal.fill-requires
 fill-requires c =
-    let words : c.made.result * 13 ≤ length c.args.flat.now =
-    made_in_words c.args.store.now c.args.flat.now (length c.args.list.now) c.push_flat-answer.ensures.answer c.made.ensures in
-    (made_records c.args.store.now c.args.flat.now (length c.args.list.now) c.push_flat-answer.ensures.answer c.made.ensures, omega arith)
+    let ws = c.args.store.now in
+    let flat = c.args.flat.now in
+    let n = length c.args.list.now in
+    let answered = c.push_flat-answer.ensures.answer in
+    let words : c.made_in.result * 13 ≤ length flat = made_in_words ws flat n answered c.made_in.ensures in
+    (made_records ws flat n answered c.made_in.ensures, omega arith)
 
 pub returns-clause-records : goal.returns-clause-records
 returns-clause-records c =
+    let pushed = c.push_flat-answer in
     c.fill.ensures
-    ∙ made_listed c.args.store.now c.args.flat.now (length c.args.list.now) c.push_flat-answer.ensures.answer c.made.ensures c.push_flat-answer.new.flat c.args.list.now c.push_flat-answer.ensures.records
+    ∙ made_listed c.args.store.now c.args.flat.now (length c.args.list.now) pushed.ensures.answer c.made_in.ensures
+    pushed.new.flat c.args.list.now pushed.ensures.records

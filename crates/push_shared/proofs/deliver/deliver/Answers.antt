@@ -22,6 +22,6 @@ returns c =
     let id = c.consumer_id-id.result in
     record {
       words = flight_found ws (decode ws) c.args.served.d id x c.consumer_id-id.ensures c.append_flight.ensures;
-      records = one_filled c.args.list.now c.args.m (record_of (decode ws) f x)
+      records = one_filled c.args.list.now (record_of (decode ws) f x)
           c.write_record.ensures (c.record_to-record.ensures ∙ ap flat (record_found (decode ws) f id x c.consumer_id-id.ensures));
     }

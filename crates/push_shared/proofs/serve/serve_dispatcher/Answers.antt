@@ -1,5 +1,6 @@
--- `push_shared::serve::serve_dispatcher` meets its contract: a ring of at most 32 lies in a local array; the ring is written, and the dispatcher is served by it.
-use mathlib.Core.Path.{refl, ap}
+-- `push_shared::serve::serve_dispatcher` meets its contract: a ring of at most 32 lies in a local array; the ring is written, and
+-- the dispatcher is served by it.
+use mathlib.Core.Path.{ap}
 use mathlib.Core.List.{List}
 use Prim.Native.Nat.{ℕ, ◌≤◌}
 use native.Mathlib.Omega.{arith}
@@ -35,7 +36,7 @@ serve_turns-requires c =
     let m = ring_length s (dispatcher_nth s a.d) in
     let x = next_valid p.0.here p.0.dispatcher_valid in
     let h : (dispatcher_nth s a.d).next ≤ length c.ring_slots.new.ring = omega (arith, l, m, x) in
-    rw c.find_served-served.ensures (ready_serving p.0 _ _ refl refl, r, h, p.1, ready_room p.0 _ refl, p.2)
+    rw c.find_served-served.ensures (ready_serving p.0, r, h, p.1, ready_room p.0, p.2)
 
 pub returns : goal.returns
 unfolding served_in

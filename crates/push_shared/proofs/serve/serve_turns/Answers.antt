@@ -1,9 +1,13 @@
 -- `push_shared::serve::serve_turns` meets its contract: each step is delivered, and where none is made the numbers are stored.
-use Prim.Native.Nat.{◌+◌, ◌≤◌}
+use mathlib.Core.Path.{◌∙◌, ap}
+use Prim.Native.Nat.{◌+◌, ◌*◌, ◌≤◌}
 use native.Mathlib.Omega.{arith}
-use lib.ListN.{length}
-use Rattle.push_turn.specs.Turns.{turn_of, step_of}
-use Rattle.push_shared.proofs.Writing.{writing_start, serving_on, ring_on, next_on, entry_in, consumer_in, flight_room, list_room, left_on, writing_on, taken_there, mark_there, permits_end, count_end, records_end, fits_end, words_end}
+use lib.ListN.{length, length-drop}
+use Rattle.head.specs.declared.Head as heads
+use Rattle.record.proofs.Filled.{filled_rest}
+use Rattle.push_turn.specs.Turns.{turn_of, step_of, numbers_from}
+use Rattle.push_shared.proofs.Writing.{writing_start, serving_on, ring_on, next_on, entry_in, consumer_in, flight_room, list_room, left_on, writing_on}
+use Rattle.push_shared.proofs.Writing.{taken_there, permits_end, count_end, records_end, fits_end, words_end}
 use borrow.Author.Rules.{rules}
 use Rattle.push_shared.proofs.serve.serve_turns.Goals as goal
 
@@ -11,7 +15,8 @@ pub loop-step-init : goal.loop-step-init
 loop-step-init c =
     let p = c.requires in
     let a = c.args in
-    writing_start p.0 a.permits.now a.list.now a.from c.load_head.result c.load_head.ensures (rw (← p.1) p.2) p.3 p.4
+    let from = c.from-numbers.ensures ∙ ap (λ (h : heads.Head). numbers_from h) c.load_head.ensures in
+    writing_start p.0 a.permits.now a.list.now c.from-numbers.result from (rw (← p.1) p.2) p.3 p.4
 
 pub take_turn-requires : goal.take_turn-requires
 take_turn-requires c =
@@ -27,41 +32,44 @@ deliver-requires c =
     let m = c.take_turn.new.numbers in
     let z = step_of c.in-Some.step in
     let rs = c.take_turn.new.permits in
-    let t = c.in-Some.ensures.turn in
-    (serving_on p.0 w, entry_in p.0 w z rs m.head m.taken t, consumer_in p.0 w z rs m.head m.taken t, flight_room p.0 w z rs m.head m.taken t, list_room p.0 w z rs m.head m.taken t p.5)
+    let t = c.in-Some.ensures in
+    let r = list_room p.0 w z rs m t p.5 in
+    let behind = length-drop (c.loop-step.made * 13) c.loop-step.list in
+    (serving_on p.0 w, entry_in p.0 w z rs m t, consumer_in p.0 w z rs m t, flight_room p.0 w z rs m t, omega (arith, r, behind))
 
 pub finish-requires : goal.finish-requires
 unfolding turn_of
 finish-requires c =
-    let p = c.requires in
     let w = c.loop-step.invariant in
-    let m = c.take_turn.new.numbers in
-    let rs = c.take_turn.new.permits in
-    let t = c.in_default.ensures.turn in
-    (w.moved.here, taken_there p.0 w rs m.head m.taken t, mark_there p.0 w rs m.head m.taken t c.take_turn.ensures.mark_delete)
+    (w.moved.here, taken_there c.requires.0 w c.take_turn.new.permits c.take_turn.new.numbers c.in_default.ensures)
 
-pub overflow_add-m : goal.overflow_add-m
+pub overflow_add-made : goal.overflow_add-made
 unfolding step_of turn_of
-overflow_add-m c =
+overflow_add-made c =
     let p = c.requires in
     let w = c.loop-step.invariant in
-    let m = c.take_turn.new.numbers in
-    let r = list_room p.0 w (step_of c.in-Some.step) c.take_turn.new.permits m.head m.taken c.in-Some.ensures.turn p.5 in
+    let r = list_room p.0 w (step_of c.in-Some.step) c.take_turn.new.permits c.take_turn.new.numbers c.in-Some.ensures p.5 in
     let l = c.loop-step.auto.list in
-    let h : c.loop-step.m + 1 ≤ length c.args.list.now = omega (arith, r, l) in
+    let h : c.loop-step.made + 1 ≤ length c.args.list.now = omega (arith, r, l) in
     search rules
 
 pub loop-step-smaller : goal.loop-step-smaller
 unfolding step_of turn_of
 loop-step-smaller c =
-    let m = c.take_turn.new.numbers in
-    left_on c.requires.0 c.loop-step.invariant (step_of c.in-Some.step) c.take_turn.new.permits m.head m.taken c.in-Some.ensures.turn
+    left_on c.requires.0 c.loop-step.invariant (step_of c.in-Some.step) c.take_turn.new.permits c.take_turn.new.numbers c.in-Some.ensures
 
 pub loop-step-preserved : goal.loop-step-preserved
 unfolding step_of turn_of
 loop-step-preserved c =
+    let p = c.requires in
+    let w = c.loop-step.invariant in
     let m = c.take_turn.new.numbers in
-    writing_on c.requires.0 c.loop-step.invariant (step_of c.in-Some.step) c.take_turn.new.permits m.head m.taken c.in-Some.ensures.turn c.deliver.ensures.words c.deliver.ensures.records c.take_turn.ensures.mark_delete
+    let z = step_of c.in-Some.step in
+    let rs = c.take_turn.new.permits in
+    let t = c.in-Some.ensures in
+    let r = list_room p.0 w z rs m t p.5 in
+    let d = c.deliver.ensures in
+    writing_on p.0 w z rs m t d.words (filled_rest c.loop-step.made c.loop-step.list _ (omega (arith, r)) d.records)
 
 pub returns : goal.returns
 unfolding turn_of
@@ -70,11 +78,11 @@ returns c =
     let w = c.loop-step.invariant in
     let m = c.take_turn.new.numbers in
     let rs = c.take_turn.new.permits in
-    let t = c.in_default.ensures.turn in
+    let t = c.in_default.ensures in
     record {
-      value = count_end p.0 w rs m.head m.taken t;
-      words = words_end p.0 w rs m.head m.taken t c.finish.ensures;
-      permits = permits_end p.0 w rs m.head m.taken t;
-      records = records_end p.0 w rs m.head m.taken t;
-      fits = fits_end p.0 w rs m.head m.taken t;
+      value = count_end p.0 w rs m t;
+      words = words_end p.0 w rs m t c.finish.ensures;
+      permits = permits_end p.0 w rs m t;
+      records = records_end p.0 w rs m t;
+      fits = fits_end p.0 w rs m t;
     }

@@ -5,8 +5,7 @@ use Rattle.push_shared.proofs.Writing.{fixed, Writing}
 use Rattle.push_shared.proofs.serve.serve_turns.Given as goal
 
 abbrev pub invariant-loop-step : goal.invariant-loop-step
-invariant-loop-step l =
-    Writing l.served.e l.served.d l.initial.store l.initial.permits l.initial.list l.from l.store l.permits l.list l.numbers.head l.numbers.taken l.m
+invariant-loop-step l = Writing l.served l.initial.store l.initial.permits l.initial.list l.store l.permits l.list l.numbers l.made
 
 abbrev pub decreases-loop-step : goal.decreases-loop-step
-decreases-loop-step l = left (fixed l.initial.store l.served.d) (local_from l.permits l.numbers.head l.numbers.taken)
+decreases-loop-step l = left (fixed l.initial.store l.served.d) (local_from l.permits l.numbers)

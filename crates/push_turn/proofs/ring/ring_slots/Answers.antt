@@ -16,15 +16,14 @@ loop-j-init c = refl
 
 pub ring_id-requires : goal.ring_id-requires
 ring_id-requires c =
-    let here : c.loop-j.j < length (dispatcher_nth (decode c.args.store.now) c.args.d).attached = let p = c.requires.1 in let t = c.loop-j-test.true in omega arith in
-    (c.requires.0, here)
+    (c.requires.0, rw (← c.requires.1) c.loop-j-test.true)
 
 pub slot_of-requires : goal.slot_of-requires
 slot_of-requires c = c.requires.0.canon
 
 pub loop-j-preserved : goal.loop-j-preserved
 loop-j-preserved c =
-    let here : c.loop-j.j < length (dispatcher_nth (decode c.args.store.now) c.args.d).attached = let p = c.requires.1 in let t = c.loop-j-test.true in omega arith in
+    let here : c.loop-j.j < length (dispatcher_nth (decode c.args.store.now) c.args.d).attached = rw (← c.requires.1) c.loop-j-test.true in
     let a = c.args in
     let p = c.requires in
     let s = decode a.store.now in

@@ -1,13 +1,7 @@
--- `push_turn::turn::hand_over` meets its contract.
-use mathlib.Core.Path.{ap, ◌∙◌}
-use Prim.Native.Nat.{◌-◌}
-use lib.ListN.{get_or, set}
-use Rattle.head.specs.declared.Head as numbers
-use Rattle.head.specs.Moves.{dispatched}
+-- `push_turn::turn::hand_over` meets its contract: the consumer's permits are in the array, and the cost leaves them.
 use Rattle.layout.specs.Layout.{decode}
 use Rattle.layout.specs.Fields.{dispatcher_nth}
 use Rattle.push_laws.specs.Local.{fixed_of}
-use Rattle.push_laws.specs.Local.LocalTurn.{move}
 use Rattle.push_turn.specs.Turns.{turn_of, local_from, step_of}
 use Rattle.push_turn.proofs.Handing.{above_in, handed}
 use borrow.Author.Rules.{rules}
@@ -26,12 +20,9 @@ pub bounds-permits-c-2 : goal.bounds-permits-c-2
 bounds-permits-c-2 c = above_in c.args.permits.now c.args.c c.requires.2
 
 pub returns : goal.returns
-unfolding turn_of local_from step_of dispatched
+unfolding turn_of local_from step_of
 returns c =
     let a = c.args in
-    let left = get_or a.permits.now a.c 0 - c.price-cost.result in
-    record {
-      turn = ap (λ (h : numbers.Head). move (record { consumer = a.c; position = a.k; price = c.price-cost.result; permits = left }) (local_from (set a.permits.now a.c left) h a.numbers.now.taken)) c.dispatched-numbers.ensures
-          ∙ handed (fixed_of (decode a.store.now) (dispatcher_nth (decode a.store.now) a.served.d)) a.permits.now a.next a.cursor a.numbers.now.head.total_available_permits a.numbers.now.taken a.c a.k c.price-cost.result c.price-cost.ensures.0;
-      mark_delete = ap (λ (h : numbers.Head). h.mark_delete) c.dispatched-numbers.ensures;
-    }
+    let m = a.numbers.now in
+    let f = fixed_of (decode a.store.now) (dispatcher_nth (decode a.store.now) a.served.d) in
+    handed f a.permits.now m.next m.cursor m.total_available_permits m.taken a.c a.k c.price-cost.result c.price-cost.ensures.0

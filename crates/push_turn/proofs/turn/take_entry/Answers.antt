@@ -1,14 +1,11 @@
 -- `push_turn::turn::take_entry` meets its contract: an entry is queued, or waits in the ledger, or there is none.
-use mathlib.Core.Path.{◌≡◌, ap, ◌∙◌}
+use mathlib.Core.Path.{◌≡◌, ◌∙◌}
 use Prim.Native.Nat.{ℕ, suc, ◌+◌, ◌<◌}
 use native.Mathlib.Omega.{arith}
-use Rattle.head.specs.declared.Head as numbers
-use Rattle.head.specs.Moves.{dispatched}
 use Rattle.layout.specs.Layout.{decode}
 use Rattle.layout.specs.Fields.{dispatcher_nth}
 use Rattle.operation_laws.proofs.Frame.{every_nth}
 use Rattle.push_laws.specs.Local.{fixed_of}
-use Rattle.push_laws.specs.Local.LocalTurn.{stop}
 use Rattle.push_turn.specs.Turns.{turn_of, local_from}
 use Rattle.push_turn.proofs.Handing.{entry_queued, entry_waiting, entry_none}
 use Rattle.push_turn.proofs.turn.take_entry.Goals as goal
@@ -19,7 +16,8 @@ hand_over-first-requires c =
     let p = c.requires in
     let n = c.queue_count.ensures in
     let t = c.if-numbers-queue_count.true in
-    let k = every_nth {P = λ (i : ℕ). i < a.served.n} (dispatcher_nth (decode a.store.now) a.served.d).redelivery a.numbers.now.taken 0 p.0.queue_in_ledger (omega arith) in
+    let queue = (dispatcher_nth (decode a.store.now) a.served.d).redelivery in
+    let k = every_nth {P = λ (i : ℕ). i < a.served.n} queue a.numbers.now.taken 0 p.0.queue_in_ledger (omega arith) in
     let q = c.queued-k.ensures in
     (p.0, omega arith, p.1, p.2)
 
@@ -27,38 +25,35 @@ pub returns-then-numbers-queue_count : goal.returns-then-numbers-queue_count
 unfolding local_from fixed_of
 returns-then-numbers-queue_count c =
     let a = c.args in
+    let m = a.numbers.now in
+    let f = fixed_of (decode a.store.now) (dispatcher_nth (decode a.store.now) a.served.d) in
     let n = c.queue_count.ensures in
     let t = c.if-numbers-queue_count.true in
-    let e : a.numbers.now.taken + 1 ≡ suc a.numbers.now.taken = omega arith in
-    record {
-      turn = c.hand_over-first.ensures.turn ∙ entry_queued (fixed_of (decode a.store.now) (dispatcher_nth (decode a.store.now) a.served.d)) (local_from a.permits.now a.numbers.now.head a.numbers.now.taken) a.next a.c (a.numbers.now.taken + 1) c.queued-k.result (omega arith) e c.queued-k.ensures;
-      mark_delete = c.hand_over-first.ensures.mark_delete;
-    }
+    let e : m.taken + 1 ≡ suc m.taken = omega arith in
+    c.hand_over-first.ensures
+    ∙ entry_queued f (local_from a.permits.now m) m.next a.c (m.taken + 1) c.queued-k.result (omega arith) e c.queued-k.ensures
 
-pub returns-then-cursor-served : goal.returns-then-cursor-served
+pub returns-then-numbers-served : goal.returns-then-numbers-served
 unfolding local_from fixed_of
-returns-then-cursor-served c =
+returns-then-numbers-served c =
     let a = c.args in
+    let m = a.numbers.now in
+    let f = fixed_of (decode a.store.now) (dispatcher_nth (decode a.store.now) a.served.d) in
     let n = c.queue_count.ensures in
     let t = c.if-numbers-queue_count.false in
-    let u = c.if-cursor-served.true in
-    let m = c.requires.0.ledger_length in
-    let e : a.numbers.now.head.cursor + 1 ≡ suc a.numbers.now.head.cursor = omega arith in
-    record {
-      turn = c.hand_over-step.ensures.turn ∙ entry_waiting (fixed_of (decode a.store.now) (dispatcher_nth (decode a.store.now) a.served.d)) (local_from a.permits.now a.numbers.now.head a.numbers.now.taken) a.next a.c (a.numbers.now.head.cursor + 1) (omega arith) (omega arith) e;
-      mark_delete = c.hand_over-step.ensures.mark_delete;
-    }
+    let u = c.if-numbers-served.true in
+    let l = c.requires.0.ledger_length in
+    let e : m.cursor + 1 ≡ suc m.cursor = omega arith in
+    c.hand_over-step.ensures ∙ entry_waiting f (local_from a.permits.now m) m.next a.c (m.cursor + 1) (omega arith) (omega arith) e
 
 pub returns : goal.returns
-unfolding turn_of local_from fixed_of dispatched
+unfolding turn_of local_from fixed_of
 returns c =
     let a = c.args in
+    let m = a.numbers.now in
+    let f = fixed_of (decode a.store.now) (dispatcher_nth (decode a.store.now) a.served.d) in
     let n = c.queue_count.ensures in
     let t = c.if-numbers-queue_count.false in
-    let u = c.if-cursor-served.false in
-    let m = c.requires.0.ledger_length in
-    record {
-      turn = ap (λ (h : numbers.Head). stop (local_from a.permits.now h a.numbers.now.taken)) c.dispatched-numbers.ensures
-          ∙ entry_none (fixed_of (decode a.store.now) (dispatcher_nth (decode a.store.now) a.served.d)) (local_from a.permits.now a.numbers.now.head a.numbers.now.taken) a.next a.c (omega arith) (omega arith);
-      mark_delete = ap (λ (h : numbers.Head). h.mark_delete) c.dispatched-numbers.ensures;
-    }
+    let u = c.if-numbers-served.false in
+    let l = c.requires.0.ledger_length in
+    entry_none f (local_from a.permits.now m) m.next a.c (omega arith) (omega arith)

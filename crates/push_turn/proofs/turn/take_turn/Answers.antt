@@ -1,5 +1,5 @@
--- `push_turn::turn::take_turn` meets its contract: no total, no place, or the turn of the place that was chosen.
-use mathlib.Core.Path.{refl, ap, ◌∙◌}
+-- `push_turn::turn::take_turn` meets its contract: the total allows none, no place is ready, or the turn of the place that was chosen.
+use mathlib.Core.Path.{ap, ◌∙◌}
 use Prim.Native.Nat.{ℕ}
 use lib.ListN.{get_or}
 use Rattle.rules.specs.Push.{slot_after}
@@ -14,37 +14,33 @@ pub returns-then-numbers-le-ZERO_PERMITS : goal.returns-then-numbers-le-ZERO_PER
 unfolding turn_of local_from
 returns-then-numbers-le-ZERO_PERMITS c =
     let a = c.args in
-    record {
-      turn = turn_spent (fixed_of (decode a.store.now) (dispatcher_nth (decode a.store.now) a.served.d)) (local_from a.permits.now a.numbers.now.head a.numbers.now.taken) c.if-numbers-le-ZERO_PERMITS.true;
-      mark_delete = refl;
-    }
+    let f = fixed_of (decode a.store.now) (dispatcher_nth (decode a.store.now) a.served.d) in
+    turn_spent f (local_from a.permits.now a.numbers.now) c.if-numbers-le-ZERO_PERMITS.true
 
-pub returns-in_err-place-clause-turn : goal.returns-in_err-place-clause-turn
+pub returns-in_err-place : goal.returns-in_err-place
 unfolding turn_of local_from
-returns-in_err-place-clause-turn c =
+returns-in_err-place c =
     let a = c.args in
+    let f = fixed_of (decode a.store.now) (dispatcher_nth (decode a.store.now) a.served.d) in
     rw c.from_residual.ensures
-    (no_place (fixed_of (decode a.store.now) (dispatcher_nth (decode a.store.now) a.served.d)) (local_from a.permits.now a.numbers.now.head a.numbers.now.taken) a.ring.now c.requires.1
-    c.in_err-place.ensures.place c.if-numbers-le-ZERO_PERMITS.false)
+    (no_place f (local_from a.permits.now a.numbers.now) a.ring.now c.requires.1 c.in_err-place.ensures.place c.if-numbers-le-ZERO_PERMITS.false)
 
 pub take_entry-requires : goal.take_entry-requires
 unfolding local_from
 take_entry-requires c =
     let a = c.args in
     let p = c.requires in
-    let h = place_ready (fixed_of (decode a.store.now) (dispatcher_nth (decode a.store.now) a.served.d)) (local_from a.permits.now a.numbers.now.head a.numbers.now.taken) a.ring.now p.1 c.in_ok-place.place c.in_ok-place.ensures.place in
+    let f = fixed_of (decode a.store.now) (dispatcher_nth (decode a.store.now) a.served.d) in
+    let h = place_ready f (local_from a.permits.now a.numbers.now) a.ring.now p.1 c.in_ok-place.place c.in_ok-place.ensures.place in
     (p.0, h, c.if-numbers-le-ZERO_PERMITS.false)
 
 pub returns : goal.returns
-unfolding local_from slot_after
+unfolding local_from slot_after take_entry
 returns c =
     let a = c.args in
     let f = fixed_of (decode a.store.now) (dispatcher_nth (decode a.store.now) a.served.d) in
-    let l = local_from a.permits.now a.numbers.now.head a.numbers.now.taken in
+    let l = local_from a.permits.now a.numbers.now in
     let r = c.in_ok-place.place in
-    record {
-      turn = c.take_entry.ensures.turn
-          ∙ ap (λ (n : ℕ). take_entry f l n (get_or a.ring.now r 0)) c.place_after-next.ensures
-          ∙ at_place f l a.ring.now c.requires.1 r c.in_ok-place.ensures.place c.if-numbers-le-ZERO_PERMITS.false c.in_ok-place.ensures.within;
-      mark_delete = c.take_entry.ensures.mark_delete;
-    }
+    c.take_entry.ensures
+    ∙ ap (λ (n : ℕ). take_entry f l n (get_or a.ring.now r 0)) c.place_after-next.ensures
+    ∙ at_place f l a.ring.now c.requires.1 r c.in_ok-place.ensures.place c.if-numbers-le-ZERO_PERMITS.false c.in_ok-place.ensures.within
