@@ -1,4 +1,7 @@
 // What a line of the script asks for. A name is read as the number that its last eight letters spell in base 256.
+ghost use Rattle.std.specs.Prelude.{◌≡◌, eqb};
+ghost use Rattle.cases_line.specs.Names.{name_of, PLAIN as plain, START as start};
+
 use trace_kind::Command;
 
 // The store opened, a call, a row of calls, the balance check.
@@ -50,7 +53,9 @@ const PLAIN: u64 = 0x706c61696e;
 const START: u64 = 0x7374617274;
 
 // The name that a word of a line is, if it is one.
-pub fn name_of(word: u64) -> Option<Name> {
+pub fn name_of(word: u64) -> Option<Name>
+    ensures { result ≡ name_of word }
+{
     match word {
         OPEN => Some(Name::Open),
         APPEND => Some(Name::Call(Command::Append)),
@@ -68,11 +73,15 @@ pub fn name_of(word: u64) -> Option<Name> {
 }
 
 // Whether a subscribe's kind is plain.
-pub fn is_plain(word: u64) -> bool {
+pub fn is_plain(word: u64) -> bool
+    ensures { result ≡ eqb word plain }
+{
     word == PLAIN
 }
 
 // Whether a seek's target is the start.
-pub fn is_start(word: u64) -> bool {
+pub fn is_start(word: u64) -> bool
+    ensures { result ≡ eqb word start }
+{
     word == START
 }

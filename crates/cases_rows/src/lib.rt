@@ -4,40 +4,34 @@
 // is that of a write.
 #![tactic(auto)]
 
-ghost use Rattle.std.specs.Prelude.{◌≡◌, ◌≤◌, length, take, replicate, IfOk};
+ghost use Rattle.std.specs.Prelude.{◌≡◌, ◌*◌, ◌≤◌, min, length, replicate};
 ghost use Rattle.row.specs.Row.{words_left};
-ghost use Rattle.cases_rows.specs.Line.{at_most_64, row_line_after};
+ghost use Rattle.cases_rows.specs.Line.{row_line_after};
 
 use broker::rows::broker_calls;
 use cases_line::name::Name;
 use cases_line::word_or_zero;
 use cases_show::{show_outcome, show_records};
+use record::RECORD_WORDS;
 use std::io;
 use told::{number_in, value_in};
 use trace_kind::Command;
 
-// Makes the row of a line of `n` words and prints what it gave; 255 without the two numbers.
+// Makes the row of a line and prints what it gave; without the two numbers no row is made.
 // What it leaves in the store, it leaves also where a write failed.
-pub fn replay_row(rt: &impl Print, store: &mut [u64], words: &[u64], n: usize) -> io::Result<()>
-    requires in_bounds { 8 ≤ length words.now }
-    requires n_in_bounds { n ≤ length words.now }
-    ensures { store.new ≡ row_line_after store.old words.now n }
+pub fn replay_row(rt: &impl Print, store: &mut [u64], line: &[u64]) -> io::Result<()>
+    ensures { store.new ≡ row_line_after store.old line.now }
 {
-    if n < 3 {
-        return show_outcome(rt, Some(Name::Row), 255);
-    }
-    replay_script(
-        rt,
-        store,
-        &words[3..n],
-        at_most_64(words[1]),
-        at_most_64(words[2]) * 13,
-    )
+    let [_, answers, records, script @ ..] = line else {
+        return show_outcome(rt, Some(Name::Row), None);
+    };
+    let room = at_most_64(*records) * RECORD_WORDS;
+    replay_script(rt, store, script, at_most_64(*answers), room)
 }
 
 // A number, or 64 where it is larger.
 fn at_most_64(number: u64) -> usize
-    ensures { (result ≡ at_most_64 number) × (result ≤ 64) }
+    ensures { result ≡ min number 64 }
 {
     number.min(64) as usize
 }
@@ -56,28 +50,12 @@ fn replay_script(
 {
     let mut answers = [0u64; 64];
     let mut list = [0u64; 832];
-    let answer = row_into(store, script, &mut answers, a, &mut list, room);
-    show_outcome(rt, Some(Name::Row), answer)?;
+    let answer = broker_calls(store, script, &mut answers[..a], &mut list[..room]);
+    show_outcome(rt, Some(Name::Row), Some(answer))?;
     if number_in(answer) == 0 {
         return show_calls(rt, script, &answers, &list, value_in(answer));
     }
     Ok(())
-}
-
-// A row that is lent the first `a` words for answers and the first `room` words of a list.
-fn row_into(
-    store: &mut [u64],
-    script: &[u64],
-    answers: &mut [u64],
-    a: usize,
-    list: &mut [u64],
-    room: usize,
-) -> u64
-    requires { (a ≤ length answers.old) × (room ≤ length list.old) }
-    ensures { store.new ≡ words_left store.old script.now (take a answers.old)
-        (take room list.old) }
-{
-    broker_calls(store, script, &mut answers[..a], &mut list[..room])
 }
 
 // The calls of a script, numbered from 1, of which there are `count`. The records of its pushes stand in
@@ -90,12 +68,12 @@ fn show_calls(
     count: u64,
 ) -> io::Result<()> {
     let mut at = 0;
-    let mut used = 0;
+    let mut rest = list;
     for call in 0..count.min(64) as usize {
         let command = Command::try_from(word_or_zero(script, at)).ok();
         let answer = word_or_zero(answers, call);
         show_call(rt, call + 1, command, answer)?;
-        used = show_pushed(rt, command, answer, list, used)?;
+        rest = show_pushed(rt, command, answer, rest)?;
         at = next_record(script, at);
     }
     Ok(())
@@ -109,25 +87,26 @@ fn show_call(
     answer: u64,
 ) -> io::Result<()> {
     print!(rt; "  {number}: ")?;
-    show_outcome(rt, command.map(|command| Name::Call(command)), answer)
+    show_outcome(rt, command.map(|command| Name::Call(command)), Some(answer))
 }
 
-// The records of a call, which stand from a place of the list on if it is a push that was done; answers
-// the place after them.
-fn show_pushed(
+// The records of a call, which stand at the start of a list if it is a push that was done; answers what stands
+// behind them.
+fn show_pushed<'a>(
     rt: &impl Print,
     command: Option<Command>,
     answer: u64,
-    list: &[u64],
-    from: usize,
-) -> io::Result<usize>
-    requires { from ≤ length list.now }
-    ensures { IfOk result (λ at. at ≤ length list.now) }
-{
-    if command == Some(Command::Push) && number_in(answer) == 0 {
-        return show_records(rt, list, from, value_in(answer));
+    list: &'a [u64],
+) -> io::Result<&'a [u64]> {
+    if command != Some(Command::Push) || number_in(answer) != 0 {
+        return Ok(list);
     }
-    Ok(from)
+    let made = value_in(answer);
+    show_records(rt, list, made)?;
+    Ok(
+        list.split_at((made as usize * RECORD_WORDS).min(list.len()))
+            .1,
+    )
 }
 
 // Where the record after the one at a place begins: behind a kind, a count and as many words. The

@@ -2,17 +2,18 @@
 // function here is that of a write.
 #![tactic(auto)]
 
-ghost use Rattle.std.specs.Prelude.{◌≡◌, ◌≤◌, length, IfOk};
-
 use cases_line::name::Name;
 use record::{RECORD_WORDS, signed};
 use std::io;
 use told::{number_in, value_in};
 use trace_kind::Command;
 
-// Done and the value, or the refusal's number, and the end of the line. The runner calls what makers call, whose answer is one
-// word: its refusals are told by number.
-pub fn show_outcome(rt: &impl Print, name: Option<Name>, answer: u64) -> io::Result<()> {
+// Done and the value, or the refusal's number, and the end of the line; 255 where no call was made. The runner calls what makers
+// call, whose answer is one word: its refusals are told by number.
+pub fn show_outcome(rt: &impl Print, name: Option<Name>, answer: Option<u64>) -> io::Result<()> {
+    let Some(answer) = answer else {
+        return println!(rt; "refused 255");
+    };
     let value = value_in(answer);
     match number_in(answer) {
         0 => {
@@ -54,16 +55,9 @@ fn show_moved(rt: &impl Print, moved: u64) -> io::Result<()> {
     }
 }
 
-// A value of an answer is below this, 2^56.
-const VALUES: u64 = 72_057_594_037_927_936;
-
-// A value of an answer, which has 56 bits, as a signed number.
+// A value of an answer, which has 56 bits, as a signed number: moved up by 8 bits and down again, it is signed as a word.
 fn show_value_signed(rt: &impl Print, value: u64) -> io::Result<()> {
-    if value < VALUES / 2 {
-        print!(rt; "{value}")
-    } else {
-        show_field(rt, "-", VALUES - value % VALUES)
-    }
+    print!(rt; "{}", (value << 8).cast_signed() >> 8)
 }
 
 // Whether a push into records gave the same as the flat push.
@@ -75,26 +69,17 @@ pub fn show_twin(rt: &impl Print, same: bool) -> io::Result<()> {
     }
 }
 
-// The records from a place of a list on, a line each; answers the place after the last one.
-pub fn show_records(rt: &impl Print, list: &[u64], from: usize, count: u64) -> io::Result<usize>
-    requires { from ≤ length list.now }
-    ensures { IfOk result (λ at. at ≤ length list.now) }
-{
-    let mut at = from;
-    for shown in 0..count {
-        if list.len() - at < RECORD_WORDS {
-            return Ok(at);
-        }
-        show_record(rt, &list[at..at + RECORD_WORDS])?;
-        at += RECORD_WORDS;
+// The records at the start of a list, a line each.
+pub fn show_records(rt: &impl Print, list: &[u64], count: u64) -> io::Result<()> {
+    let (records, _) = list.as_chunks::<RECORD_WORDS>();
+    for record in records.iter().take(count as usize) {
+        show_record(rt, record)?;
     }
-    Ok(at)
+    Ok(())
 }
 
 // A record, as its words.
-fn show_record(rt: &impl Print, record: &[u64]) -> io::Result<()>
-    requires { length «record».now ≡ 13 }
-{
+fn show_record(rt: &impl Print, record: &[u64; RECORD_WORDS]) -> io::Result<()> {
     show_message(rt, record)?;
     show_ack_set(rt, record)?;
     show_field(rt, "] redelivery_count ", record[10])?;
@@ -103,9 +88,7 @@ fn show_record(rt: &impl Print, record: &[u64]) -> io::Result<()>
 }
 
 // Who is sent what.
-fn show_message(rt: &impl Print, record: &[u64]) -> io::Result<()>
-    requires { length «record».now ≡ 13 }
-{
+fn show_message(rt: &impl Print, record: &[u64; RECORD_WORDS]) -> io::Result<()> {
     show_field(rt, "  + ", record[0])?;
     show_field(rt, ": id (", record[1])?;
     show_field(rt, ",", record[2])?;
@@ -114,9 +97,7 @@ fn show_message(rt: &impl Print, record: &[u64]) -> io::Result<()>
 }
 
 // As many of the four ack set words as count.
-fn show_ack_set(rt: &impl Print, record: &[u64]) -> io::Result<()>
-    requires { length «record».now ≡ 13 }
-{
+fn show_ack_set(rt: &impl Print, record: &[u64; RECORD_WORDS]) -> io::Result<()> {
     print!(rt; " ack_set [")?;
     let count = record[5].min(4) as usize;
     for i in 0..count {

@@ -1,6 +1,6 @@
 -- The comparison of the two pushes, part by part.
-use mathlib.Core.Path.{◌≡◌, refl, sym, ap, ◌∙◌}
-use mathlib.Core.Bool.{Bool, true, false, ◌&&◌}
+use mathlib.Core.Path.{◌≡◌, ap, ◌∙◌}
+use mathlib.Core.Bool.{Bool, true, false}
 use mathlib.Core.List.{List, ◌++◌}
 use Prim.Native.Nat.{ℕ, ◌≤◌}
 use lib.Dec.{eqb}
@@ -60,6 +60,12 @@ module _ (ws flat : List ℕ) (words : ℕ) (h : words ≤ length flat) where
 
   lent_is : lent ≡ fitting words 64
   lent_is = ap (λ (k : ℕ). fitting k 64) (length-take-le words flat h)
+
+  pub answer_lent : {a : ℕ} → a ≡ answer ws (Push lent) → a ≡ answer ws (pushed words)
+  answer_lent e = e ∙ ap (λ (k : ℕ). answer ws (Push k)) lent_is
+
+  pub left_lent : {us : List ℕ} → us ≡ after ws (Push lent) → us ≡ after ws (pushed words)
+  left_lent e = e ∙ ap (λ (k : ℕ). after ws (Push k)) lent_is
 
   pub flat_lent : {vs : List ℕ} → vs ≡ list_after (take words flat) (outcome ws (Push lent)) → vs ++ drop words flat ≡ lent_after flat words (outcome ws (pushed words))
   unfolding lent_after

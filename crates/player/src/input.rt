@@ -22,8 +22,5 @@ pub(crate) fn read_more(input: &mut impl Read, held: &mut [u8], to: usize) -> us
     requires { to ≤ length held.old }
     ensures { to + result ≤ length held.old }
 {
-    match input.read(&mut held[to..]) {
-        Ok(got) => got,
-        Err(_) => 0,
-    }
+    input.read(&mut held[to..]).unwrap_or(0)
 }

@@ -65,12 +65,11 @@ fn turn(
     rt: &impl Print,
     input: &mut impl Read,
     store: &mut [u64],
-    held: &mut [u8],
-    out: &mut [u8],
+    held: &mut [u8; HELD_BYTES],
+    out: &mut [u8; OUT_BYTES],
     place: Place,
 ) -> Option<Place>
-    requires { (spells store.old ≡ true) × (length held.old ≡ held_bytes) × (length out.old ≡ out_bytes)
-        × Placed place × (place.number + 1 < 2 ^ 64) }
+    requires { (spells store.old ≡ true) × Placed place × (place.number + 1 < 2 ^ 64) }
     ensures { (spells store.new ≡ true) × GoesOn place.number result }
 {
     let Place {
@@ -100,8 +99,8 @@ fn turn(
 }
 
 // After a step: where the lines of another might not find room, all are printed.
-fn went(rt: &impl Print, out: &[u8], place: Place) -> Option<Place>
-    requires { (length out.now ≡ out_bytes) × (place.filled ≤ out_bytes) }
+fn went(rt: &impl Print, out: &[u8; OUT_BYTES], place: Place) -> Option<Place>
+    requires { place.filled ≤ out_bytes }
     ensures { WentOn place result }
 {
     if out.len() - place.filled < LINES_BYTES {
@@ -115,11 +114,11 @@ fn went(rt: &impl Print, out: &[u8], place: Place) -> Option<Place>
 fn wait(
     rt: &impl Print,
     input: &mut impl Read,
-    held: &mut [u8],
-    out: &mut [u8],
+    held: &mut [u8; HELD_BYTES],
+    out: &mut [u8; OUT_BYTES],
     place: Place,
 ) -> Option<Place>
-    requires { (length held.old ≡ held_bytes) × (length out.old ≡ out_bytes) × Placed place }
+    requires { Placed place }
     ensures { GoesOn place.number result }
 {
     rt.write_all(&out[..place.filled]).ok()?;

@@ -9,7 +9,8 @@ ghost use Rattle.trace.specs.Format.Reach.{ends};
 ghost use Rattle.trace_read.specs.Reached.{reached};
 
 // How far something reaches from the front of some bytes: to a place in them; it is cut off, there are too few to tell; or it
-// is wrong, whatever follows.
+// is wrong, whatever follows. Three outcomes, as the definitions have them: the player goes on, waits or stops. An Option in a
+// Result says no more.
 #[derive(Clone, Copy, Debug, PartialEq, Eq)]
 pub enum Reach {
     Ends(usize),

@@ -3,11 +3,13 @@
 use Rattle.std.specs.Prelude.{ℕ, zero, suc, ◌≤◌, ◌≡◌, true, cond, List, length}
 use Rattle.std.proofs.Math.Option.{Option, none}
 use Rattle.words.specs.Act.{lay}
+use Rattle.words.specs.Wrote.{Wrote}
 use Rattle.rules.specs.State.{State}
 use Rattle.rules.specs.Calls.{Call}
 use Rattle.layout.specs.Layout.{decode, spells}
 use Rattle.trace.specs.Format.{Reach, record_in}
 use Rattle.trace.specs.Format.Reach.{ends, cut_off, wrong}
+use Rattle.trace.specs.Text.{bad_line}
 use Rattle.trace.specs.Played.{record_call}
 use Rattle.trace.specs.Steps.{Player, reach, step, player_at}
 use Rattle.trace_call.specs.Made.{words_made}
@@ -38,6 +40,12 @@ unfoldable pub Within : ℕ → declared.Did → Type 0
 Within held variants.Waits = Unit {0}
 Within held (variants.Bad written) = written ≤ lines_bytes
 Within held (variants.Went size written) = (size ≤ held) × (written ≤ lines_bytes)
+
+-- the bad line of a number was written at the start of a buffer, and the answer tells its length
+pub record WroteBad (number : ℕ) (out : List ℕ) (r : declared.Did) (out' : List ℕ) : Type 0 where
+  pub written : ℕ
+  pub is : r ≡ variants.Bad written
+  pub wrote : Wrote 25 out 0 (bad_line number) out' written
 
 -- what a step answers and leaves in the store and in the buffer
 pub record Stepped (ws : List ℕ) (number : ℕ) (held out : List ℕ) (r : declared.Did) (ws' out' : List ℕ) : Type 0 where

@@ -12,7 +12,7 @@ ghost use Rattle.trace.specs.Played.{ROOM, record_call};
 ghost use Rattle.trace.specs.Steps.{reach, end_text};
 ghost use Rattle.trace_call.specs.Made.{words_told, made, words_made, list_made};
 ghost use Rattle.trace_lines.specs.Told.{lines_bytes};
-ghost use Rattle.trace_step.specs.Stepped.{player_after, step_answer, Within, step_call, Stepped, HeaderStepped};
+ghost use Rattle.trace_step.specs.Stepped.{player_after, step_answer, Within, step_call, WroteBad, Stepped, HeaderStepped};
 
 use record::RECORD_WORDS;
 use refusal::{Answer, word_of};
@@ -27,6 +27,14 @@ pub enum Did {
     Waits,
     Bad(usize),
     Went(usize, usize),
+}
+
+// Writes the bad line of a record, or of the header as number 0.
+fn bad(out: &mut [u8], number: u64) -> Did
+    requires { lines_bytes ≤ length out.old }
+    ensures { WroteBad number out.old result out.new }
+{
+    Did::Bad(write_bad(out, number))
 }
 
 // The words of a push's list, which holds 32 records.
@@ -59,10 +67,7 @@ fn play_record(store: &mut [u64], number: u64, held: &[u8], size: usize, out: &m
             let written = write_outcome(out, number, kind, word_of(answer), &list);
             Did::Went(size, written)
         }
-        None => {
-            let written = write_bad(out, number);
-            Did::Bad(written)
-        }
+        None => bad(out, number),
     }
 }
 
@@ -75,10 +80,7 @@ fn step_record(store: &mut [u64], number: u64, held: &[u8], out: &mut [u8]) -> D
     match reach {
         Reach::Ends(size) => play_record(store, number, held, size, out),
         Reach::CutOff => Did::Waits,
-        Reach::Wrong => {
-            let written = write_bad(out, number);
-            Did::Bad(written)
-        }
+        Reach::Wrong => bad(out, number),
     }
 }
 
@@ -91,10 +93,7 @@ fn step_header(held: &[u8], out: &mut [u8]) -> Did
     match reach {
         Reach::Ends(size) => Did::Went(size, 0),
         Reach::CutOff => Did::Waits,
-        Reach::Wrong => {
-            let written = write_bad(out, 0);
-            Did::Bad(written)
-        }
+        Reach::Wrong => bad(out, 0),
     }
 }
 

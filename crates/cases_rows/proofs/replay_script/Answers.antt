@@ -3,10 +3,10 @@ use Rattle.cases_rows.proofs.Lines.{with_zeros}
 use Rattle.cases_rows.proofs.replay_script.Goals as goal
 
 pub returns-in_err-show_outcome : goal.returns-in_err-show_outcome
-returns-in_err-show_outcome g c = with_zeros _ _ c.args.a c.args.room c.requires.0 c.requires.1 c.row_into-answer.ensures
+returns-in_err-show_outcome g c = with_zeros c.requires c.broker_calls-answer.ensures
 
 pub returns-then-number_in-eq0 : goal.returns-then-number_in-eq0
-returns-then-number_in-eq0 g c = with_zeros _ _ c.args.a c.args.room c.requires.0 c.requires.1 c.row_into-answer.ensures
+returns-then-number_in-eq0 g c = with_zeros c.requires c.broker_calls-answer.ensures
 
 pub returns : goal.returns
-returns g c = with_zeros _ _ c.args.a c.args.room c.requires.0 c.requires.1 c.row_into-answer.ensures
+returns g c = with_zeros c.requires c.broker_calls-answer.ensures

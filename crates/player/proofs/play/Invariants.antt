@@ -2,11 +2,10 @@
 use Prim.Native.Nat.{◌≤◌}
 use mathlib.Core.Path.{◌≡◌}
 use mathlib.Core.Bool.{true}
-use lib.ListN.{length}
 use Rattle.layout.specs.Layout.{spells}
-use Rattle.player.specs.Places.{held_bytes, out_bytes, Placed}
+use Rattle.player.specs.Places.{Placed}
 use Rattle.player.proofs.play.Given as goal
 
 abbrev pub invariant-loop-turns : goal.invariant-loop-turns
 invariant-loop-turns g l =
-    (spells l.store ≡ true) × (length l.held ≡ held_bytes) × (length l.out ≡ out_bytes) × Placed l.place × (l.place.number ≤ l.turns)
+    (spells l.store ≡ true) × Placed l.place × (l.place.number ≤ l.turns)

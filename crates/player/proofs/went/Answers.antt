@@ -7,9 +7,9 @@ pub returns-in_err-ok : goal.returns-in_err-ok
 unfolding WentOn
 returns-in_err-ok g c = rw c.from_residual.ensures tt
 
-pub returns-then-out-place-lt-LINES_BYTES : goal.returns-then-out-place-lt-LINES_BYTES
+pub returns-then-place-lt-LINES_BYTES : goal.returns-then-place-lt-LINES_BYTES
 unfolding WentOn
-returns-then-out-place-lt-LINES_BYTES g c = (refl, refl, refl, omega arith)
+returns-then-place-lt-LINES_BYTES g c = (refl, refl, refl, omega arith)
 
 pub returns : goal.returns
 unfolding WentOn

@@ -34,5 +34,7 @@ returns-in-Some c =
 pub returns-in-None : goal.returns-in-None
 returns-in-None c =
     let p = c.requires in
-    played_none _ _ _ _ p.0 p.1 _ p.2 (sym (ap words_told c.in-None.is) ∙ c.make_record-made.ensures.answer)
-    c.make_record-made.ensures.words (omega arith) c.write_bad-written.ensures
+    let b = c.bad.ensures in
+    rw b.is
+    (played_none _ _ _ _ p.0 p.1 _ p.2 (sym (ap words_told c.in-None.is) ∙ c.make_record-made.ensures.answer)
+    c.make_record-made.ensures.words (omega arith) b.wrote)

@@ -13,5 +13,5 @@ returns-in-CutOff c = header_waits _ _ (cut_there _ (sym c.in-CutOff.is ∙ c.he
 
 pub returns-in-Wrong : goal.returns-in-Wrong
 returns-in-Wrong c =
-    header_bad _ _ (omega arith) c.write_bad-written.ensures
-    (wrong_there _ (sym c.in-Wrong.is ∙ c.header_reach-reach.ensures))
+    let b = c.bad.ensures in
+    rw b.is (header_bad _ _ (omega arith) b.wrote (wrong_there _ (sym c.in-Wrong.is ∙ c.header_reach-reach.ensures)))

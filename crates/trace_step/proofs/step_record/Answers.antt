@@ -22,5 +22,5 @@ returns-in-CutOff c =
 pub returns-in-Wrong : goal.returns-in-Wrong
 returns-in-Wrong c =
     let p = c.requires in
-    wrong_at _ _ _ _ p.0 p.1 (omega arith) c.write_bad-written.ensures
-    (wrong_there _ (sym c.in-Wrong.is ∙ c.record_reach-reach.ensures))
+    let b = c.bad.ensures in
+    rw b.is (wrong_at _ _ _ _ p.0 p.1 (omega arith) b.wrote (wrong_there _ (sym c.in-Wrong.is ∙ c.record_reach-reach.ensures)))
