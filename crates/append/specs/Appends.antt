@@ -4,8 +4,9 @@ use Rattle.rules.specs.Table.{put}
 use Rattle.rules.specs.State.{Id, StoredMessage, State, by_number, ledger_of, with_topics, with_dispatchers}
 use Rattle.rules.specs.Ledger.{holds_id, appended}
 use Rattle.rules.specs.Commands.{with_new_entry}
-use Rattle.layout.specs.Layout.{decode, spells}
+use Rattle.layout.specs.Layout.{decode}
 use Rattle.layout.specs.Fields.{topic_nth}
+use Rattle.store.specs.Opened.{Opened}
 use Rattle.store.specs.Find.{slot}
 
 -- 7 if the topic at a slot holds the id, 6 if it has E entries; 5 if no topic stands there and 8 exist; else 0.
@@ -31,7 +32,6 @@ append_state s topic m =
 
 -- an append to the topic at slot t is not refused
 pub record AppendsTo (e : ℕ) (ws : List ℕ) (t topic : ℕ) (i : Id) : Type 0 where
-  pub spelt : spells ws ≡ true
-  pub E : e ≡ (decode ws).entries
+  pub opened : Opened e ws
   pub found : t ≡ slot by_number topic (decode ws).topics
   pub free : append_refusal (decode ws) t i ≡ 0

@@ -45,7 +45,7 @@ fn gain_entry(store: &mut [u64], e: usize, d: usize, id: Id)
 {
     let k = mark_count(store, e, d);
     let found = find_outside(store, e, d, id);
-    raise_marks(store, e, d, k);
+    raise_marks(store, e, d);
     if let Some(j) = found {
         complete_mark(store, e, d, k);
         remove_outside(store, e, d, j);

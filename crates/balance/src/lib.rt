@@ -9,7 +9,8 @@ ghost use Rattle.layout.specs.Layout.{decode, spells};
 ghost use Rattle.layout.specs.Fields.{consumer_now, dispatcher_now};
 ghost use Rattle.layout.specs.Placed.{ConsumerIn, DispatcherIn};
 
-use consumer::fields::{is_shared, pair, permits};
+use command_parts::Kind;
+use consumer::fields::{kind, pair, permits};
 use consumer::lookup::find_consumer;
 use dispatcher::ring::{ring_count, ring_id};
 use dispatcher::table::is_of_pair;
@@ -20,10 +21,10 @@ fn is_under(store: &[u64], e: usize, d: usize, i: usize) -> bool
     requires { DispatcherIn e store.now d × ConsumerIn e store.now i }
     ensures { result ≡ live_under (dispatcher_now store.now d).pair (consumer_now store.now i) }
 {
-    if !is_shared(store, e, i) {
-        return false;
+    match kind(store, e, i) {
+        Kind::Plain => false,
+        Kind::Shared => is_of_pair(store, e, d, pair(store, e, i)),
     }
-    is_of_pair(store, e, d, pair(store, e, i))
 }
 
 // A sum with the permits of the consumer `id` added, if it is live under dispatcher `d`.

@@ -5,7 +5,7 @@ use mathlib.Core.List.{List, Memᴰ}
 use Prim.Native.Nat.{ℕ, ◌+◌, ◌-◌, ◌≤◌, ◌<◌}
 use lib.Dec.{eqb, leb}
 use lib.ListN.{length, get_or}
-use borrow.Author.Tests.{eq-eqb, ne_eqb, lt-leb, le-leb}
+use borrow.Author.Tests.{lt-leb, le-leb}
 use Rattle.words.specs.Codec.{bit}
 use Rattle.rules.specs.Permits.{least_total, most_total, zero_permits, less, total_in_range}
 use Rattle.rules.specs.State.{State, Dispatcher, by_id, by_pair, dispatcher, with_consumers, with_dispatchers, put_dispatcher}
@@ -43,7 +43,7 @@ value_not_closed = refl
 -- ---- the total
 
 -- below the least
-pub under_range : (t : ℕ) → t < least_total → false ≡ total_in_range t
+pub under_range : (t : ℕ) → t < least_total → leb least_total t ≡ total_in_range t
 unfolding total_in_range
 under_range t h = rw (lt-leb least_total t h)
 
@@ -53,14 +53,14 @@ unfolding total_in_range
 over_range t h = rw (le-leb least_total t h)
 
 -- the switch off
-pub total_once : (leak total permits : ℕ) → leak ≡ 0 → total + zero_permits - permits ≡ total_after_close (not (eqb leak 0)) total permits
+pub total_once : {leak : Bool} (total permits : ℕ) → leak ≡ false → total + zero_permits - permits ≡ total_after_close leak total permits
 unfolding total_after_close less
-total_once leak total permits e = rw (eq-eqb leak 0 e)
+total_once total permits e = rw e
 
 -- and on
-pub total_twice : (leak total permits : ℕ) → (leak ≡ 0 → ⊥) → total + zero_permits - permits + zero_permits - permits ≡ total_after_close (not (eqb leak 0)) total permits
+pub total_twice : {leak : Bool} (total permits : ℕ) → leak ≡ true → total + zero_permits - permits + zero_permits - permits ≡ total_after_close leak total permits
 unfolding total_after_close less
-total_twice leak total permits e = rw (ne_eqb leak 0 e)
+total_twice total permits e = rw e
 
 -- a switch word
 switch : (b : Bool) → not (eqb (bit b) 0) ≡ b

@@ -6,7 +6,7 @@ use Rattle.rules.specs.State.{Dispatcher}
 use Rattle.rules.specs.Dispatcher.{with_attached, with_next}
 use Rattle.rules.specs.Commands.{next_in_ring}
 
--- next in a ring of n ids
+-- next in a ring of n ids: as `next_in_ring` of the rules, of the number of ids, which is what the code has
 unfoldable pub next_of : ℕ → ℕ → ℕ
 next_of next n = cond (eqb n 0) 0 (next % n)
 

@@ -15,13 +15,13 @@ use Rattle.operation_laws.proofs.Frame.{valid_now, canon_of, slot_nth, consumer_
 
 module _ {e : ℕ} {ws : List ℕ} {i : ℕ} (h : Live e ws i) where
   pub live_canon : CanonStore e ws
-  live_canon = canon_of e ws h.spelt h.E
+  live_canon = canon_of e ws h.opened.spelt h.opened.E
 
   pub live_in : ConsumerIn e ws i
   live_in = consumer_in live_canon i h.there
 
   pub live_valid : Valid (decode ws)
-  live_valid = valid_now ws h.spelt
+  live_valid = valid_now ws h.opened.spelt
 
   -- its slot is that of its id
   pub live_slot : i ≡ slot by_id (consumer_nth (decode ws) i).id (decode ws).consumers

@@ -1,25 +1,33 @@
--- The lists of consumers and of nacked positions as counted lists of a store.
-use mathlib.Core.Path.{◌≡◌, refl}
+-- The consumers and the nacked positions of each as counted lists of a store: they lie in it, and what is done to one is done
+-- to the state.
+use mathlib.Core.Path.{◌≡◌, sym, ap, ◌∙◌}
 use mathlib.Core.List.{List, [], ◌∷◌, ◌++◌}
 use Prim.Native.Nat.{ℕ, ◌+◌, ◌-◌, ◌*◌, ◌≤◌, ◌<◌}
 use native.Mathlib.Omega.{arith}
-use lib.ListN.{length, take, drop}
-use Rattle.rules.specs.State.{with_consumers}
+use lib.ListN.{length, replicate, set, take, drop}
+use Rattle.words.specs.Act.{up, lay, both}
+use Rattle.rules.specs.State.{Consumer, with_consumers}
 use Rattle.rules.specs.Commands.{with_reading}
+use Rattle.layout.specs.Records.{consumer_codec}
 use Rattle.layout.specs.Layout.{decode, put}
-use Rattle.layout.specs.Offsets.{consumer_at}
-use Rattle.layout.specs.Fields.{consumer_nth, set_consumer}
+use Rattle.layout.specs.Offsets.{consumer_count_at, consumer_at, consumer_words}
+use Rattle.layout.specs.Fields.{zero_consumer, consumer_nth, set_consumer}
 use Rattle.layout.specs.Canon.{CanonStore}
 use Rattle.layout.specs.Placed.{ConsumerIn}
+use Rattle.layout.proofs.Widths.{width_consumer}
+use Rattle.layout.proofs.Blank.{blank_consumer}
 use Rattle.layout.proofs.Gets.{read_consumer_count, read_nacked_count}
 use Rattle.layout.proofs.Sets as layout
-use Rattle.store.specs.Counted.{Inside, size, without, without_first, cut_to, with_word}
-use Rattle.consumer.specs.Lists.{consumer_list, nacked_list}
-use Rattle.consumer.proofs.Removed.{removed_consumer}
-use Rattle.consumer.proofs.NackedWords.{dropped_nacked}
-use Rattle.consumer.proofs.Records.{cleared_nacked}
+use Rattle.store.specs.declared.counted.Counted.{Counted}
+use Rattle.store.specs.Counted.{Inside, HasRoom, size, without, without_first, cut_to, with_last, with_inserted}
+use Rattle.store.proofs.Listed.{one_word}
+use Rattle.consumer.specs.Lists.{nacked_list}
 
 -- ---- the consumers
+
+-- where they stand
+abbrev pub consumer_list : Counted
+consumer_list = record { count_at = consumer_count_at; first = consumer_at 0; width = consumer_words }
 
 pub consumer_size : {e : ℕ} {ws : List ℕ} → CanonStore e ws → size consumer_list ws ≡ length (decode ws).consumers
 consumer_size h = read_consumer_count h
@@ -31,13 +39,29 @@ consumer_inside h =
     let l = h.long in
     record { counted = omega arith; inside = omega arith }
 
+pub consumer_room : {e : ℕ} {ws : List ℕ} → CanonStore e ws → length (decode ws).consumers < 32 → HasRoom consumer_list ws
+consumer_room h f =
+    let n = consumer_size h in
+    let l = h.long in
+    record { counted = omega arith; few = omega arith; inside = omega arith }
+
+-- a blank one put in at i
+pub consumer_opened : {e : ℕ} {ws : List ℕ} (i : ℕ) → CanonStore e ws → i ≤ length (decode ws).consumers → length (decode ws).consumers < 32
+    → with_inserted consumer_list i (replicate 72 0) ws ≡ put ws (with_consumers (decode ws) (take i (decode ws).consumers ++ zero_consumer ∷ drop i (decode ws).consumers))
+consumer_opened {ws = ws} i h k l =
+    let z : replicate 72 0 ≡ consumer_codec.enc zero_consumer = sym (blank_consumer.spelt ∙ ap (λ (w : ℕ). replicate w 0) width_consumer) in
+    ap (λ (vs : List ℕ). with_inserted consumer_list i vs ws) z ∙ rw (consumer_size h) (layout.insert_consumer h i zero_consumer k l)
+
 module _ {e : ℕ} {ws : List ℕ} (i : ℕ) (h : ConsumerIn e ws i) where
+  abbrev C : Consumer
+  C = consumer_nth (decode ws) i
+
   pub consumer_without : without consumer_list i ws ≡ put ws (with_consumers (decode ws) (take i (decode ws).consumers ++ drop (i + 1) (decode ws).consumers))
-  consumer_without = removed_consumer i (consumer_at i) (size consumer_list ws) h refl (consumer_size h.canon) refl
+  consumer_without = rw (consumer_size h.canon) (layout.remove_consumer h.canon i h.there)
 
   -- ---- nacked positions
 
-  pub nacked_size : size (nacked_list i) ws ≡ length (consumer_nth (decode ws) i).nacked
+  pub nacked_size : size (nacked_list i) ws ≡ length C.nacked
   nacked_size = read_nacked_count h.canon i h.there
 
   pub nacked_inside : Inside (nacked_list i) ws
@@ -48,19 +72,21 @@ module _ {e : ℕ} {ws : List ℕ} (i : ℕ) (h : ConsumerIn e ws i) where
       let l = h.canon.long in
       record { counted = omega arith; inside = omega arith }
 
-  pub nacked_with : (k : ℕ) → length (consumer_nth (decode ws) i).nacked < 64
-      → with_word (nacked_list i) k ws ≡ put ws (set_consumer (decode ws) i (with_reading (consumer_nth (decode ws) i) (consumer_nth (decode ws) i).cursor ((consumer_nth (decode ws) i).nacked ++ k ∷ [])))
-  nacked_with k l = rw nacked_size (layout.append_nacked h.canon i h.there k l)
+  pub nacked_with : (k : ℕ) → length C.nacked < 64
+      → with_last (nacked_list i) (k ∷ []) ws ≡ put ws (set_consumer (decode ws) i (with_reading C C.cursor (C.nacked ++ k ∷ [])))
+  nacked_with k l =
+      let to : consumer_at i + 7 + size (nacked_list i) ws * 1 ≡ consumer_at i + 7 + size (nacked_list i) ws = omega arith in
+      rw (to, one_word, nacked_size) (layout.append_nacked h.canon i h.there k l)
 
-  pub nacked_without : (n : ℕ) → n ≤ length (consumer_nth (decode ws) i).nacked
-      → without_first (nacked_list i) n ws ≡ put ws (set_consumer (decode ws) i (with_reading (consumer_nth (decode ws) i) (consumer_nth (decode ws) i).cursor (drop n (consumer_nth (decode ws) i).nacked)))
+  pub nacked_without : (n : ℕ) → n ≤ length C.nacked
+      → without_first (nacked_list i) n ws ≡ put ws (set_consumer (decode ws) i (with_reading C C.cursor (drop n C.nacked)))
   nacked_without n l =
       let gap : n * 1 ≡ n = omega arith in
       let rest : (size (nacked_list i) ws - n) * 1 ≡ size (nacked_list i) ws - n = omega arith in
-      dropped_nacked i (consumer_at i) n (size (nacked_list i) ws) h refl l nacked_size (rw (gap, rest))
+      rw (gap, rest, nacked_size) (layout.drop_nacked h.canon i h.there n l)
 
-  pub nacked_none : cut_to (nacked_list i) 0 ws ≡ put ws (set_consumer (decode ws) i (with_reading (consumer_nth (decode ws) i) (consumer_nth (decode ws) i).cursor []))
+  pub nacked_none : cut_to (nacked_list i) 0 ws ≡ put ws (set_consumer (decode ws) i (with_reading C C.cursor []))
   nacked_none =
-      let all : size (nacked_list i) ws * 1 ≡ size (nacked_list i) ws = omega arith in
       let to : consumer_at i + 7 + 0 * 1 ≡ consumer_at i + 7 = omega arith in
-      cleared_nacked i (consumer_at i) (size (nacked_list i) ws) h refl nacked_size (rw (all, to))
+      let all : consumer_at i + 7 + size (nacked_list i) ws * 1 - (consumer_at i + 7) ≡ size (nacked_list i) ws = omega arith in
+      rw (to, all, nacked_size) (layout.clear_nacked h.canon i h.there)

@@ -1,12 +1,8 @@
--- Where the lists of consumers and of their nacked positions stand in a store.
+-- Where the list of a consumer's nacked positions stands in a store.
 use Rattle.std.specs.Prelude.{ℕ, ◌+◌}
-use Rattle.layout.specs.Offsets.{consumer_at}
+use Rattle.layout.specs.Offsets.{consumer_at, nacked_in}
 use Rattle.store.specs.declared.counted.Counted.{Counted}
 
--- the consumers
-abbrev pub consumer_list : Counted
-consumer_list = record { count_at = 16; first = 17; width = 72 }
-
--- the nacked positions of one
+-- the nacked positions
 abbrev pub nacked_list : ℕ → Counted
-nacked_list i = record { count_at = consumer_at i + 6; first = consumer_at i + 7; width = 1 }
+nacked_list i = record { count_at = consumer_at i + nacked_in; first = consumer_at i + (nacked_in + 1); width = 1 }

@@ -5,17 +5,17 @@ ghost use Rattle.rules.specs.State.Kind.{shared};
 ghost use Rattle.rules.specs.Commands.{with_permits, with_reading};
 ghost use Rattle.layout.specs.Records.{flag_of};
 ghost use Rattle.layout.specs.Layout.{decode};
-ghost use Rattle.layout.specs.Fields.{pair_of, consumer_now, consumer_changed};
+ghost use Rattle.layout.specs.Fields.{consumer_now, consumer_changed};
 ghost use Rattle.layout.specs.Placed.{ConsumerIn};
 ghost use Rattle.store.specs.Find.{slot};
 ghost use Rattle.store.specs.Found.{found};
+ghost use Rattle.command_parts.specs.Parts.{kind_of};
+ghost use Rattle.dispatcher.specs.Pairs.{pair_in};
 ghost use Rattle.consumer.specs.Live.{Live};
 
+use command_parts::Kind;
 use dispatcher::table::{Pair, find_dispatcher};
-use store::offsets::{
-    CONSUMER_CURSOR_IN, CONSUMER_SUBSCRIPTION_IN, CONSUMER_TOPIC_IN, KIND_IN, PERMITS_IN,
-    consumer_at,
-};
+use store::offsets::{CONSUMER_CURSOR_IN, CONSUMER_TOPIC_IN, KIND_IN, PERMITS_IN, consumer_at};
 use store::stretch::word;
 
 // The id of consumer `i`.
@@ -48,13 +48,18 @@ pub fn topic(store: &[u64], e: usize, i: usize) -> u64
 // The pair of consumer `i`.
 pub fn pair(store: &[u64], e: usize, i: usize) -> Pair
     requires { ConsumerIn e store.now i }
-    ensures { pair_of result.topic result.subscription ≡ (consumer_now store.now i).pair }
+    ensures { pair_in result ≡ (consumer_now store.now i).pair }
+{
+    Pair::at(store, consumer_at(i) + CONSUMER_TOPIC_IN)
+}
+
+// The kind of consumer `i`.
+pub fn kind(store: &[u64], e: usize, i: usize) -> Kind
+    requires { ConsumerIn e store.now i }
+    ensures { kind_of result ≡ (consumer_now store.now i).kind }
 {
     let at = consumer_at(i);
-    Pair {
-        topic: store[at + CONSUMER_TOPIC_IN],
-        subscription: store[at + CONSUMER_SUBSCRIPTION_IN],
-    }
+    Kind::from(store[at + KIND_IN])
 }
 
 // Whether consumer `i` is a shared one.
@@ -62,8 +67,7 @@ pub fn is_shared(store: &[u64], e: usize, i: usize) -> bool
     requires { ConsumerIn e store.now i }
     ensures { result ≡ flag_of (consumer_now store.now i).kind }
 {
-    let at = consumer_at(i);
-    store[at + KIND_IN] == 1
+    kind(store, e, i) == Kind::Shared
 }
 
 // The cursor of consumer `i`.

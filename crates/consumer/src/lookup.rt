@@ -1,4 +1,4 @@
-// The live consumer with an id: what flow, ack, seek and redeliver look for first.
+// The live consumer with an id: what each operation on a consumer looks for first.
 ghost use Rattle.std.specs.Prelude.{◌≡◌};
 ghost use Rattle.rules.specs.State.{Consumer, by_id};
 ghost use Rattle.rules.specs.Outcome.{Outcome, with_live};
@@ -11,8 +11,8 @@ use super::fields::consumer_id;
 use super::table::consumer_count;
 use search::first_row;
 
-// The slot of the live consumer with an id. With none an operation stops with refusal 4, else it goes on with the
-// consumer there, as the rules have it, whatever it goes on to do.
+// The slot of the live consumer with an id. With none flow, ack, seek and redeliver stop with refusal 4, else they go on
+// with the consumer there, as the rules have it, whatever they go on to do.
 pub fn find_consumer(store: &[u64], e: usize, id: u64) -> Option<usize>
     requires { CanonStore e store.now }
     ensures slot { result ≡ found by_id id (decode store.now).consumers }

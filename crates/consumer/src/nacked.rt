@@ -44,7 +44,7 @@ pub fn append_nacked(store: &mut [u64], e: usize, i: usize, k: usize)
     requires { ConsumerIn e store.old i × (length (consumer_now store.old i).nacked < 64) }
     ensures { store.new ≡ consumer_changed store.old i (λ x. with_reading x x.cursor (x.nacked ++ k ∷ [])) }
 {
-    nacked_list(i).push(store, k as u64);
+    nacked_list(i).push(store, [k as u64]);
 }
 
 // The first `n` nacked positions of consumer `i` are taken out.

@@ -18,38 +18,11 @@ use Rattle.layout.proofs.SetsDispatcher as layout
 use Rattle.topic.specs.Ids.{id_of, id_at}
 
 module _ {e : ℕ} {ws : List ℕ} (d at : ℕ) (h : DispatcherIn e ws d) (a : at ≡ dispatcher_at e d) where
-  -- the number of outside ids
-  pub outside_counted : get_or ws (at + 44) 0 ≡ length (dispatcher_nth (decode ws) d).outside
-  outside_counted = rw a (read_outside_count h.canon d h.there)
-
   -- outside id j
   pub outside_here : (j : ℕ) → j < length (dispatcher_nth (decode ws) d).outside → id_at ws (at + 45 + j * 2) ≡ get_or (dispatcher_nth (decode ws) d).outside j zero_id
   outside_here j l =
       let n : at + 45 + j * 2 ≡ dispatcher_at e d + outside_id_in j = omega arith in
       rw n (ap₂ id_of (read_outside_ledger h.canon d h.there j l) (read_outside_entry h.canon d h.there j l))
-
-  -- the gap of outside id j closed, then the count lowered
-  pub removed_outside : {us : List ℕ} (j n : ℕ) → j < length (dispatcher_nth (decode ws) d).outside → n ≡ length (dispatcher_nth (decode ws) d).outside
-      → us ≡ (close 2 ((n - (j + 1)) * 2)).run (at + 45 + j * 2) ws
-      → set us (at + 44) (n - 1) ≡ put ws (set_dispatcher (decode ws) d (with_marks (dispatcher_nth (decode ws) d) (dispatcher_nth (decode ws) d).marks
-      (take j (dispatcher_nth (decode ws) d).outside ++ drop (j + 1) (dispatcher_nth (decode ws) d).outside)))
-  removed_outside j n l c w =
-      let to : at + 45 + j * 2 ≡ dispatcher_at e d + outside_id_in j = omega arith in
-      rw (w, to, a, c) (layout.remove_outside h.canon d h.there j l)
-
-  -- the number of marks
-  pub marks_counted : get_or ws (at + 175 + 3 * e) 0 ≡ length (dispatcher_nth (decode ws) d).marks
-  marks_counted =
-      let n : at + 175 + 3 * e ≡ dispatcher_at e d + marks_in e = omega arith in
-      rw n (read_mark_count h.canon d h.there)
-
-  -- the count of marks raised
-  pub raised_marks : (n : ℕ) → n ≡ length (dispatcher_nth (decode ws) d).marks → n < e
-      → set ws (at + 175 + 3 * e) (n + 1) ≡ put ws (set_dispatcher (decode ws) d (with_marks (dispatcher_nth (decode ws) d)
-      ((dispatcher_nth (decode ws) d).marks ++ new_mark ∷ []) (dispatcher_nth (decode ws) d).outside))
-  raised_marks n c l =
-      let to : at + 175 + 3 * e ≡ dispatcher_at e d + marks_in e = omega arith in
-      rw (to, c) (layout.raise_marks h.canon d h.there 1 (omega arith))
 
   -- mark k complete
   pub completed_mark : (k : ℕ) → k < length (dispatcher_nth (decode ws) d).marks

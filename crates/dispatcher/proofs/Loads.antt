@@ -53,7 +53,7 @@ six_words a b c d f g to ws =
     rw (one, two, three, four, five)
 
 -- an id inserted stands before the first that comes after it
-placed : (i : Id) (l : List Id) → insert_id i l ≡ take (slot by_order i l) l ++ i ∷ drop (slot by_order i l) l
+pub placed : (i : Id) (l : List Id) → insert_id i l ≡ take (slot by_order i l) l ++ i ∷ drop (slot by_order i l) l
 unfolding insert_id slot
 placed i [] = refl
 placed i (j ∷ l) = by_test (after_id j i) (λ t. rw t) (λ t. rw t (ap (λ (m : List Id). j ∷ m) (placed i l)))
@@ -103,20 +103,6 @@ module _ {e : ℕ} {ws : List ℕ} (d at : ℕ) (h : DispatcherIn e ws d) (a : a
   unfolding head_of
   head_here =
       rw a (rw (read_next h.canon d h.there, read_cursor h.canon d h.there, read_mark_delete h.canon d h.there, read_total h.canon d h.there))
-
-  -- an id written in its place, those from there on moved up, then their count raised
-  pub inserted_outside : {us : List ℕ} (n j : ℕ) (i : Id) → n ≡ length D.outside → j ≡ slot by_order i D.outside → length D.outside < 64
-      → us ≡ (up 2 ((n - j) * 2)).run (at + 45 + j * 2) ws
-      → set (set (set us (at + 45 + j * 2) i.ledger) (at + 45 + j * 2 + 1) i.entry) (at + 44) (n + 1)
-      ≡ put ws (set_dispatcher (decode ws) d (with_marks D D.marks (insert_id i D.outside)))
-  unfolding both
-  inserted_outside {us} n j i c p l w =
-      let to : at + 45 + j * 2 ≡ dispatcher_at e d + outside_id_in j = omega arith in
-      let few = slot_le by_order i D.outside in
-      rw (two_words i.ledger i.entry (at + 45 + j * 2) us, w, to, a, c)
-      (layout.insert_outside h.canon d h.there j i (omega arith) l
-      ∙ ap (λ (ids : List Id). put ws (set_dispatcher (decode ws) d (with_marks D D.marks ids)))
-      (ap (λ (m : ℕ). take m D.outside ++ i ∷ drop m D.outside) p ∙ sym (placed i D.outside)))
 
   -- ---- the four numbers written
 
@@ -180,16 +166,3 @@ module _ {e : ℕ} {ws : List ℕ} (d at : ℕ) (h : DispatcherIn e ws d) (a : a
   held_written j i k l =
       let to : at + 175 + e + j * 2 ≡ dispatcher_at e d + held_in e j = omega arith in
       rw (two_words i k (at + 175 + e + j * 2) ws, to) (layout.write_held h.canon d h.there j l (held_of i k))
-
-  -- the entries in flight past the first n cleared, then their count lowered
-  pub kept_flight : {us : List ℕ} (n m : ℕ) → n ≤ length D.in_flight → m ≡ length D.in_flight
-      → us ≡ (clear (at + 175 + e + m * 2 - (at + 175 + e + n * 2))).run (at + 175 + e + n * 2) ws
-      → set us (at + 174 + e) n ≡ put ws (set_dispatcher (decode ws) d (with_places D D.redelivery (take n D.in_flight)))
-  kept_flight n m l c w =
-      let to : at + 175 + e + n * 2 ≡ dispatcher_at e d + held_in e n = omega arith in
-      let up : at + 174 + e ≡ dispatcher_at e d + flight_in e = omega arith in
-      let few : at + 175 + e + m * 2 - (at + 175 + e + n * 2) ≡ (length D.in_flight - n) * 2 = omega arith in
-      let f : length D.in_flight ≤ e = h.lists_fit.flight_fits in
-      rw (w, few, to, up)
-      (lists h.canon (spot_in (dispatcher_here h.canon d h.there) (flight_part e _)) (clear ((length D.in_flight - n) * 2)) (n * 2) n
-      (writes_keep held_codec width_held e D.in_flight n l f) (dispatcher_at e d + held_in e n) (omega arith))

@@ -9,10 +9,6 @@ use Rattle.layout.specs.Fields.{zero_held, dispatcher_now}
 abbrev pub held_of : ℕ → ℕ → Held
 held_of holder position = record { holder = holder; position = position }
 
--- the entry in flight at an offset of a store
-abbrev pub held_at : List ℕ → ℕ → Held
-held_at ws at = held_of (get_or ws at 0) (get_or ws (at + 1) 0)
-
 -- entry j in flight of dispatcher d of the state that words decode to
 abbrev pub held_now : List ℕ → ℕ → ℕ → Held
 held_now ws d j = get_or (dispatcher_now ws d).in_flight j zero_held

@@ -40,7 +40,8 @@ pub fn drop_complete(store: &mut [u64], e: usize, d: usize, id: u64)
     keep_flight(store, e, d, kept);
 }
 
-// The first position from `from` on whose entry is not complete, in dispatcher `d`.
+// The first position from `from` on whose entry is not complete, in dispatcher `d`. Where all from there on are complete
+// it is the one past the last mark, and mark-delete goes there.
 fn first_incomplete(store: &[u64], e: usize, d: usize, from: usize) -> usize
     requires { DispatcherIn e store.now d }
     ensures { result ≡ from + leading_complete (drop from (dispatcher_now store.now d).marks) }

@@ -70,12 +70,7 @@ pub fn append_flight(store: &mut [u64], e: usize, d: usize, id: u64, k: usize)
     ensures { store.new ≡ dispatcher_changed store.old d
         (λ x. with_places x x.redelivery (x.in_flight ++ held_of id k ∷ [])) }
 {
-    let at = dispatcher_at(e, d);
-    let n = word(store, at + FLIGHT_IN + e);
-    let free = at + HELD_IN + e + n * HELD_WORDS;
-    store[free] = id;
-    store[free + 1] = k as u64;
-    store[at + FLIGHT_IN + e] = (n + 1) as u64;
+    flight_list(e, d).push(store, [id, k as u64]);
 }
 
 // Entry `j` in flight of dispatcher `d`.

@@ -3,31 +3,29 @@ ghost use Rattle.std.specs.Prelude.{◌≡◌, ◌++◌, ◌∷◌, [], ◌≤�
 ghost use Rattle.rules.specs.State.{new_dispatcher, with_dispatchers};
 ghost use Rattle.layout.specs.Layout.{decode};
 ghost use Rattle.layout.specs.Canon.{CanonStore};
-ghost use Rattle.layout.specs.Fields.{zero_dispatcher, pair_of, state_changed};
+ghost use Rattle.layout.specs.Fields.{zero_dispatcher, state_changed};
+ghost use Rattle.dispatcher.specs.Pairs.{pair_in};
 
-use super::table::Pair;
-use store::offsets::{
-    DISPATCHER_COUNT_AT, DISPATCHERS_AT_E, MARKS_IN, MARKS_IN_E, SUBSCRIPTION_IN, TOTAL_IN,
-    dispatcher_at,
-};
+use super::table::{Pair, dispatcher_count, dispatcher_list};
+use store::offsets::{MARKS_IN, MARKS_IN_E, SUBSCRIPTION_IN, TOTAL_IN, dispatcher_at};
 use store::permits::ZERO_PERMITS;
 
-// The table, which has `n` dispatchers and room, gains a blank one at its end: the words there are 0
-// already.
-fn raise_dispatchers(store: &mut [u64], e: usize, n: usize)
-    requires { CanonStore e store.old × (n ≡ length (decode store.old).dispatchers) × (n < 8) }
+// The table, which has room, gains a blank dispatcher at its end: the words there are 0 already.
+fn raise_dispatchers(store: &mut [u64], e: usize)
+    requires { CanonStore e store.old × (length (decode store.old).dispatchers < 8) }
     ensures { store.new ≡ state_changed store.old (λ s. with_dispatchers s (s.dispatchers ++ zero_dispatcher ∷ [])) }
 {
-    store[DISPATCHER_COUNT_AT + DISPATCHERS_AT_E * e] = (n + 1) as u64;
+    dispatcher_list(e).raise(store);
 }
 
-// The table, which has `n` dispatchers and room, gains a new one over a ledger of `entries`.
-pub fn make_dispatcher(store: &mut [u64], e: usize, n: usize, pair: Pair, entries: usize)
-    requires { CanonStore e store.old × (n ≡ length (decode store.old).dispatchers) × (n < 8) × (entries ≤ e) }
+// The table, which has room, gains a new dispatcher over a ledger of `entries`.
+pub fn make_dispatcher(store: &mut [u64], e: usize, pair: Pair, entries: usize)
+    requires { CanonStore e store.old × (length (decode store.old).dispatchers < 8) × (entries ≤ e) }
     ensures { store.new ≡ state_changed store.old
-        (λ s. with_dispatchers s (s.dispatchers ++ new_dispatcher (pair_of pair.topic pair.subscription) entries ∷ [])) }
+        (λ s. with_dispatchers s (s.dispatchers ++ new_dispatcher (pair_in pair) entries ∷ [])) }
 {
-    raise_dispatchers(store, e, n);
+    let n = dispatcher_count(store, e);
+    raise_dispatchers(store, e);
     let at = dispatcher_at(e, n);
     store[at] = pair.topic;
     store[at + SUBSCRIPTION_IN] = pair.subscription;

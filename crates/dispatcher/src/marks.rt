@@ -1,21 +1,23 @@
 // The marks of a dispatcher, one for each entry of its topic.
-ghost use Rattle.std.specs.Prelude.{◌≡◌, true, ◌++◌, ◌∷◌, [], ◌<◌, length, get_or, set};
+ghost use Rattle.std.specs.Prelude.{◌≡◌, true, ◌++◌, ◌∷◌, [], ◌≤◌, ◌<◌, length, get_or, set};
 ghost use Rattle.rules.specs.State.{new_mark};
 ghost use Rattle.rules.specs.Dispatcher.{with_marks, mark_at, complete_at};
 ghost use Rattle.rules.specs.Commands.{raised};
 ghost use Rattle.layout.specs.Fields.{dispatcher_now, dispatcher_changed, with_complete};
 ghost use Rattle.layout.specs.Placed.{DispatcherIn};
+ghost use Rattle.dispatcher.specs.Lists.{mark_list};
 ghost use Rattle.dispatcher.specs.Values.{mark_of};
 
 use bits::UnackedBits;
+use store::counted::Counted;
 use store::limits::MOST_REDELIVERIES;
 use store::offsets::{
     BITS_1_IN, BITS_2_IN, BITS_3_IN, BITS_IN, MARK_IN, MARK_WORDS, MARKS_IN, MARKS_IN_E,
     REDELIVERY_COUNT_IN, REDELIVERY_COUNTS_IN, dispatcher_at,
 };
-use store::stretch::word;
 
-// A mark by value: whether its entry is complete, its redelivery count, its stored bits.
+// A mark by value: whether its entry is complete, its redelivery count, its stored bits. A complete entry may have bits
+// (an ack in part after it was completed), so neither says the other.
 #[derive(Clone, Copy)]
 pub struct Mark {
     pub complete: bool,
@@ -23,23 +25,33 @@ pub struct Mark {
     pub unacked: UnackedBits,
 }
 
+// The marks of dispatcher `d`, as a list in a store.
+fn mark_list(e: usize, d: usize) -> Counted
+    requires { (e ≤ 4096) × (d ≤ 8) }
+    ensures { result ≡ mark_list e d }
+{
+    let at = dispatcher_at(e, d);
+    Counted {
+        count_at: at + MARKS_IN + MARKS_IN_E * e,
+        first: at + MARK_IN + MARKS_IN_E * e,
+        width: MARK_WORDS,
+    }
+}
+
 // The number of marks of dispatcher `d`.
 pub fn mark_count(store: &[u64], e: usize, d: usize) -> usize
     requires { DispatcherIn e store.now d }
     ensures { result ≡ length (dispatcher_now store.now d).marks }
 {
-    let at = dispatcher_at(e, d);
-    word(store, at + MARKS_IN + MARKS_IN_E * e)
+    mark_list(e, d).count(store)
 }
 
-// Dispatcher `d`, which has `n` marks and room, gains a new one at their end: the words there are 0
-// already.
-pub fn raise_marks(store: &mut [u64], e: usize, d: usize, n: usize)
-    requires { DispatcherIn e store.old d × (n ≡ length (dispatcher_now store.old d).marks) × (n < e) }
+// Dispatcher `d`, which has room, gains a new mark at the end: the words there are 0 already.
+pub fn raise_marks(store: &mut [u64], e: usize, d: usize)
+    requires { DispatcherIn e store.old d × (length (dispatcher_now store.old d).marks < e) }
     ensures { store.new ≡ dispatcher_changed store.old d (λ x. with_marks x (x.marks ++ new_mark ∷ []) x.outside) }
 {
-    let at = dispatcher_at(e, d);
-    store[at + MARKS_IN + MARKS_IN_E * e] = (n + 1) as u64;
+    mark_list(e, d).raise(store);
 }
 
 // Mark `k` of dispatcher `d` becomes complete.

@@ -12,9 +12,7 @@ ghost use Rattle.dispatcher.specs.Outside.{by_itself, by_order};
 use message_id::Id;
 use search::first_row;
 use store::counted::Counted;
-use store::movers::move_up;
-use store::offsets::{ENTRY_IN, ID_WORDS, OUTSIDE_IDS_IN, OUTSIDE_IN, dispatcher_at};
-use store::stretch::word;
+use store::offsets::{ID_WORDS, OUTSIDE_IDS_IN, OUTSIDE_IN, dispatcher_at};
 use topic::find::id_at;
 
 // The outside ids of dispatcher `d`, as a list in a store.
@@ -82,12 +80,6 @@ pub fn insert_outside(store: &mut [u64], e: usize, d: usize, id: Id)
     ensures { store.new ≡ dispatcher_changed store.old d
         (λ x. with_marks x x.marks (insert_id id x.outside)) }
 {
-    let at = dispatcher_at(e, d);
-    let n = word(store, at + OUTSIDE_IN);
     let j = place_for_outside(store, e, d, id);
-    let free = at + OUTSIDE_IDS_IN + j * ID_WORDS;
-    move_up(store, free, ID_WORDS, (n - j) * ID_WORDS);
-    store[free] = id.ledger;
-    store[free + ENTRY_IN] = id.entry;
-    store[at + OUTSIDE_IN] = (n + 1) as u64;
+    outside_list(e, d).insert(store, j, [id.ledger, id.entry]);
 }

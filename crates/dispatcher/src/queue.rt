@@ -44,7 +44,7 @@ pub fn append_queue(store: &mut [u64], e: usize, d: usize, k: usize)
     requires { DispatcherIn e store.old d × (length (dispatcher_now store.old d).redelivery < e) }
     ensures { store.new ≡ dispatcher_changed store.old d (λ x. with_places x (x.redelivery ++ k ∷ []) x.in_flight) }
 {
-    queue_list(e, d).push(store, k as u64);
+    queue_list(e, d).push(store, [k as u64]);
 }
 
 // The first `n` positions leave the queue of dispatcher `d`; none, and no word is moved.

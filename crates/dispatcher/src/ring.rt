@@ -63,5 +63,5 @@ pub fn append_ring(store: &mut [u64], e: usize, d: usize, id: u64)
     requires { DispatcherIn e store.old d × (length (dispatcher_now store.old d).attached < 32) }
     ensures { store.new ≡ dispatcher_changed store.old d (λ x. with_attached x (x.attached ++ id ∷ [])) }
 {
-    ring_list(e, d).push(store, id);
+    ring_list(e, d).push(store, [id]);
 }

@@ -11,11 +11,12 @@ ghost use Rattle.layout.specs.Fields.{consumer_now};
 ghost use Rattle.refusal.specs.Words.{word_of};
 ghost use Rattle.consumer.specs.Live.{Live};
 
-use consumer::fields::{is_shared, permits, set_permits, shared_dispatcher};
+use command_parts::Kind;
+use consumer::fields::{kind, permits, set_permits, shared_dispatcher};
 use consumer::lookup::find_consumer;
 use dispatcher::total::{set_total_available_permits, total_available_permits};
 use refusal::{Answer, Refusal};
-use store::answers::entries;
+use store::header::entries;
 use store::permits::{MOST_PERMITS, MOST_TOTAL};
 
 // 4 if not live. 9 if the consumer would pass 2^40 or the dispatcher 2^60. The value is the
@@ -42,11 +43,13 @@ fn flow_live(store: &mut [u64], e: usize, i: usize, grant: u64) -> Answer
     if MOST_PERMITS < granted {
         return Err(Refusal::PermitsRange);
     }
-    if is_shared(store, e, i) {
-        return flow_shared(store, e, i, grant, granted);
+    match kind(store, e, i) {
+        Kind::Plain => {
+            set_permits(store, e, i, granted);
+            Ok(granted)
+        }
+        Kind::Shared => flow_shared(store, e, i, grant, granted),
     }
-    set_permits(store, e, i, granted);
-    Ok(granted)
 }
 
 // A flow of the live shared consumer `i`, which would have the permits `granted`.

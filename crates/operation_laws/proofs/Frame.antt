@@ -38,7 +38,7 @@ use Rattle.layout.proofs.Spot.{put_step}
 use Rattle.layout.proofs.Calls.{outcome_is}
 use Rattle.store.specs.Find.{slot}
 use Rattle.store.proofs.Finding.{slot_found, slot_none}
-use Rattle.operation_laws.specs.Place.{place}
+use Rattle.operation_laws.specs.Place.{by_above}
 
 -- ---- rows of any table, by their slot
 
@@ -112,8 +112,8 @@ insert_found c (d ∷ l) a h =
 
 -- a consumer inserted at an id that does not stand there has its place
 pub insert_missing : (c : Consumer) (l : List Consumer) → length l ≤ slot by_id c.id l
-    → insert c l ≡ take (place c.id l) l ++ c ∷ drop (place c.id l) l
-unfolding slot insert place
+    → insert c l ≡ take (slot by_above c.id l) l ++ c ∷ drop (slot by_above c.id l) l
+unfolding slot insert
 insert_missing c [] h = refl
 insert_missing c (d ∷ l) h =
     by_test (eqb c.id d.id)
@@ -121,12 +121,6 @@ insert_missing c (d ∷ l) h =
     (λ t. let h' : suc (length l) ≤ suc (slot by_id c.id l) = rw t at h in
     by_test (ltb c.id d.id) (λ u. rw u)
     (λ u. rw (u, t) (ap (λ (r : List Consumer). d ∷ r) (insert_missing c l (le_of_suc-le-suc h')))))
-
--- a place is in the table or just past it
-pub place_le : (i : ℕ) (l : List Consumer) → place i l ≤ length l
-unfolding place
-place_le i [] = omega arith
-place_le i (c ∷ l) = let h = place_le i l in by_test (ltb i c.id) (λ t. rw t (omega arith)) (λ t. rw t (omega arith))
 
 -- the consumers without the one at a slot
 keep_others : (i : ℕ) (l : List Consumer) → Ascending l → slot by_id i l < length l
@@ -175,7 +169,7 @@ module _ (s : State) (i id : ℕ) (e : i ≡ slot by_id id s.consumers) where
 
   -- a consumer of such an id that is put in the state has its place
   pub put_consumer_new : (c : Consumer) → length s.consumers ≤ i → c.id ≡ id
-      → put_consumer s c ≡ with_consumers s (take (place c.id s.consumers) s.consumers ++ c ∷ drop (place c.id s.consumers) s.consumers)
+      → put_consumer s c ≡ with_consumers s (take (slot by_above c.id s.consumers) s.consumers ++ c ∷ drop (slot by_above c.id s.consumers) s.consumers)
   unfolding put_consumer
   put_consumer_new c h q =
       let e' : i ≡ slot by_id c.id s.consumers = e ∙ ap (λ (j : ℕ). slot by_id j s.consumers) (sym q) in

@@ -1,8 +1,8 @@
--- Where a new consumer stands among those with ascending ids.
-use Rattle.std.specs.Prelude.{ℕ, suc, cond, List, [], ◌∷◌, ltb}
+-- Where a new consumer stands among those with ascending ids: at the slot of the first whose id is above its own.
+use Rattle.std.specs.Prelude.{ℕ, ltb}
+use Rattle.rules.specs.Table.{Key}
 use Rattle.rules.specs.State.{Consumer}
 
--- how many consumers stand before the first whose id is above an id
-unfoldable pub place : ℕ → List Consumer → ℕ
-place i [] = 0
-place i (c ∷ l) = cond (ltb i c.id) 0 (suc (place i l))
+-- an id finds the consumers whose ids are above it
+abbrev pub by_above : Key Consumer ℕ
+by_above = record { key = λ c. c.id; same = ltb }

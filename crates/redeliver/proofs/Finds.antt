@@ -6,6 +6,7 @@ use Prim.Native.Nat.{ℕ, ◌+◌, ◌≤◌, ◌<◌}
 use native.Mathlib.Omega.{arith}
 use lib.Dec.{ltb}
 use lib.ListN.{length}
+use mir.Val.{bool_byte}
 use borrow.Author.Tests.{lt-ltb, le-ltb}
 use Rattle.rules.specs.State.{StoredMessage}
 use Rattle.rules.specs.Ledger.{position_of, holds_id}
@@ -25,13 +26,9 @@ module _ (ledger : List StoredMessage) (g : Group) where
   found_none h = rw (le-ltb (position_of g.id ledger) (length ledger) h)
 
   -- counted, by whether it is
-  pub found_told : ltb (position_of g.id ledger) (length ledger) ≡ true → 1 ≡ length (found_positions ledger (g ∷ []))
+  pub found_told : bool_byte (ltb (position_of g.id ledger) (length ledger)) ≡ length (found_positions ledger (g ∷ []))
   unfolding found_positions holds_id
-  found_told t = rw t
-
-  pub found_not_told : ltb (position_of g.id ledger) (length ledger) ≡ false → 0 ≡ length (found_positions ledger (g ∷ []))
-  unfolding found_positions holds_id
-  found_not_told t = rw t
+  found_told = by_test (ltb (position_of g.id ledger) (length ledger)) (λ t. rw t) (λ t. rw t)
 
   -- the first group and the rest
   pub found_first : (gs : List Group) → found_positions ledger (g ∷ gs) ≡ found_positions ledger (g ∷ []) ++ found_positions ledger gs

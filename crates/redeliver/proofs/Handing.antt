@@ -19,14 +19,11 @@ use Rattle.layout.proofs.Store.{canon_entries, put_decode}
 use Rattle.layout.proofs.Placed.{shaped_places, shaped_set_dispatcher}
 use Rattle.rules.specs.Groups.{Group}
 use Rattle.operation_laws.proofs.Frame.{decode_after, dispatcher_twice, dispatcher_set_in, dispatcher_now_is}
+use Rattle.dispatcher.proofs.Returning.{length_without}
 use Rattle.redeliver.specs.Back.{handed}
 use Rattle.redeliver.proofs.Holds.{valid_fits}
 
 -- ---- one entry
-
--- a list without one of its elements is shorter
-length_without : {A : Type 0} (j : ℕ) (l : List A) → length (take j l ++ drop (j + 1) l) ≤ length l
-length_without j l = let a = length-take j l in let b = length-drop (j + 1) l in let c : length (take j l ++ drop (j + 1) l) ≡ length (take j l) + length (drop (j + 1) l) = simp length-append in omega arith
 
 -- the position at the queue's end
 abbrev queued : ℕ → Dispatcher → Dispatcher
@@ -55,7 +52,7 @@ module _ {e : ℕ} {ws : List ℕ} (d j k : ℕ) (h : DispatcherIn e ws d) (l : 
   unfolding with_places
   landed_fits =
       let x = dispatcher_nth (decode ws) d in
-      let n = length_without j x.in_flight in
+      let n = length_without j x.in_flight l in
       let f = h.lists_fit.flight_fits in
       rw (canon_entries h.canon) (shaped_places x h.lists_fit (x.redelivery ++ k ∷ []) (take j x.in_flight ++ drop (j + 1) x.in_flight) longer (omega (arith, n, f)))
 

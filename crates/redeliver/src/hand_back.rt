@@ -12,6 +12,7 @@ ghost use Rattle.redeliver.specs.Back.{handed};
 
 use dispatcher::flight::{find_hold, remove_flight};
 use dispatcher::marks::raise_count;
+use dispatcher::numbers::topic;
 use dispatcher::queue::append_queue;
 use groups::group::Group;
 use groups::list::Groups;
@@ -29,13 +30,12 @@ fn hand_back_held(store: &mut [u64], e: usize, d: usize, j: usize, k: usize)
 }
 
 // The id of a group is handed back if `id` holds it.
-fn hand_back(store: &mut [u64], e: usize, d: usize, topic: u64, id: u64, group: Group)
-    requires { DispatcherIn e store.old d × ValidDispatcher (decode store.old) (dispatcher_now store.old d)
-        × ((dispatcher_now store.old d).pair.topic ≡ topic) }
+fn hand_back(store: &mut [u64], e: usize, d: usize, id: u64, group: Group)
+    requires { DispatcherIn e store.old d × ValidDispatcher (decode store.old) (dispatcher_now store.old d) }
     ensures { store.new ≡ dispatcher_changed store.old d
-        (λ x. redeliver_id (ledger_of (decode store.old) topic) id x (group_of group.entry).id) }
+        (λ x. redeliver_id (ledger_of (decode store.old) x.pair.topic) id x (group_of group.entry).id) }
 {
-    let Some(k) = position_in(store, e, topic, group) else {
+    let Some(k) = position_in(store, e, topic(store, e, d), group) else {
         return;
     };
     if let Some(j) = find_hold(store, e, d, id, k) {
@@ -44,20 +44,12 @@ fn hand_back(store: &mut [u64], e: usize, d: usize, topic: u64, id: u64, group: 
 }
 
 // Each id of some groups is handed back, in order, if `id` holds it.
-pub(crate) fn hand_back_all(
-    store: &mut [u64],
-    e: usize,
-    d: usize,
-    topic: u64,
-    id: u64,
-    groups: Groups,
-)
-    requires { DispatcherIn e store.old d × ValidDispatcher (decode store.old) (dispatcher_now store.old d)
-        × ((dispatcher_now store.old d).pair.topic ≡ topic) }
+pub(crate) fn hand_back_all(store: &mut [u64], e: usize, d: usize, id: u64, groups: Groups)
+    requires { DispatcherIn e store.old d × ValidDispatcher (decode store.old) (dispatcher_now store.old d) }
     ensures { store.new ≡ dispatcher_changed store.old d
-        (λ x. redeliver_groups (ledger_of (decode store.old) topic) id x (groups_in groups.entry)) }
+        (λ x. redeliver_groups (ledger_of (decode store.old) x.pair.topic) id x (groups_in groups.entry)) }
 {
     for group in groups {
-        hand_back(store, e, d, topic, id, group);
+        hand_back(store, e, d, id, group);
     }
 }

@@ -1,7 +1,7 @@
 -- A stretch of words tested for zeros, word by word and sixteen at a time: what the loops of `rest_blank` and `is_blank` turn
 -- on.
-use mathlib.Core.Path.{◌≡◌, refl, sym, ap, ◌∙◌}
-use mathlib.Core.Bool.{Bool, true, false, ◌&&◌}
+use mathlib.Core.Path.{◌≡◌, sym, ap, ◌∙◌}
+use mathlib.Core.Bool.{Bool, true, ◌&&◌, and_assoc}
 use mathlib.Core.List.{List}
 use Prim.Native.Nat.{ℕ, suc, ◌+◌, ◌-◌, ◌<◌, ◌≤◌}
 use native.Mathlib.Omega.{arith}
@@ -21,10 +21,6 @@ blank_next ws i to h l =
 -- an empty stretch
 pub blank_end : (ws : List ℕ) (i to : ℕ) → to ≤ i → blank (to - i) (drop i ws) ≡ true
 blank_end ws i to h = let e : to - i ≡ 0 = omega arith in ap (λ (n : ℕ). blank n (drop i ws)) e ∙ blank_none (drop i ws)
-
-and_assoc : (a b c : Bool) → (a && b && c) ≡ (a && (b && c))
-and_assoc true b c = refl
-and_assoc false b c = refl
 
 -- ---- words or-ed
 

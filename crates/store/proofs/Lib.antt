@@ -1,10 +1,11 @@
 pub mod Blank
-pub mod Clear
 pub mod Finding
 pub mod Founds
 pub mod Inside
+pub mod Listed
 pub mod Moving
 pub mod Opened
 pub mod Prefixes
 pub mod Rooms
+pub mod Slots
 pub mod Tests

@@ -1,46 +1,36 @@
-// Words of a store moved: a gap opened or closed among them. Each loop is one act on words; the library's `copy_within`
-// would call memmove, which a maker without a C library does not have.
-ghost use Rattle.std.specs.Prelude.{◌≡◌, ◌+◌, ◌≤◌, length};
-ghost use Rattle.words.specs.Act.{both, clear, close, down, up};
+// Words moved among some words: a gap closed at their front, or opened there. Each loop is one act on words; the library's
+// `copy_within` would call memmove, which a maker without a C library does not have.
+ghost use Rattle.std.specs.Prelude.{◌≡◌, ◌-◌, ◌≤◌, length};
+ghost use Rattle.words.specs.Act.{close, down, up};
 
-use super::stretch::clear_words;
-
-// Closes a gap of `width` words at `at`: the `count` words after it move down, and the words that
-// they leave become 0.
-pub fn close_gap(store: &mut [u64], at: usize, width: usize, count: usize)
-    requires { at + width + count ≤ length store.old }
-    ensures { store.new ≡ (close width count).run at store.old }
+// Closes a gap of `width` words at the front: the words after it move to the front, and the words that they leave become
+// 0.
+pub(crate) fn close_gap(words: &mut [u64], width: usize)
+    requires { width ≤ length words.old }
+    ensures { words.new ≡ (close width (length words.old - width)).run 0 words.old }
 {
-    move_down(store, at, width, count);
-    clear_words(store, at + count, at + count + width);
+    let kept = words.len() - width;
+    move_down(words, width);
+    words[kept..].fill(0);
 }
 
-// The `count` words that stand `width` words past `at` move down to `at`.
-fn move_down(store: &mut [u64], at: usize, width: usize, count: usize)
-    requires { at + width + count ≤ length store.old }
-    ensures { store.new ≡ (down width count).run at store.old }
+// The words after the first `width` move to the front.
+fn move_down(words: &mut [u64], width: usize)
+    requires { width ≤ length words.old }
+    ensures { words.new ≡ (down width (length words.old - width)).run 0 words.old }
 {
-    for i in 0..count {
-        store[at + i] = store[at + width + i];
+    for i in 0..words.len() - width {
+        words[i] = words[width + i];
     }
 }
 
-// Opens a gap of `width` words at `at`: the `count` words there move up, and the words that they
-// leave become 0.
-pub fn open_gap(store: &mut [u64], at: usize, width: usize, count: usize)
-    requires { at + width + count ≤ length store.old }
-    ensures { store.new ≡ (both (up width count) (clear width)).run at store.old }
+// Opens a gap of `width` words at the front: the words there move up to the end, the last one first. The words of the gap
+// stay as they are.
+pub(crate) fn open_gap(words: &mut [u64], width: usize)
+    requires { width ≤ length words.old }
+    ensures { words.new ≡ (up width (length words.old - width)).run 0 words.old }
 {
-    move_up(store, at, width, count);
-    clear_words(store, at, at + width);
-}
-
-// The `count` words at `at` move up by `width` words, the last one first.
-pub fn move_up(store: &mut [u64], at: usize, width: usize, count: usize)
-    requires { at + width + count ≤ length store.old }
-    ensures { store.new ≡ (up width count).run at store.old }
-{
-    for i in (0..count).rev() {
-        store[at + width + i] = store[at + i];
+    for i in (0..words.len() - width).rev() {
+        words[width + i] = words[i];
     }
 }

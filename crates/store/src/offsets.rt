@@ -93,7 +93,7 @@ pub const NACKED_IN: usize = 6;
 pub const NACKED_LIST_IN: usize = 7;
 
 // Those of consumer 0, from the first word of the store.
-pub const NACKED_LISTS_AT: usize = 24;
+pub const NACKED_LISTS_AT: usize = CONSUMERS_AT + NACKED_LIST_IN;
 
 // The reserved word.
 pub const CONSUMER_RESERVED_IN: usize = 71;
@@ -110,7 +110,7 @@ pub const MESSAGES_IN: usize = 3;
 pub const MESSAGE_IN: usize = 4;
 
 // That of topic 0, from the first word of the store.
-pub const MESSAGES_AT: usize = 2326;
+pub const MESSAGES_AT: usize = TOPICS_AT + MESSAGE_IN;
 
 // The words of a message: ledger, entry, handle, batch size.
 pub const MESSAGE_WORDS: usize = 4;
@@ -125,7 +125,7 @@ pub const HANDLE_IN: usize = 2;
 pub const BATCH_IN: usize = 3;
 
 // That of message 0, from the first word of its topic.
-pub const FIRST_BATCH_IN: usize = 7;
+pub const FIRST_BATCH_IN: usize = MESSAGE_IN + BATCH_IN;
 
 // ---- in a dispatcher, after its topic
 
@@ -152,9 +152,6 @@ pub const RING_IN: usize = 11;
 
 // The ring ids.
 pub const RING_IDS_IN: usize = 12;
-
-// Those of dispatcher 0, from the first word of the store (`DISPATCHERS_AT_E` more for each entry).
-pub const RINGS_AT: usize = 2367;
 
 // The number of complete ids outside the ledger (outside-in).
 pub const OUTSIDE_IN: usize = 44;
@@ -190,7 +187,7 @@ pub const MARKS_IN: usize = 175;
 pub const MARK_IN: usize = 176;
 
 // The redelivery count of mark 0, likewise.
-pub const REDELIVERY_COUNTS_IN: usize = 177;
+pub const REDELIVERY_COUNTS_IN: usize = MARK_IN + REDELIVERY_COUNT_IN;
 
 pub const MARKS_IN_E: usize = 3;
 

@@ -7,7 +7,6 @@ ghost use Rattle.store.specs.Open.{opened_words};
 
 use super::limits::MOST_ENTRIES;
 use super::offsets::{ENTRIES_AT, LAYOUT_TAG, LEAK_AT, NEEDED_WORDS, NEEDED_WORDS_E, NOOP_AT};
-use super::stretch::clear_words;
 use refusal::{Answer, Refusal};
 
 // The words become those of a store just opened, or stay as they are: 2 if E is not 1 to 4,096,
@@ -16,10 +15,7 @@ pub fn open(store: &mut [u64], entries: u64, leak: u64, noop: u64) -> Answer
     ensures answer { word_of result ≡ open_answer store.old entries leak noop }
     ensures words { store.new ≡ open_after store.old entries leak noop }
 {
-    if entries < 1 {
-        return Err(Refusal::BadEntries);
-    }
-    if MOST_ENTRIES < entries {
+    if !(1..=MOST_ENTRIES).contains(&entries) {
         return Err(Refusal::BadEntries);
     }
     let needed = NEEDED_WORDS + NEEDED_WORDS_E * (entries as usize);
@@ -35,7 +31,7 @@ fn open_words(store: &mut [u64], entries: u64, needed: usize, leak: u64, noop: u
     requires { (4 ≤ needed) × (needed ≤ length store.old) }
     ensures { store.new ≡ opened_words store.old entries needed leak noop }
 {
-    clear_words(store, 0, needed);
+    store[..needed].fill(0);
     store[0] = LAYOUT_TAG;
     store[ENTRIES_AT] = entries;
     store[LEAK_AT] = leak;

@@ -1,8 +1,6 @@
-// Words of a store: read one, compare one, test a stretch for zeros, clear a stretch. Nothing here
-// knows what the words mean.
+// Words of a store: read one, compare one, test a stretch for zeros. Nothing here knows what the words mean.
 ghost use Rattle.std.specs.Prelude.{◌≡◌, ◌&&◌, ◌+◌, ◌-◌, ◌≤◌, ◌<◌, eqb, length, get_or, drop};
 ghost use Rattle.words.specs.Words.{blank};
-ghost use Rattle.words.specs.Act.{clear};
 
 // The word at `at`, as a count or an offset.
 pub fn word(store: &[u64], at: usize) -> usize
@@ -60,14 +58,4 @@ pub fn is_blank(store: &[u64], from: usize, to: usize) -> bool
         i += 16;
     }
     rest_blank(store, i, to, any)
-}
-
-// The words from `from` up to `to` become 0.
-pub fn clear_words(store: &mut [u64], from: usize, to: usize)
-    requires { (from ≤ to) × (to ≤ length store.old) }
-    ensures { store.new ≡ (clear (to - from)).run from store.old }
-{
-    for i in from..to {
-        store[i] = 0;
-    }
 }

@@ -15,8 +15,9 @@ use Rattle.layout.specs.Whole.{Shaped, ShapedConsumer}
 use Rattle.layout.proofs.Placed.{shaped_set_consumer}
 use Rattle.layout.proofs.Store.{canon_entries}
 use Rattle.store.specs.Find.{slot}
-use Rattle.operation_laws.specs.Place.{place}
-use Rattle.operation_laws.proofs.Frame.{place_le, put_consumer_new, then_write, canon_after, decode_after}
+use Rattle.store.proofs.Finding.{slot_le}
+use Rattle.operation_laws.specs.Place.{by_above}
+use Rattle.operation_laws.proofs.Frame.{put_consumer_new, then_write, canon_after, decode_after}
 use Rattle.subscribe.specs.Seats.{Seats, Joins}
 use Rattle.subscribe.proofs.Seating.{seated_again, shaped_among}
 
@@ -30,7 +31,7 @@ module _ {e : ℕ} {ws : List ℕ} (c : Consumer) (h : Seats e ws c.id) (k : Sha
       (shaped_set_consumer (decode ws) h.canon.shaped j c k))
       (λ t. let m = ltb-false j (length (decode ws).consumers) t in
       subst Shaped (sym (put_consumer_new (decode ws) j c.id refl c m refl))
-      (shaped_among (place c.id (decode ws).consumers) h.canon (place_le c.id (decode ws).consumers) (h.room m) c k))
+      (shaped_among (slot by_above c.id (decode ws).consumers) h.canon (slot_le by_above c.id (decode ws).consumers) (h.room m) c k))
 
   module _ {us : List ℕ} (p : Pair) (w : us ≡ put ws (put_consumer (decode ws) c)) where
     -- its ring has room as before

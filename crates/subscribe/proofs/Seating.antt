@@ -16,7 +16,7 @@ use Rattle.layout.specs.Fields.{zero_consumer, set_consumer}
 use Rattle.layout.proofs.Placed.{consumer_in, shaped_consumers}
 use Rattle.layout.proofs.Store.{canon_entries}
 use Rattle.store.specs.Find.{slot}
-use Rattle.operation_laws.specs.Place.{place}
+use Rattle.operation_laws.specs.Place.{by_above}
 use Rattle.operation_laws.proofs.Frame.{insert_found, put_consumer_new, then_write, canon_after, decode_after}
 
 -- a consumer made at the slot of its id is put in the state
@@ -58,7 +58,7 @@ module _ {e : ℕ} {ws : List ℕ} (i : ℕ) (h : CanonStore e ws) (l : i ≤ le
 
   -- and is made the new one
   pub seated_new : {us vs : List ℕ} (c : Consumer) → us ≡ put ws (with_consumers (decode ws) (among zero_consumer))
-      → vs ≡ put us (set_consumer (decode us) i c) → i ≡ place c.id (decode ws).consumers → length (decode ws).consumers ≤ slot by_id c.id (decode ws).consumers
+      → vs ≡ put us (set_consumer (decode us) i c) → i ≡ slot by_above c.id (decode ws).consumers → length (decode ws).consumers ≤ slot by_id c.id (decode ws).consumers
       → vs ≡ put ws (put_consumer (decode ws) c)
   unfolding set_consumer with_consumers
   seated_new c w f p m =

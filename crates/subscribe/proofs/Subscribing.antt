@@ -116,7 +116,7 @@ module _ {e : ℕ} {ws : List ℕ} {id : ℕ} (a : Admitted e ws id) (p : Pair) 
       -- its ring has room
       pub joins : Joins e ws id p
       joins = record {
-        canon = canon_of e ws a.spelt a.E;
+        canon = canon_of e ws a.opened.spelt a.opened.E;
         dispatcher_room = λ m. leb-false 8 (length (decode ws).dispatchers) (new_by _ _ (pair_none (decode ws) _ p refl m) ∙ t);
         ring_room = λ m. leb-false 32 (length (dispatcher (decode ws) p).attached) (new_by _ _ (sym m) ∙ u);
       }
@@ -124,7 +124,7 @@ module _ {e : ℕ} {ws : List ℕ} {id : ℕ} (a : Admitted e ws id) (p : Pair) 
 -- the table of consumers has room
 pub seats : {e : ℕ} {ws : List ℕ} {id : ℕ} → Admitted e ws id → Seats e ws id
 seats {e} {ws} {id} a = record {
-  canon = canon_of e ws a.spelt a.E;
-  ascending = (valid_now ws a.spelt).tables.consumers_ascending;
+  canon = canon_of e ws a.opened.spelt a.opened.E;
+  ascending = (valid_now ws a.opened.spelt).tables.consumers_ascending;
   room = λ m. leb-false 32 (length (decode ws).consumers) (new_by _ _ (live_none (decode ws) id m) ∙ a.room);
 }

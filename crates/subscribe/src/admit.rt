@@ -4,7 +4,7 @@ ghost use Rattle.rules.specs.Table.{is_some, member};
 ghost use Rattle.rules.specs.State.{consumer_of, dispatcher_of, dispatcher};
 ghost use Rattle.layout.specs.Layout.{decode};
 ghost use Rattle.layout.specs.Canon.{CanonStore};
-ghost use Rattle.layout.specs.Fields.{pair_of};
+ghost use Rattle.dispatcher.specs.Pairs.{pair_in};
 
 use consumer::lookup::find_consumer;
 use consumer::table::consumer_count;
@@ -48,7 +48,7 @@ pub(crate) fn is_full(store: &[u64], e: usize, live: bool) -> bool
 // Whether a pair would be new, and 8 exist.
 pub(crate) fn pairs_full(store: &[u64], e: usize, pair: Pair) -> bool
     requires { CanonStore e store.now }
-    ensures { result ≡ not (is_some (dispatcher_of (decode store.now) (pair_of pair.topic pair.subscription)))
+    ensures { result ≡ not (is_some (dispatcher_of (decode store.now) (pair_in pair)))
         && leb 8 (length (decode store.now).dispatchers) }
 {
     find_dispatcher(store, e, pair).is_none() && MOST_DISPATCHERS <= dispatcher_count(store, e)
@@ -57,8 +57,8 @@ pub(crate) fn pairs_full(store: &[u64], e: usize, pair: Pair) -> bool
 // Whether an id would be new in the ring of a pair, and that has 32.
 pub(crate) fn ring_full(store: &[u64], e: usize, pair: Pair, id: u64) -> bool
     requires { CanonStore e store.now }
-    ensures { result ≡ not (member id (dispatcher (decode store.now) (pair_of pair.topic pair.subscription)).attached)
-        && leb 32 (length (dispatcher (decode store.now) (pair_of pair.topic pair.subscription)).attached) }
+    ensures { result ≡ not (member id (dispatcher (decode store.now) (pair_in pair)).attached)
+        && leb 32 (length (dispatcher (decode store.now) (pair_in pair)).attached) }
 {
     if in_ring(store, e, pair, id) {
         return false;

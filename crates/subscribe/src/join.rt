@@ -5,10 +5,11 @@ ghost use Rattle.rules.specs.State.{by_pair, dispatcher, put_dispatcher};
 ghost use Rattle.rules.specs.Commands.{joined};
 ghost use Rattle.layout.specs.Layout.{decode};
 ghost use Rattle.layout.specs.Canon.{CanonStore};
-ghost use Rattle.layout.specs.Fields.{pair_of, dispatcher_now, state_changed, dispatcher_changed};
+ghost use Rattle.layout.specs.Fields.{dispatcher_now, state_changed, dispatcher_changed};
 ghost use Rattle.layout.specs.Placed.{DispatcherIn};
 ghost use Rattle.store.specs.Find.{slot};
 ghost use Rattle.subscribe.specs.Seats.{Joins};
+ghost use Rattle.dispatcher.specs.Pairs.{pair_in};
 
 use dispatcher::make::make_dispatcher;
 use dispatcher::ring::{append_ring, find_ring};
@@ -17,9 +18,9 @@ use topic::table::ledger_length;
 
 // The consumer `id` joins the ring of a pair, if it is not in it yet.
 pub(crate) fn join(store: &mut [u64], e: usize, pair: Pair, id: u64)
-    requires { Joins e store.old id (pair_of pair.topic pair.subscription) }
+    requires { Joins e store.old id (pair_in pair) }
     ensures { store.new ≡ state_changed store.old
-        (λ s. put_dispatcher s (joined id (dispatcher s (pair_of pair.topic pair.subscription)))) }
+        (λ s. put_dispatcher s (joined id (dispatcher s (pair_in pair)))) }
 {
     match find_dispatcher(store, e, pair) {
         Some(d) => join_ring(store, e, d, id),
@@ -41,13 +42,13 @@ fn join_ring(store: &mut [u64], e: usize, d: usize, id: u64)
 // The consumer `id` joins the ring of a new dispatcher.
 fn join_new(store: &mut [u64], e: usize, pair: Pair, id: u64)
     requires { CanonStore e store.old
-        × (length (decode store.old).dispatchers ≤ slot by_pair (pair_of pair.topic pair.subscription) (decode store.old).dispatchers)
+        × (length (decode store.old).dispatchers ≤ slot by_pair (pair_in pair) (decode store.old).dispatchers)
         × (length (decode store.old).dispatchers < 8) }
     ensures { store.new ≡ state_changed store.old
-        (λ s. put_dispatcher s (joined id (dispatcher s (pair_of pair.topic pair.subscription)))) }
+        (λ s. put_dispatcher s (joined id (dispatcher s (pair_in pair)))) }
 {
     let n = dispatcher_count(store, e);
     let entries = ledger_length(store, e, pair.topic);
-    make_dispatcher(store, e, n, pair, entries);
+    make_dispatcher(store, e, pair, entries);
     append_ring(store, e, n, id);
 }

@@ -11,11 +11,11 @@ ghost use Rattle.std.specs.Prelude.{◌≡◌, true};
 ghost use Rattle.rules.specs.State.Kind.{plain, shared};
 ghost use Rattle.rules.specs.Calls.Call.{Subscribe as Subscribed};
 ghost use Rattle.layout.specs.Layout.{spells};
-ghost use Rattle.layout.specs.Fields.{pair_of};
 ghost use Rattle.layout.specs.Calls.{answer, after};
 ghost use Rattle.refusal.specs.Words.{word_of};
 ghost use Rattle.subscribe.specs.Admitted.{Admitted};
 ghost use Rattle.subscribe.specs.Commanded.{subscribe_call};
+ghost use Rattle.dispatcher.specs.Pairs.{pair_in};
 
 use admit::{is_full, is_idle, is_live, pairs_full, ring_full};
 use command::Subscribe;
@@ -45,8 +45,7 @@ pub fn subscribe(store: &mut [u64], command: Subscribe) -> Answer
         topic: command.topic as u64,
         subscription: command.subscription as u64,
     };
-    let kind = command.kind;
-    match kind {
+    match command.kind {
         Kind::Plain => subscribe_plain(store, e, command.consumer, pair),
         Kind::Shared => subscribe_shared(store, e, command.consumer, pair),
     }
@@ -55,8 +54,8 @@ pub fn subscribe(store: &mut [u64], command: Subscribe) -> Answer
 // A plain consumer is made.
 fn subscribe_plain(store: &mut [u64], e: usize, id: u64, pair: Pair) -> Answer
     requires { Admitted e store.old id }
-    ensures answer { word_of result ≡ answer store.old (Subscribed id plain (pair_of pair.topic pair.subscription)) }
-    ensures words { store.new ≡ after store.old (Subscribed id plain (pair_of pair.topic pair.subscription)) }
+    ensures answer { word_of result ≡ answer store.old (Subscribed id plain (pair_in pair)) }
+    ensures words { store.new ≡ after store.old (Subscribed id plain (pair_in pair)) }
 {
     seat_consumer(store, e, id, Kind::Plain, pair);
     Ok(0)
@@ -65,8 +64,8 @@ fn subscribe_plain(store: &mut [u64], e: usize, id: u64, pair: Pair) -> Answer
 // A shared consumer is made and joins its ring, if both have room.
 fn subscribe_shared(store: &mut [u64], e: usize, id: u64, pair: Pair) -> Answer
     requires { Admitted e store.old id }
-    ensures answer { word_of result ≡ answer store.old (Subscribed id shared (pair_of pair.topic pair.subscription)) }
-    ensures words { store.new ≡ after store.old (Subscribed id shared (pair_of pair.topic pair.subscription)) }
+    ensures answer { word_of result ≡ answer store.old (Subscribed id shared (pair_in pair)) }
+    ensures words { store.new ≡ after store.old (Subscribed id shared (pair_in pair)) }
 {
     if pairs_full(store, e, pair) {
         return Err(Refusal::DispatchersFull);

@@ -5,22 +5,23 @@ ghost use Rattle.rules.specs.State.{by_id, put_consumer};
 ghost use Rattle.rules.specs.Commands.{new_consumer};
 ghost use Rattle.layout.specs.Layout.{decode};
 ghost use Rattle.layout.specs.Canon.{CanonStore};
-ghost use Rattle.layout.specs.Fields.{pair_of, state_changed};
+ghost use Rattle.layout.specs.Fields.{state_changed};
 ghost use Rattle.store.specs.Find.{slot};
 ghost use Rattle.command_parts.specs.Parts.{kind_of};
 ghost use Rattle.subscribe.specs.Seats.{Seats};
+ghost use Rattle.dispatcher.specs.Pairs.{pair_in};
 
 use command_parts::Kind;
 use consumer::lookup::find_consumer;
 use consumer::make::make_consumer;
-use consumer::table::{consumer_count, open_consumer, place_of};
+use consumer::table::{open_consumer, place_of};
 use dispatcher::table::Pair;
 
 // The consumer `id` is new in the state, or made anew.
 pub(crate) fn seat_consumer(store: &mut [u64], e: usize, id: u64, kind: Kind, pair: Pair)
     requires { Seats e store.old id }
     ensures { store.new ≡ state_changed store.old
-        (λ s. put_consumer s (new_consumer id (kind_of kind) (pair_of pair.topic pair.subscription))) }
+        (λ s. put_consumer s (new_consumer id (kind_of kind) (pair_in pair))) }
 {
     let Some(i) = find_consumer(store, e, id) else {
         insert_consumer(store, e, id, kind, pair);
@@ -34,10 +35,9 @@ fn insert_consumer(store: &mut [u64], e: usize, id: u64, kind: Kind, pair: Pair)
     requires { CanonStore e store.old × (length (decode store.old).consumers ≤ slot by_id id (decode store.old).consumers)
         × (length (decode store.old).consumers < 32) }
     ensures { store.new ≡ state_changed store.old
-        (λ s. put_consumer s (new_consumer id (kind_of kind) (pair_of pair.topic pair.subscription))) }
+        (λ s. put_consumer s (new_consumer id (kind_of kind) (pair_in pair))) }
 {
-    let n = consumer_count(store, e);
     let i = place_of(store, e, id);
-    open_consumer(store, e, i, n);
+    open_consumer(store, e, i);
     make_consumer(store, e, i, id, kind, pair);
 }

@@ -32,7 +32,7 @@ pub ack_live-requires : goal.ack_live-requires
 ack_live-requires c =
     let a = c.args in
     let f = found_some by_id a.consumer (decode a.store.now).consumers (sym c.in-Some.is ∙ c.find_consumer.ensures.slot) in
-    record { spelt = c.requires; E = c.entries-e.ensures; there = f.1 }
+    record { opened = record { spelt = c.requires; E = c.entries-e.ensures }; there = f.1 }
 
 pub returns : goal.returns
 returns c =

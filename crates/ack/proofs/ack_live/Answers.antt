@@ -22,6 +22,6 @@ returns c =
     let h = c.requires in
     let s = decode a.store.now in
     let k = flag_plain _ (sym c.is_shared.ensures ∙ c.if-is_shared.false) in
-    done_with a.store.now _ h.spelt 0 0
+    done_with a.store.now _ h.opened.spelt 0 0
     (ack_plain s a.i _ a.groups.list.now (live_slot h) h.there (groups_in a.groups) (groups_read a.groups) k)
     value_plain refl (sym (put_decode (live_canon h)))

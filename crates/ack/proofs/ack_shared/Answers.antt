@@ -26,7 +26,7 @@ returns-then-passes_64 c =
     let a = c.args in
     let p = c.requires in
     let h = p.0 in
-    refused_with a.store.now _ h.spelt
+    refused_with a.store.now _ h.opened.spelt
     (ack_over (decode a.store.now) a.i _ a.groups.list.now (live_slot h) h.there (groups_in a.groups) (groups_read a.groups) p.1
     _ _ c.shared_dispatcher-d.ensures.0 c.shared_dispatcher-d.ensures.1 c.topic-number.ensures (sym c.passes_64.ensures ∙ c.if-passes_64.true))
 
@@ -70,7 +70,7 @@ returns c =
     let id = c.consumer_id-id.ensures in
     let from = c.mark_delete-from.ensures in
     let to = c.mark_delete.ensures ∙ ended_is a.i _ _ h f n c.consumer_id-id.result (groups_in a.groups) few c.complete.ensures in
-    done_with a.store.now _ h.spelt _ _
+    done_with a.store.now _ h.opened.spelt _ _
     (ack_done (decode a.store.now) a.i _ a.groups.list.now (live_slot h) h.there (groups_in a.groups) (groups_read a.groups) p.1
     _ _ f.0 f.1 n (sym c.passes_64.ensures ∙ c.if-passes_64.false))
     (value_moved _ _) (ap (λ (n : ℕ). n % 2 ^ 56 * 256) (c.moved.ensures ∙ rw (from, to, id))) (rw id at c.complete.ensures)

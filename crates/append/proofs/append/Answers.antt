@@ -36,8 +36,7 @@ returns-in_err-admit c =
 pub append_entry-requires : goal.append_entry-requires
 append_entry-requires c =
     record {
-      spelt = c.requires;
-      E = c.entries-e.ensures;
+      opened = record { spelt = c.requires; E = c.entries-e.ensures };
       found = c.find_topic-t.ensures;
       free = sym c.admit.ensures ∙ ap refusal_or_0 c.in_ok-admit.was;
     }

@@ -1,5 +1,8 @@
 -- `close::close` meets its contract: the id is not live, or its close is that of the consumer at its slot.
-use mathlib.Core.Path.{refl, sym, ◌∙◌}
+use mathlib.Core.Path.{refl, sym, ap, ◌∙◌}
+use Prim.Native.Nat.{ℕ}
+use Rattle.rules.specs.Calls.Call.{Close}
+use Rattle.layout.specs.Calls.{answer, after}
 use Rattle.layout.specs.Layout.{decode}
 use Rattle.layout.proofs.Store.{put_decode}
 use Rattle.operation_laws.proofs.Frame.{canon_of, done_with, consumer_found_id}
@@ -21,8 +24,16 @@ returns-in_default c =
 
 pub close_live-requires : goal.close_live-requires
 close_live-requires c =
+    let f = found_some by_id c.args.consumer (decode c.args.store.now).consumers (sym c.in-Some.is ∙ c.find_consumer.ensures.slot) in
+    record { opened = record { spelt = c.requires; E = c.entries-e.ensures }; there = f.1 }
+
+pub returns : goal.returns
+returns c =
     let ws = c.args.store.now in
     let id = c.args.consumer in
-    let i = c.in-Some.i in
     let f = found_some by_id id (decode ws).consumers (sym c.in-Some.is ∙ c.find_consumer.ensures.slot) in
-    (record { spelt = c.requires; E = c.entries-e.ensures; there = f.1 }, sym (consumer_found_id (decode ws) i id f.0 f.1))
+    let q = consumer_found_id (decode ws) c.in-Some.i id f.0 f.1 in
+    record {
+      answer = c.close_live.ensures.answer ∙ ap (λ (j : ℕ). answer ws (Close j)) q;
+      words = c.close_live.ensures.words ∙ ap (λ (j : ℕ). after ws (Close j)) q;
+    }

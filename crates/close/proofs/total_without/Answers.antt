@@ -2,14 +2,13 @@
 use native.Mathlib.Omega.{arith}
 use Rattle.layout.specs.Layout.{decode}
 use Rattle.layout.specs.Fields.{consumer_nth}
-use Rattle.layout.proofs.Placed.{dispatcher_in}
 use Rattle.operation_laws.proofs.Frame.{dispatcher_found_valid}
 use Rattle.consumer.proofs.Found.{live_canon, live_in, live_valid, live_consumer}
 use Rattle.close.proofs.Closes.{total_left}
 use Rattle.close.proofs.total_without.Goals as goal
 
 pub total_available_permits-total-requires : goal.total_available_permits-total-requires
-total_available_permits-total-requires c = dispatcher_in (live_canon c.requires.0) c.args.d c.requires.2
+total_available_permits-total-requires c = c.requires.1
 
 pub permits-p-requires : goal.permits-p-requires
 permits-p-requires c = live_in c.requires.0
@@ -21,7 +20,7 @@ pub total_after-requires : goal.total_after-requires
 total_after-requires c =
     let h = c.requires.0 in
     let s = decode c.args.store.now in
-    let v = dispatcher_found_valid s c.args.d (consumer_nth s c.args.i).pair c.requires.1 (live_valid h) c.requires.2 in
+    let v = dispatcher_found_valid s c.args.d (consumer_nth s c.args.i).pair c.requires.2 (live_valid h) c.requires.1.there in
     let w = live_consumer h in
     let t = c.total_available_permits-total.ensures in
     let p = c.permits-p.ensures in

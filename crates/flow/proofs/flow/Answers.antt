@@ -24,7 +24,7 @@ pub flow_live-requires : goal.flow_live-requires
 flow_live-requires c =
     let ws = c.args.store.now in
     let f = found_some by_id c.args.consumer (decode ws).consumers (sym c.in-Some.is ∙ c.find_consumer.ensures.slot) in
-    (record { spelt = c.requires; E = c.entries-e.ensures; there = f.1 }, omega arith)
+    (record { opened = record { spelt = c.requires; E = c.entries-e.ensures }; there = f.1 }, omega arith)
 
 pub returns : goal.returns
 returns c =

@@ -38,7 +38,7 @@ returns-then-total-gt-MOST_TOTAL c =
     let h = p.0 in
     let d = c.shared_dispatcher-d in
     let t = c.total_available_permits in
-    refused_with a.store.now _ h.spelt
+    refused_with a.store.now _ h.opened.spelt
     (flow_total_over (decode a.store.now) a.i _ a.grant (live_slot h) refl (live_valid h) h.there a.granted p.3 p.4 p.2
     d.result (t.result + a.grant) d.ensures.0 d.ensures.1 (ap (λ (n : ℕ). n + a.grant) t.ensures) c.if-total-gt-MOST_TOTAL.true)
 
@@ -50,7 +50,7 @@ set_total_available_permits-requires c =
     let a = c.args in
     let h = c.requires.0 in
     let d = c.shared_dispatcher-d in
-    dispatcher_still_in a.store.now (decode a.store.now) a.i d.result _ (live_canon h).shaped (sym h.E)
+    dispatcher_still_in a.store.now (decode a.store.now) a.i d.result _ (live_canon h).shaped (sym h.opened.E)
     (shaped_permits (consumer_nth (decode a.store.now) a.i) a.granted (live_in h).nacked_fit) c.set_permits.ensures d.ensures.1
 
 pub returns : goal.returns
@@ -62,7 +62,7 @@ returns c =
     let d = c.shared_dispatcher-d in
     let t = c.total_available_permits in
     let left = c.if-total-gt-MOST_TOTAL.false in
-    done_with a.store.now _ h.spelt a.granted _
+    done_with a.store.now _ h.opened.spelt a.granted _
     (flow_shared s a.i _ a.grant (live_slot h) refl (live_valid h) h.there a.granted p.3 p.4 p.2
     d.result (t.result + a.grant) d.ensures.0 d.ensures.1 (ap (λ (n : ℕ). n + a.grant) t.ensures) (omega arith))
     (value_permits a.granted) refl

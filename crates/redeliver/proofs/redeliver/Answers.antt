@@ -1,6 +1,9 @@
 -- `redeliver::redeliver` meets its contract: the id is not live, the list is not of the form, or its redeliver is
 -- that of the consumer at its slot.
-use mathlib.Core.Path.{sym, ◌∙◌}
+use Rattle.std.proofs.Common.{rules}
+use mathlib.Core.Path.{◌≡◌, sym, ap₂, ◌∙◌}
+use Rattle.rules.specs.Calls.Call.{Redeliver}
+use Rattle.layout.specs.Calls.{answer, after}
 use Rattle.layout.specs.Layout.{decode}
 use Rattle.operation_laws.proofs.Frame.{canon_of, refused_with, consumer_found_id}
 use Rattle.redeliver.proofs.Refusals.{redeliver_missing, redeliver_ill}
@@ -27,7 +30,18 @@ returns-in_default-of c =
 pub redeliver_live-requires : goal.redeliver_live-requires
 redeliver_live-requires c =
     let a = c.args in
+    let f = found_some by_id a.consumer (decode a.store.now).consumers (sym c.in-Some.is ∙ c.find_consumer.ensures.slot) in
+    record { opened = record { spelt = c.requires; E = c.entries-e.ensures }; there = f.1 }
+
+pub returns : goal.returns
+returns c =
+    let a = c.args in
     let s = decode a.store.now in
-    let i = c.in-Some.i in
     let f = found_some by_id a.consumer s.consumers (sym c.in-Some.is ∙ c.find_consumer.ensures.slot) in
-    (record { spelt = c.requires; E = c.entries-e.ensures; there = f.1 }, consumer_found_id s i a.consumer f.0 f.1)
+    let q = consumer_found_id s c.in-Some.i a.consumer f.0 f.1 in
+    let r = c.redeliver_live.ensures in
+    let list : c.in-Some-of.groups.list.now ≡ a.list.now = search (rules, c.in-Some-of.ensures) in
+    record {
+      answer = r.answer ∙ ap₂ (λ j l. answer a.store.now (Redeliver j l)) q list;
+      words = r.words ∙ ap₂ (λ j l. after a.store.now (Redeliver j l)) q list;
+    }

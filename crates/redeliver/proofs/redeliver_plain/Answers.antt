@@ -1,5 +1,5 @@
 -- `redeliver::redeliver_plain` meets its contract: too many, or the found positions join nacked.
-use mathlib.Core.Path.{◌≡◌, ap, ◌∙◌}
+use mathlib.Core.Path.{◌≡◌, refl}
 use native.Mathlib.Omega.{arith}
 use Prim.Native.Nat.{ℕ}
 use mathlib.Core.List.{◌++◌}
@@ -16,26 +16,21 @@ use Rattle.redeliver.proofs.Finds.{found_few}
 use Rattle.redeliver.proofs.Plain.{plain_over, plain_joins}
 use Rattle.redeliver.proofs.redeliver_plain.Goals as goal
 
-pub topic-number-requires : goal.topic-number-requires
-topic-number-requires c = live_in c.requires.0
-
 pub nacked_count-requires : goal.nacked_count-requires
 nacked_count-requires c = live_in c.requires.0
 
 pub found_count-requires : goal.found_count-requires
-found_count-requires c = live_canon c.requires.0
+found_count-requires c = live_in c.requires.0
 
 pub overflow_add-n : goal.overflow_add-n
 overflow_add-n c =
     let a = c.args in
-    let p = c.requires in
-    let h = p.0 in
+    let h = c.requires.0 in
     let s = decode a.store.now in
-    let tp = c.topic-number.ensures in
     let nk = (consumer_nth s a.i).nacked in
     let fp = found_positions (ledger_of s (consumer_nth s a.i).pair.topic) (groups_in a.groups) in
     let n1 = c.nacked_count.ensures in
-    let n2 : c.found_count.result ≡ length fp = c.found_count.ensures ∙ ap (λ (n : ℕ). length (found_positions (ledger_of s n) (groups_in a.groups))) tp in
+    let n2 : c.found_count.result ≡ length fp = c.found_count.ensures in
     let n3 = length-append nk fp in
     let f = (live_in h).nacked_fit in
     let g = found_few (ledger_of s (consumer_nth s a.i).pair.topic) (groups_in a.groups) in
@@ -45,42 +40,40 @@ overflow_add-n c =
 pub returns-then-n-gt-MOST_NACKED : goal.returns-then-n-gt-MOST_NACKED
 returns-then-n-gt-MOST_NACKED c =
     let a = c.args in
-    let p = c.requires in
-    let h = p.0 in
+    let h = c.requires.0 in
     let s = decode a.store.now in
-    let tp = c.topic-number.ensures in
     let nk = (consumer_nth s a.i).nacked in
     let fp = found_positions (ledger_of s (consumer_nth s a.i).pair.topic) (groups_in a.groups) in
     let n1 = c.nacked_count.ensures in
-    let n2 : c.found_count.result ≡ length fp = c.found_count.ensures ∙ ap (λ (n : ℕ). length (found_positions (ledger_of s n) (groups_in a.groups))) tp in
+    let n2 : c.found_count.result ≡ length fp = c.found_count.ensures in
     let n3 = length-append nk fp in
-    refused_with a.store.now _ h.spelt (plain_over s a.i a.consumer a.groups.list.now (live_slot h ∙ rw p.1) p.1 (live_valid h) h.there (groups_in a.groups) (groups_read a.groups) p.2 (let t = c.if-n-gt-MOST_NACKED.true in omega arith))
+    refused_with a.store.now _ h.opened.spelt
+    (plain_over s a.i _ a.groups.list.now (live_slot h) refl (live_valid h) h.there (groups_in a.groups) (groups_read a.groups) c.requires.1
+    (let t = c.if-n-gt-MOST_NACKED.true in omega arith))
 
 pub join_found-requires : goal.join_found-requires
 join_found-requires c =
     let a = c.args in
-    let p = c.requires in
-    let h = p.0 in
+    let h = c.requires.0 in
     let s = decode a.store.now in
-    let tp = c.topic-number.ensures in
     let nk = (consumer_nth s a.i).nacked in
     let fp = found_positions (ledger_of s (consumer_nth s a.i).pair.topic) (groups_in a.groups) in
     let n1 = c.nacked_count.ensures in
-    let n2 : c.found_count.result ≡ length fp = c.found_count.ensures ∙ ap (λ (n : ℕ). length (found_positions (ledger_of s n) (groups_in a.groups))) tp in
+    let n2 : c.found_count.result ≡ length fp = c.found_count.ensures in
     let n3 = length-append nk fp in
-    (live_in h, rw tp (let t = c.if-n-gt-MOST_NACKED.false in omega arith))
+    (live_in h, let t = c.if-n-gt-MOST_NACKED.false in omega arith)
 
 pub returns : goal.returns
 returns c =
     let a = c.args in
-    let p = c.requires in
-    let h = p.0 in
+    let h = c.requires.0 in
     let s = decode a.store.now in
-    let tp = c.topic-number.ensures in
     let nk = (consumer_nth s a.i).nacked in
     let fp = found_positions (ledger_of s (consumer_nth s a.i).pair.topic) (groups_in a.groups) in
     let n1 = c.nacked_count.ensures in
-    let n2 : c.found_count.result ≡ length fp = c.found_count.ensures ∙ ap (λ (n : ℕ). length (found_positions (ledger_of s n) (groups_in a.groups))) tp in
+    let n2 : c.found_count.result ≡ length fp = c.found_count.ensures in
     let n3 = length-append nk fp in
-    done_with_nothing a.store.now _ h.spelt (plain_joins s a.i a.consumer a.groups.list.now (live_slot h ∙ rw p.1) p.1 (live_valid h) h.there (groups_in a.groups) (groups_read a.groups) p.2 (let t = c.if-n-gt-MOST_NACKED.false in omega arith))
-    (c.join_found.ensures ∙ ap (λ (n : ℕ). put a.store.now (set_consumer s a.i (with_reading (consumer_nth s a.i) (consumer_nth s a.i).cursor (nk ++ found_positions (ledger_of s n) (groups_in a.groups))))) tp)
+    done_with_nothing a.store.now _ h.opened.spelt
+    (plain_joins s a.i _ a.groups.list.now (live_slot h) refl (live_valid h) h.there (groups_in a.groups) (groups_read a.groups) c.requires.1
+    (let t = c.if-n-gt-MOST_NACKED.false in omega arith))
+    c.join_found.ensures

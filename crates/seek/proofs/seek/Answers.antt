@@ -25,7 +25,7 @@ pub seek_live-requires : goal.seek_live-requires
 seek_live-requires c =
     let ws = c.args.store.now in
     let f = found_some by_id c.args.command.consumer (decode ws).consumers (sym c.in-Some.is ∙ c.find_consumer.ensures.slot) in
-    record { spelt = c.requires; E = c.entries-e.ensures; there = f.1 }
+    record { opened = record { spelt = c.requires; E = c.entries-e.ensures }; there = f.1 }
 
 pub returns : goal.returns
 returns c =

@@ -29,7 +29,7 @@ clear_nacked-requires c =
     let s = decode a.store.now in
     let x = consumer_nth s a.i in
     let k = c.target_position-cursor.result in
-    consumer_still_in a.store.now s a.i (with_reading x k x.nacked) (live_canon h).shaped (sym h.E)
+    consumer_still_in a.store.now s a.i (with_reading x k x.nacked) (live_canon h).shaped (sym h.opened.E)
     (shaped_reading x k x.nacked (live_in h).nacked_fit)
     c.set_cursor.ensures h.there
 
@@ -43,7 +43,7 @@ returns c =
     let k = c.target_position-cursor.result in
     let p : k ≡ target_position (ledger_of s x.pair.topic) (target_of a.target) =
     c.target_position-cursor.ensures ∙ ap (λ (n : ℕ). target_position (ledger_of s n) (target_of a.target)) c.topic-number.ensures in
-    done_with a.store.now _ h.spelt k _
+    done_with a.store.now _ h.opened.spelt k _
     (seek_found s a.i _ (target_of a.target) (live_slot h) refl (live_valid h) h.there k p)
     (value_cursor k) refl
     (consumer_twice a.store.now s a.i (with_reading x k x.nacked) (λ (y : Consumer). with_reading y y.cursor []) (live_canon h).shaped

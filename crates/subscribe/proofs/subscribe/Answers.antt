@@ -42,8 +42,7 @@ pub subscribe_plain-requires : goal.subscribe_plain-requires
 subscribe_plain-requires c =
     let s = decode c.args.store.now in
     record {
-      spelt = c.requires;
-      E = c.entries-e.ensures;
+      opened = record { spelt = c.requires; E = c.entries-e.ensures };
       to_do = idle_is s c.args.command.consumer c.is_live-live.ensures c.is_idle.ensures ∙ c.if-is_idle.false;
       room = full_is s c.args.command.consumer c.is_live-live.ensures c.is_full.ensures ∙ c.if-is_full.false;
     }
@@ -52,8 +51,7 @@ pub subscribe_shared-requires : goal.subscribe_shared-requires
 subscribe_shared-requires c =
     let s = decode c.args.store.now in
     record {
-      spelt = c.requires;
-      E = c.entries-e.ensures;
+      opened = record { spelt = c.requires; E = c.entries-e.ensures };
       to_do = idle_is s c.args.command.consumer c.is_live-live.ensures c.is_idle.ensures ∙ c.if-is_idle.false;
       room = full_is s c.args.command.consumer c.is_live-live.ensures c.is_full.ensures ∙ c.if-is_full.false;
     }

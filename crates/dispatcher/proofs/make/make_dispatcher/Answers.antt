@@ -1,6 +1,6 @@
 -- `dispatcher::make::make_dispatcher` meets its contract: a blank one at the end, then four words are written.
 use mathlib.Core.Path.{◌≡◌}
-use Prim.Native.Nat.{◌+◌, ◌*◌, ◌≤◌}
+use Prim.Native.Nat.{◌+◌, ◌*◌, ◌≤◌, ◌<◌}
 use native.Mathlib.Omega.{arith}
 use lib.ListN.{length, length-set}
 use Rattle.layout.specs.Offsets.{dispatcher_at, marks_in, reserved_at}
@@ -9,9 +9,13 @@ use Rattle.dispatcher.proofs.Making.{made_dispatcher}
 use borrow.Author.Rules.{rules}
 use Rattle.dispatcher.proofs.make.make_dispatcher.Goals as goal
 
+-- it is one of eight
+few : (c : goal.After-dispatcher_at-at) → c.dispatcher_count-n.result < 8
+few c = let n = c.dispatcher_count-n.ensures in let l = c.requires.1 in omega arith
+
 -- its words lie in the store
 inside : (c : goal.After-dispatcher_at-at) → c.dispatcher_at-at.result + (176 + 9 * c.args.e) ≤ reserved_at c.args.e
-inside c = rw (c.dispatcher_at-at.ensures) (dispatcher_inside c.args.e c.args.n c.requires.2)
+inside c = rw (c.dispatcher_at-at.ensures) (dispatcher_inside c.args.e c.dispatcher_count-n.result (few c))
 
 room : (c : goal.After-dispatcher_at-at) → c.dispatcher_at-at.result + (176 + 9 * c.args.e) ≤ length c.raise_dispatchers.new.store
 room c =
@@ -63,6 +67,7 @@ bounds-store-at-4 c = let k = room c in simp length-set (omega arith)
 
 pub returns : goal.returns
 returns c =
-    let at : c.dispatcher_at-at.result + 175 + 3 * c.args.e ≡ dispatcher_at c.args.e c.args.n + marks_in c.args.e = let a = c.dispatcher_at-at.ensures in omega arith in
+    let at : c.dispatcher_at-at.result + 175 + 3 * c.args.e ≡ dispatcher_at c.args.e c.dispatcher_count-n.result + marks_in c.args.e = let a = c.dispatcher_at-at.ensures in omega arith in
     rw (at, c.dispatcher_at-at.ensures)
-    (made_dispatcher c.args.n c.args.pair.topic c.args.pair.subscription c.args.entries c.requires.0 c.requires.1 c.requires.2 c.requires.3 c.raise_dispatchers.ensures)
+    (made_dispatcher c.dispatcher_count-n.result c.args.pair.topic c.args.pair.subscription c.args.entries
+    c.requires.0 c.dispatcher_count-n.ensures (few c) c.requires.2 c.raise_dispatchers.ensures)

@@ -1,29 +1,35 @@
 -- `redeliver::found::join_found` meets its contract: the groups join one by one.
+use Rattle.layout.specs.Layout.{decode}
+use Rattle.layout.specs.Fields.{consumer_nth}
 use Rattle.groups.specs.Lent.{group_of, groups_in}
-use Rattle.redeliver.proofs.Joins.{joining_start, joining_in, joining_room, joining_turn, joining_end}
+use Rattle.redeliver.proofs.Joins.{joining_start, joining_in, joining_room, joining_topic, joining_turn, joining_end}
 use Rattle.redeliver.proofs.found.join_found.Goals as goal
 
 pub loop-group-init : goal.loop-group-init
 loop-group-init c =
-    rw c.into_iter-group-iterator.ensures.into_iter_gives (joining_start c.args.i c.args.topic (groups_in c.args.groups) c.requires.0)
+    rw c.into_iter-group-iterator.ensures.into_iter_gives (joining_start c.args.i _ (groups_in c.args.groups) c.requires.0)
 
 pub join_here-requires : goal.join_here-requires
 join_here-requires c =
     let a = c.args in
+    let t = (consumer_nth (decode a.store.now) a.i).pair.topic in
     let p = c.requires in
     let j = c.loop-group.invariant in (
-      joining_in a.i a.topic (groups_in a.groups) _ p.0 j p.1,
-      joining_room a.i a.topic (groups_in a.groups) _ p.0 j p.1 (group_of c.in-Some.group) _ c.in-Some.ensures.steps,
+      joining_in a.i t (groups_in a.groups) _ p.0 j p.1,
+      rw (joining_topic a.i t (groups_in a.groups) _ p.0 j p.1) (joining_room a.i t (groups_in a.groups) _ p.0 j p.1 (group_of c.in-Some.group) _ c.in-Some.ensures.steps),
     )
 
 pub loop-group-preserved : goal.loop-group-preserved
 loop-group-preserved c =
     let a = c.args in
+    let t = (consumer_nth (decode a.store.now) a.i).pair.topic in
     let p = c.requires in
-    joining_turn a.i a.topic (groups_in a.groups) _ p.0 c.loop-group.invariant p.1 (group_of c.in-Some.group) _ c.in-Some.ensures.steps c.join_here.ensures
+    joining_turn a.i t (groups_in a.groups) _ p.0 c.loop-group.invariant p.1 (group_of c.in-Some.group) _ c.in-Some.ensures.steps
+    (rw (joining_topic a.i t (groups_in a.groups) _ p.0 c.loop-group.invariant p.1) at c.join_here.ensures)
 
 pub returns : goal.returns
 returns c =
     let a = c.args in
+    let t = (consumer_nth (decode a.store.now) a.i).pair.topic in
     let p = c.requires in
-    joining_end a.i a.topic (groups_in a.groups) _ p.0 c.loop-group.invariant p.1 c.in-None.ensures.steps.0
+    joining_end a.i t (groups_in a.groups) _ p.0 c.loop-group.invariant p.1 c.in-None.ensures.steps.0

@@ -4,4 +4,4 @@ use Rattle.words.specs.Act.{down}
 use Rattle.store.proofs.movers.move_down.Given as goal
 
 abbrev pub invariant-loop-i : goal.invariant-loop-i
-invariant-loop-i l = l.store ≡ (down l.width l.i).run l.at l.initial.store
+invariant-loop-i l = l.words ≡ (down l.width l.i).run 0 l.initial.words

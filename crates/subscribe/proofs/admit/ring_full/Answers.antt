@@ -4,7 +4,7 @@ use Prim.Native.Nat.{ℕ}
 use lib.Dec.{leb}
 use lib.ListN.{length}
 use Rattle.rules.specs.State.{Dispatcher, by_pair}
-use Rattle.layout.specs.Fields.{pair_of}
+use Rattle.dispatcher.specs.Pairs.{pair_in}
 use Rattle.store.specs.Find.{slot}
 use Rattle.store.proofs.Founds.{found_some, found_none}
 use Rattle.layout.proofs.Placed.{dispatcher_in}
@@ -20,17 +20,17 @@ returns-then-in_ring c =
 pub returns-in_default : goal.returns-in_default
 returns-in_default c =
     let s = decode c.args.store.now in
-    let p = pair_of c.args.pair.topic c.args.pair.subscription in
+    let p = pair_in c.args.pair in
     new_ring s (slot by_pair p s.dispatchers) p c.args.id refl (found_none by_pair p s.dispatchers (sym c.in_default.is ∙ c.find_dispatcher.ensures))
 
 pub ring_count-requires : goal.ring_count-requires
 ring_count-requires c =
-    dispatcher_in c.requires c.in-Some.d (found_some by_pair (pair_of c.args.pair.topic c.args.pair.subscription) (decode c.args.store.now).dispatchers (sym c.in-Some.is ∙ c.find_dispatcher.ensures)).1
+    dispatcher_in c.requires c.in-Some.d (found_some by_pair (pair_in c.args.pair) (decode c.args.store.now).dispatchers (sym c.in-Some.is ∙ c.find_dispatcher.ensures)).1
 
 pub returns : goal.returns
 returns c =
     let s = decode c.args.store.now in
-    let p = pair_of c.args.pair.topic c.args.pair.subscription in
+    let p = pair_in c.args.pair in
     let f = found_some by_pair p s.dispatchers (sym c.in-Some.is ∙ c.find_dispatcher.ensures) in
     ap (λ (n : ℕ). leb 32 n) (c.ring_count.ensures ∙ ap (λ (d : Dispatcher). length d.attached) (sym (dispatcher_found s c.in-Some.d p f.0 f.1)))
     ∙ new_by _ _ (sym c.if-in_ring.false ∙ c.in_ring.ensures)

@@ -3,7 +3,7 @@ use mathlib.Core.Path.{sym, ap, ◌∙◌}
 use Rattle.rules.specs.State.{by_id}
 use Rattle.rules.specs.Commands.{new_consumer}
 use Rattle.layout.specs.Layout.{decode, put}
-use Rattle.layout.specs.Fields.{pair_of}
+use Rattle.dispatcher.specs.Pairs.{pair_in}
 use Rattle.layout.proofs.Placed.{consumer_in}
 use Rattle.store.proofs.Founds.{found_some, found_none}
 use Rattle.command_parts.specs.Parts.{kind_of}
@@ -26,4 +26,4 @@ returns c =
     let a = c.args in
     let f = found_some by_id a.id (decode a.store.now).consumers (sym c.in-Some.is ∙ c.find_consumer.ensures.slot) in
     c.make_consumer.ensures
-    ∙ ap (put a.store.now) (seated_again (decode a.store.now) c.in-Some.i (new_consumer a.id (kind_of a.kind) (pair_of a.pair.topic a.pair.subscription)) c.requires.ascending f.0 f.1)
+    ∙ ap (put a.store.now) (seated_again (decode a.store.now) c.in-Some.i (new_consumer a.id (kind_of a.kind) (pair_in a.pair)) c.requires.ascending f.0 f.1)

@@ -1,8 +1,8 @@
--- `store::answers::entries` meets its contract: word 1 is E.
+-- `store::header::entries` meets its contract: word 1 is E.
 use mathlib.Core.Path.{◌∙◌}
 use native.Mathlib.Omega.{arith}
 use Rattle.layout.proofs.Store.{spells_canon}
-use Rattle.store.proofs.answers.entries.Goals as goal
+use Rattle.store.proofs.header.entries.Goals as goal
 
 pub word-requires : goal.word-requires
 word-requires c = let l = (spells_canon c.requires).long in omega arith
