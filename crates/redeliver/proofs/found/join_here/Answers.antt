@@ -27,5 +27,8 @@ returns-in-Some c =
 
 pub returns-in_default : goal.returns-in_default
 returns-in_default c =
-    rw (← c.topic.ensures, found_none (ledger_of (decode c.args.store.now) c.topic.result) (group_of c.args.group)
-    (position_missing (group_of c.args.group).id (ledger_of (decode c.args.store.now) c.topic.result) c.in_default.ensures)) (joined_nothing c.args.i c.requires.0)
+    rw (
+      ← c.topic.ensures,
+      found_none (ledger_of (decode c.args.store.now) c.topic.result) (group_of c.args.group)
+          (position_missing (group_of c.args.group).id (ledger_of (decode c.args.store.now) c.topic.result) c.in_default.ensures),
+    ) (joined_nothing c.args.i c.requires.0)
