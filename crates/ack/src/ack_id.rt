@@ -80,7 +80,7 @@ fn acked_mark(mark: Mark, batch: u64, group: Group) -> Mark
     acked_in_part(mark, batch, group)
 }
 
-// The batch size of message `k` of a topic.
+// The batch size of message `k` of a topic. The topic exists, since it has that message, so no test is made.
 fn batch_size_of(store: &[u64], e: usize, topic: u64, k: usize) -> u64
     requires { CanonStore e store.now × (k < length (ledger_of (decode store.now) topic)) }
     ensures { result ≡ (message_at (ledger_of (decode store.now) topic) k).batch_size }

@@ -64,6 +64,7 @@ fn new_ids(store: &[u64], e: usize, d: usize, topic: u64, groups: Groups) -> usi
     ensures { result ≡ new_count (ledger_of (decode store.now) topic) (dispatcher_now store.now d).outside
         (groups_in groups.entry) }
 {
+    // A `while`, since what is left is read in the turn.
     let mut left = groups;
     let mut count = 0;
     while let Some(group) = left.next() {

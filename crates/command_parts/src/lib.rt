@@ -40,7 +40,7 @@ impl From<u64> for Kind {
     }
 }
 
-// Where a seek goes: the start, or the id of a message, by ledger and entry.
+// Where a seek goes: the start, or the id of a message by ledger and entry: two numbers, as words and bytes have it.
 #[derive(Clone, Copy, Debug, PartialEq, Eq)]
 pub enum Target {
     Start,

@@ -12,7 +12,7 @@ ghost use Rattle.dispatcher.specs.Outside.{by_itself, by_order};
 use message_id::Id;
 use search::first_row;
 use store::counted::Counted;
-use store::offsets::{ENTRY_IN, ID_WORDS, OUTSIDE_IDS_IN, OUTSIDE_IN, dispatcher_at};
+use store::offsets::{ID_WORDS, OUTSIDE_IDS_IN, OUTSIDE_IN, dispatcher_at};
 use topic::find::id_at;
 
 // The outside ids of dispatcher `d`, as a list in a store.

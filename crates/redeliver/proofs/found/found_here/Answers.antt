@@ -2,13 +2,15 @@
 use mathlib.Core.Path.{◌∙◌}
 use Rattle.layout.specs.Layout.{decode}
 use Rattle.rules.specs.State.{ledger_of}
+use Rattle.rules.specs.Ledger.{holds_id}
 use Rattle.groups.specs.Lent.{group_of}
-use Rattle.store.proofs.Places.{found_test}
+use Rattle.topic.proofs.Positions.{found_held}
 use Rattle.redeliver.proofs.Finds.{found_told}
 use Rattle.redeliver.proofs.found.found_here.Goals as goal
 
 pub returns : goal.returns
+unfolding holds_id
 returns c =
     c.from.ensures
-    ∙ rw (c.is_some.ensures ∙ found_test c.position_in.result _ _ c.position_in.ensures, ← c.topic.ensures)
+    ∙ rw (found_held (group_of c.args.group).id (ledger_of (decode c.args.store.now) c.topic.result) c.is_some.ensures c.position_in.ensures, ← c.topic.ensures)
     (found_told (ledger_of (decode c.args.store.now) c.topic.result) (group_of c.args.group))

@@ -7,13 +7,14 @@ use lib.ListN.{length}
 use Rattle.layout.specs.Layout.{decode}
 use Rattle.rules.specs.State.{ledger_of}
 use Rattle.groups.specs.Lent.{group_of}
+use Rattle.topic.proofs.Positions.{position_found, position_missing}
 use Rattle.redeliver.proofs.Finds.{found_one, found_none}
 use Rattle.redeliver.proofs.Joins.{joined_nothing}
 use Rattle.redeliver.proofs.found.join_here.Goals as goal
 
 pub append_nacked-requires : goal.append_nacked-requires
 append_nacked-requires c =
-    let s = c.in-Some.ensures in
+    let s = position_found (group_of c.args.group).id (ledger_of (decode c.args.store.now) c.topic.result) c.in-Some.ensures in
     let f = found_one (ledger_of (decode c.args.store.now) c.topic.result) (group_of c.args.group) c.in-Some.k s.0 s.1 in
     let n = ap (λ (l : List ℕ). length l) (rw c.topic.ensures at f) in
     let p = c.requires.1 in
@@ -21,9 +22,13 @@ append_nacked-requires c =
 
 pub returns-in-Some : goal.returns-in-Some
 returns-in-Some c =
-    let s = c.in-Some.ensures in
+    let s = position_found (group_of c.args.group).id (ledger_of (decode c.args.store.now) c.topic.result) c.in-Some.ensures in
     rw (← c.topic.ensures, found_one (ledger_of (decode c.args.store.now) c.topic.result) (group_of c.args.group) c.in-Some.k s.0 s.1) c.append_nacked.ensures
 
 pub returns-in_default : goal.returns-in_default
 returns-in_default c =
-    rw (← c.topic.ensures, found_none (ledger_of (decode c.args.store.now) c.topic.result) (group_of c.args.group) c.in_default.ensures) (joined_nothing c.args.i c.requires.0)
+    rw (
+      ← c.topic.ensures,
+      found_none (ledger_of (decode c.args.store.now) c.topic.result) (group_of c.args.group)
+          (position_missing (group_of c.args.group).id (ledger_of (decode c.args.store.now) c.topic.result) c.in_default.ensures),
+    ) (joined_nothing c.args.i c.requires.0)
