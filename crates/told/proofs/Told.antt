@@ -1,12 +1,14 @@
--- The number in the word of an answer is 0 exactly where it is done.
-use Rattle.std.proofs.Common.{◌≡◌, ℕ, Bool, true, ◌&&◌, cond, ◌+◌, ◌*◌, ◌/◌, ◌%◌, ◌^◌, ◌<◌, false, Result, Ok, Err, arith, refl, eq-eqb, ne_eqb}
+-- The number of a refusal is not 0, so that only a push that is done tells of dispatches, and of fewer than 2^56.
+use Rattle.std.proofs.Common.{◌≡◌, ℕ, Bool, true, ◌&&◌, cond, ◌+◌, ◌*◌, ◌/◌, ◌%◌, ◌^◌, ◌<◌}
+use Rattle.std.proofs.Common.{false, Result, Ok, Err, arith, refl, eq-eqb, ne_eqb}
 use lib.Dec.{eqb}
 use Rattle.rules.specs.Calls.{number_in, value_in}
 use Rattle.trace.specs.Calls.{PUSH}
 use Rattle.refusal.specs.Words.{valued, refusal_word, word_of}
 use Rattle.refusal.specs.declared.Refusal.{Refusal}
 use Rattle.refusal.specs.declared.Refusal.TheVariants.{NoState, BadEntries, StoreShort, NotLive, TopicsFull, EntriesFull, IdTaken, BadBatch}
-use Rattle.refusal.specs.declared.Refusal.TheVariants.{PermitsRange, BadList, IdsFull, ConsumersFull, DispatchersFull, RingFull, ListShort, NoCall, AnswersShort}
+use Rattle.refusal.specs.declared.Refusal.TheVariants.{PermitsRange, BadList, IdsFull, ConsumersFull}
+use Rattle.refusal.specs.declared.Refusal.TheVariants.{DispatchersFull, RingFull, ListShort, NoCall, AnswersShort}
 use Rattle.told.specs.Told.{made_told, dispatches_told}
 
 -- of a refusal

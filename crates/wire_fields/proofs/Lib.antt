@@ -6,3 +6,4 @@ pub mod Walks
 pub mod Selections
 pub mod Laying
 pub mod Bases
+pub mod TwoBytes

@@ -44,11 +44,15 @@ module _ (wire n : ℕ) (f : Field) (l : List Field) where
   -- one field more
   count_right : of_wire wire f ≡ true → leb 65 n ≡ false → count_after wire n (f ∷ l) ≡ count_after wire (n + 1) l
   unfolding count_after
-  count_right t u = ap (λ (b : Bool). count_after wire (cond b (cond (leb 65 n) n (n + 1)) 65) l) t ∙ ap (λ (b : Bool). count_after wire (cond b n (n + 1)) l) u
+  count_right t u =
+      ap (λ (b : Bool). count_after wire (cond b (cond (leb 65 n) n (n + 1)) 65) l) t
+      ∙ ap (λ (b : Bool). count_after wire (cond b n (n + 1)) l) u
 
   count_full : of_wire wire f ≡ true → leb 65 n ≡ true → count_after wire n (f ∷ l) ≡ count_after wire n l
   unfolding count_after
-  count_full t u = ap (λ (b : Bool). count_after wire (cond b (cond (leb 65 n) n (n + 1)) 65) l) t ∙ ap (λ (b : Bool). count_after wire (cond b n (n + 1)) l) u
+  count_full t u =
+      ap (λ (b : Bool). count_after wire (cond b (cond (leb 65 n) n (n + 1)) 65) l) t
+      ∙ ap (λ (b : Bool). count_after wire (cond b n (n + 1)) l) u
 
   count_wrong : of_wire wire f ≡ false → count_after wire n (f ∷ l) ≡ count_after wire 65 l
   unfolding count_after

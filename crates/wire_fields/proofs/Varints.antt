@@ -140,7 +140,8 @@ module _ {m : List ℕ} {at value size : ℕ} (p : Partway m at value size) wher
         }
 
     -- a byte that is not the tenth ends a varint of 63 bits at most
-    pub ends : size < 9 → b < 128 → (x : ℕ) → x ≡ b * 2 ^ (7 * size) → (next : ℕ) → next ≡ at + size + 1 → Read (value + x) next ≡ varint_at m at
+    pub ends : size < 9 → b < 128 → (x : ℕ) → x ≡ b * 2 ^ (7 * size) → (next : ℕ) → next ≡ at + size + 1
+        → Read (value + x) next ≡ varint_at m at
     ends few l x e next n =
         let t : b * 2 ^ (7 * size) ≤ 127 * 2 ^ (7 * size) = mul-le-mul_right (2 ^ (7 * size)) (omega arith) in
         let u : 7 * (size + 1) ≤ 63 = omega arith in

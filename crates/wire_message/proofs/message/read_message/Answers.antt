@@ -39,17 +39,20 @@ returns-in_err-place c =
 
 pub slice_bounds-fill_record-count : goal.slice_bounds-fill_record-count
 slice_bounds-fill_record-count c =
-    let s = stands_inside (message_found _ _ _ c.in_ok-base.ensures.value c.read_base.ensures (omega (arith, c.if-base-ne-MESSAGE.false)) c.in_ok-place.ensures.value) in
+    let k = c.if-base-ne-MESSAGE.false in
+    let s = stands_inside (message_found _ _ _ c.in_ok-base.ensures.value c.read_base.ensures (omega (arith, k)) c.in_ok-place.ensures.value) in
     omega (arith, s.0, s.1)
 
 pub slice_bounds-fill_record-start : goal.slice_bounds-fill_record-start
 slice_bounds-fill_record-start c =
-    let s = stands_inside (message_found _ _ _ c.in_ok-base.ensures.value c.read_base.ensures (omega (arith, c.if-base-ne-MESSAGE.false)) c.in_ok-place.ensures.value) in
+    let k = c.if-base-ne-MESSAGE.false in
+    let s = stands_inside (message_found _ _ _ c.in_ok-base.ensures.value c.read_base.ensures (omega (arith, k)) c.in_ok-place.ensures.value) in
     omega (arith, s.0, s.1)
 
 pub slice_bounds-fill_record-end : goal.slice_bounds-fill_record-end
 slice_bounds-fill_record-end c =
-    let s = stands_inside (message_found _ _ _ c.in_ok-base.ensures.value c.read_base.ensures (omega (arith, c.if-base-ne-MESSAGE.false)) c.in_ok-place.ensures.value) in
+    let k = c.if-base-ne-MESSAGE.false in
+    let s = stands_inside (message_found _ _ _ c.in_ok-base.ensures.value c.read_base.ensures (omega (arith, k)) c.in_ok-place.ensures.value) in
     omega (arith, s.0, s.1)
 
 pub returns : goal.returns
