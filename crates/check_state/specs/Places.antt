@@ -4,6 +4,8 @@ use Rattle.std.specs.Prelude.{ℕ, ◌+◌, ◌<◌, ◌≡◌, Bool, true, fals
 use Rattle.check_rows.specs.Below.{each_below}
 use Rattle.check_rows.specs.Rows.{row, among}
 use Rattle.check_state.specs.Stamps.{stamped, Under}
+use Rattle.check_rows.specs.declared.Rows.{Rows}
+use Rattle.check_rows.specs.declared.PairRows.{PairRows}
 use Rattle.check_state.specs.declared.stamps.Stamps.{Stamps}
 
 -- whether the holder of entry j is a ring id
@@ -45,6 +47,14 @@ pub record Flown (ws : List ℕ) (ring count first n cursor : ℕ) (before after
   pub answer : r ≡ (holders_right ws ring count first n && fresh_places ws (first + 1) 2 n cursor (stamped before.list before.stamp))
   pub placed : r ≡ true → Placed ws (first + 1) 2 n cursor before after true
   pub same : after.stamp ≡ before.stamp
+
+-- the two of values that stand for rows
+abbrev pub PlacedRows : Rows → ℕ → Stamps → Stamps → Bool → Type 0
+PlacedRows places cursor before after r = Placed places.store.now places.first places.width places.count cursor before after r
+
+abbrev pub FlownRows : Rows → PairRows → ℕ → Stamps → Stamps → Bool → Type 0
+FlownRows ring flight cursor before after r =
+    Flown ring.store.now ring.first ring.count flight.rows.first flight.rows.count cursor before after r
 
 -- the places of the dispatcher at an offset: holders in the ring, positions in flight and then queued fresh
 unfoldable pub places_right : List ℕ → ℕ → ℕ → Bool
