@@ -4,7 +4,7 @@ use Rattle.rules.specs.Permits.{least_total, most_total}
 use Rattle.rules.specs.Table.{all, distinct}
 use Rattle.rules.specs.State.{Dispatcher, State, same_pair}
 use Rattle.rules.specs.Valid.{is_byte, valid_dispatcher}
-use Rattle.layout.specs.Offsets.{dispatcher_words, ring_in, outside_in, queue_in}
+use Rattle.layout.specs.Offsets.{dispatcher_words, ring_in, outside_in, queue_in, flight_in, marks_in}
 use Rattle.check_rows.specs.Rows.{rows_distinct}
 use Rattle.check_rows.specs.declared.PairRows.{PairRows}
 use Rattle.check_state.specs.Places.{places_right}
@@ -17,7 +17,7 @@ pub record DispatcherRoom (e : ℕ) (ws : List ℕ) (at : ℕ) : Type 0 where
   pub ring_count : get_or ws (at + ring_in) 0 ≤ 32
   pub outside_count : get_or ws (at + outside_in) 0 ≤ 64
   pub queue_count : get_or ws (at + queue_in) 0 ≤ e
-  pub flight_count : get_or ws (at + 174 + e) 0 ≤ e
+  pub flight_count : get_or ws (at + flight_in e) 0 ≤ e
 
 -- rows that are a ledger of the same store
 pub record LedgerIn (e : ℕ) (ws : List ℕ) (r : PairRows) : Type 0 where
@@ -50,7 +50,7 @@ front_right ws e at entries = head_right ws at entries && (ring_right ws at && p
 -- what does: marks and outside ids
 unfoldable pub rest_right : List ℕ → ℕ → ℕ → ℕ → ℕ → Bool
 rest_right ws e at ledger entries =
-    marks_right ws ledger entries (at + 176 + 3 * e) (get_or ws (at + 175 + 3 * e) 0) && outside_right ws at ledger entries
+    marks_right ws ledger entries (at + 176 + 3 * e) (get_or ws (at + marks_in e) 0) && outside_right ws at ledger entries
 
 -- the dispatchers of a state: pairs distinct, each valid
 abbrev pub dispatchers_right : State → Bool

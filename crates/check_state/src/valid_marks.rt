@@ -5,6 +5,7 @@ ghost use Rattle.bits.specs.Four.{words};
 ghost use Rattle.check_rows.specs.Values.{pairs_ascend};
 ghost use Rattle.check_state.specs.Marks.{mark_fits, joined, marks_right, absent, outside_right};
 ghost use Rattle.check_state.specs.Dispatchers.{rest_right};
+ghost use Rattle.layout.specs.Offsets.{marks_in};
 
 use super::dispatcher_at::DispatcherAt;
 use bits::UnackedBits;
@@ -70,10 +71,10 @@ impl DispatcherAt<'_> {
     // and no bit too high, unless one mark's is.
     fn marks_valid(&self) -> bool
         ensures { result ≡ marks_right self.now.store.now self.now.ledger.rows.first self.now.ledger.rows.count
-            (self.now.at + 176 + 3 * self.now.e) (get_or self.now.store.now (self.now.at + 175 + 3 * self.now.e) 0) }
+            (self.now.at + 176 + 3 * self.now.e) (get_or self.now.store.now (self.now.at + marks_in self.now.e) 0) }
     {
         let ledger = self.ledger.rows.first;
-        let n = word(self.store, self.at + MARKS_IN + MARKS_IN_E * self.e);
+        let n = word(self.store, self.at + (MARKS_IN + MARKS_IN_E * self.e));
         if n != self.ledger.rows.count {
             return false;
         }

@@ -76,7 +76,7 @@ impl DispatcherAt<'_> {
             store: self.store,
             first: self.at + HELD_IN + self.e,
             width: HELD_WORDS,
-            count: word(self.store, self.at + FLIGHT_IN + self.e),
+            count: word(self.store, self.at + (FLIGHT_IN + self.e)),
         };
         let flight = PairRows {
             rows: held,
