@@ -11,6 +11,7 @@ use Rattle.std.proofs.Common.{Some, None, is_some}
 use borrow.Author.Tests.{ltb-true, ltb-false, not-true, not-false}
 use Rattle.rules.proofs.Says.{Says}
 use Rattle.rules.proofs.Table.{by_test, never_both}
+use Rattle.store.proofs.Prefixes.{and_swap}
 use Rattle.check_rows.specs.Below.{each_below, some_below, first_below}
 
 -- ---- what a call that answered true, or false, says of the test that must fail
@@ -111,14 +112,7 @@ says_each {q} s n =
 pub each_both : (q r : ℕ → Bool) (n : ℕ) → each_below (λ i. q i && r i) n ≡ (each_below q n && each_below r n)
 unfolding each_below
 each_both q r zero = refl
-each_both q r (suc n) = rw (each_both q r n) (cross (each_below q n) (each_below r n) (q n) (r n))
-  where
-    -- four tests, paired either way
-    cross : (a b c d : Bool) → (a && b && (c && d)) ≡ (a && c && (b && d))
-    cross false b c d = refl
-    cross true false false d = refl
-    cross true false true d = refl
-    cross true true c d = refl
+each_both q r (suc n) = rw (each_both q r n) (and_swap (each_below q n) (each_below r n) (q n) (r n))
 
 -- the numbers below m, and those from m on
 pub each_add : (q : ℕ → Bool) (m n : ℕ) → each_below q (m + n) ≡ (each_below q m && each_below (λ i. q (m + i)) n)

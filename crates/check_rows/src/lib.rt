@@ -2,8 +2,8 @@
 // all are distinct, whether they ascend. Nothing here knows what the words mean.
 #![tactic(auto)]
 
-ghost use Rattle.std.specs.Prelude.{◌≡◌, true, ◌+◌, ◌*◌, ◌≤◌, ◌<◌, length};
-ghost use Rattle.check_rows.specs.Rows.{row, row_second, among, first_row, rows_distinct, two_among, twos_distinct, pair_above, above_last, twos_ascend};
+ghost use Rattle.std.specs.Prelude.{◌≡◌, true, ◌+◌, ◌*◌, ◌≤◌, length};
+ghost use Rattle.check_rows.specs.Rows.{pair_above, twos_ascend};
 
 // Rows of `width` words each, which stand in a store from `first` on.
 #[derive(Clone, Copy)]
@@ -12,6 +12,7 @@ pub struct Rows<'a> {
     pub first: usize,
     pub width: usize,
     pub count: usize,
+    pub ghost some: { 1 ≤ width },
     pub ghost inside: { first + count * width ≤ length store.now },
 }
 
@@ -25,7 +26,8 @@ pub struct PairRows<'a> {
 }
 
 // Whether two words are above another two: by the first words, or by the second where the first are
-// the same. `c < a || (a == c && d < b)` took half as long again over rows that ascend.
+// the same. `c < a || (a == c && d < b)` took half as long again over rows that ascend, and the order of
+// tuples, `(c, d) < (a, b)`, 587 µs for 347 over rows that descend.
 pub fn is_above(a: u64, b: u64, c: u64, d: u64) -> bool
     ensures { result ≡ pair_above a b c d }
 {
@@ -36,34 +38,28 @@ pub fn is_above(a: u64, b: u64, c: u64, d: u64) -> bool
 }
 
 impl Rows<'_> {
+    ghost use Rattle.std.specs.Prelude.{◌<◌};
+    ghost use Rattle.check_rows.specs.Values.{word_of, word_among, first_with, words_distinct};
+
     // The first word of row i.
     pub fn word(&self, i: usize) -> u64
-        requires { (1 ≤ self.now.width) × (i < self.now.count) }
-        ensures { result ≡ row self.now.store.now self.now.first self.now.width i }
+        requires { i < self.now.count }
+        ensures { result ≡ word_of self.now i }
     {
         self.store[self.first + i * self.width]
     }
 
-    // The second word of row i.
-    pub fn second(&self, i: usize) -> u64
-        requires { (2 ≤ self.now.width) × (i < self.now.count) }
-        ensures { result ≡ row_second self.now.store.now self.now.first self.now.width i }
-    {
-        self.store[self.first + i * self.width + 1]
-    }
-
     // The first row that starts with a word.
     pub fn row_of(&self, a: u64) -> Option<usize>
-        requires { 1 ≤ self.now.width }
-        ensures { result ≡ first_row self.now.store.now self.now.first self.now.width self.now.count a }
+        ensures { result ≡ first_with self.now a }
     {
         (0..self.count).find(|&i| a == self.word(i))
     }
 
     // Whether one of the first n rows starts with a word.
     fn is_among(&self, n: usize, a: u64) -> bool
-        requires { (1 ≤ self.now.width) × (n ≤ self.now.count) }
-        ensures { result ≡ among self.now.store.now self.now.first self.now.width n a }
+        requires { n ≤ self.now.count }
+        ensures { result ≡ word_among self.now n a }
     {
         (0..n).any(|i| a == self.word(i))
     }
@@ -71,8 +67,7 @@ impl Rows<'_> {
     // Whether no two rows start with the same word. A word above all before it is not compared, so that
     // ascending rows are passed over once.
     pub fn distinct(&self) -> bool
-        requires { 1 ≤ self.now.width }
-        ensures { result ≡ rows_distinct self.now.store.now self.now.first self.now.width self.now.count }
+        ensures { result ≡ words_distinct self.now }
     {
         let mut greatest = 0;
         for i in 0..self.count {
@@ -84,25 +79,37 @@ impl Rows<'_> {
         }
         true
     }
+}
+
+impl PairRows<'_> {
+    ghost use Rattle.std.specs.Prelude.{◌<◌};
+    ghost use Rattle.check_rows.specs.Values.{second_of, pair_among, pairs_distinct, pairs_ascend, past_last};
+
+    // The second word of row i.
+    pub fn second(&self, i: usize) -> u64
+        requires { i < self.now.rows.count }
+        ensures { result ≡ second_of self.now i }
+    {
+        self.rows.store[self.rows.first + i * self.rows.width + 1]
+    }
 
     // Whether one of the first n rows starts with two words.
     fn is_pair_among(&self, n: usize, a: u64, b: u64) -> bool
-        requires { (2 ≤ self.now.width) × (n ≤ self.now.count) }
-        ensures { result ≡ two_among self.now.store.now self.now.first self.now.width n a b }
+        requires { n ≤ self.now.rows.count }
+        ensures { result ≡ pair_among self.now n a b }
     {
-        (0..n).any(|i| a == self.word(i) && b == self.second(i))
+        (0..n).any(|i| a == self.rows.word(i) && b == self.second(i))
     }
 
     // Whether no two rows start with the same two words. Two words above all before them are not
     // compared, so that ascending rows are passed over once.
     pub fn pairs_distinct(&self) -> bool
-        requires { 2 ≤ self.now.width }
-        ensures { result ≡ twos_distinct self.now.store.now self.now.first self.now.width self.now.count }
+        ensures { result ≡ pairs_distinct self.now }
     {
         let mut x = 0;
         let mut y = 0;
-        for i in 0..self.count {
-            let a = self.word(i);
+        for i in 0..self.rows.count {
+            let a = self.rows.word(i);
             let b = self.second(i);
             if is_above(a, b, x, y) {
                 x = a;
@@ -116,42 +123,44 @@ impl Rows<'_> {
 
     // Whether the rows ascend by their two words.
     pub fn pairs_ascend(&self) -> bool
-        requires { 2 ≤ self.now.width }
-        ensures { result ≡ twos_ascend self.now.store.now self.now.first self.now.width self.now.count }
+        ensures { result ≡ pairs_ascend self.now }
     {
-        (1..self.count).all(|i| is_above(
-            self.word(i),
+        (1..self.rows.count).all(|i| is_above(
+            self.rows.word(i),
             self.second(i),
-            self.word(i - 1),
+            self.rows.word(i - 1),
             self.second(i - 1),
         ))
     }
 
     // Whether two words are above those of the last row.
     pub fn is_past(&self, a: u64, b: u64) -> bool
-        requires { 2 ≤ self.now.width }
-        ensures { result ≡ above_last self.now.store.now self.now.first self.now.width self.now.count a b }
+        ensures { result ≡ past_last self.now a b }
     {
-        if self.count == 0 {
+        if self.rows.count == 0 {
             return false;
         }
-        is_above(a, b, self.word(self.count - 1), self.second(self.count - 1))
+        is_above(
+            a,
+            b,
+            self.rows.word(self.rows.count - 1),
+            self.second(self.rows.count - 1),
+        )
     }
-}
 
-impl PairRows<'_> {
     // Whether one of the rows, which ascend, starts with two words: the half that cannot have it is left
-    // out again and again.
+    // out again and again. The library's searches by halves are over the elements of a slice, and a row is
+    // several of them.
     fn is_found(&self, a: u64, b: u64) -> bool
         requires { self.now.ascend ≡ true }
-        ensures { result ≡ two_among self.now.rows.store.now self.now.rows.first self.now.rows.width self.now.rows.count a b }
+        ensures { result ≡ pair_among self.now self.now.rows.count a b }
     {
         let mut low = 0;
         let mut high = self.rows.count;
         while low < high {
             let middle = low + (high - low) / 2;
             let x = self.rows.word(middle);
-            let y = self.rows.second(middle);
+            let y = self.second(middle);
             if is_above(a, b, x, y) {
                 low = middle + 1;
             } else if is_above(x, y, a, b) {
@@ -166,11 +175,11 @@ impl PairRows<'_> {
     // Whether one of the rows starts with two words. Words above the last of ascending rows are not
     // searched for.
     pub fn has(&self, a: u64, b: u64) -> bool
-        ensures { result ≡ two_among self.now.rows.store.now self.now.rows.first self.now.rows.width self.now.rows.count a b }
+        ensures { result ≡ pair_among self.now self.now.rows.count a b }
     {
         if self.ascend {
-            return !self.rows.is_past(a, b) && self.is_found(a, b);
+            return !self.is_past(a, b) && self.is_found(a, b);
         }
-        self.rows.is_pair_among(self.rows.count, a, b)
+        self.is_pair_among(self.rows.count, a, b)
     }
 }

@@ -14,7 +14,7 @@ use Rattle.rules.specs.State.{Held, Dispatcher}
 use Rattle.rules.specs.Valid.{is_byte, is_word, valid_ring, valid_places}
 use Rattle.layout.specs.Layout.{decode}
 use Rattle.layout.specs.Canon.{CanonStore}
-use Rattle.layout.specs.Offsets.{dispatcher_at}
+use Rattle.layout.specs.Offsets.{dispatcher_at, flight_in}
 use Rattle.layout.specs.Fields.{zero_held, dispatcher_nth}
 use Rattle.layout.proofs.GetsDispatcher.{dispatcher_short, read_dispatcher_topic, read_dispatcher_subscription, read_next, read_cursor, read_mark_delete, read_total, read_ring_count, read_outside_count, read_queue_count, read_flight_count, read_ring, read_queue, read_holder, read_position}
 use Rattle.check_rows.specs.Rows.{row, among}
@@ -36,7 +36,7 @@ module _ {e : ℕ} {ws : List ℕ} (h : CanonStore e ws) (d : ℕ) (k : d < leng
   here = dispatcher_at e d
 
   -- how many entries are in flight
-  flight_count : get_or ws (here + 174 + e) 0 ≡ length the.in_flight
+  flight_count : get_or ws (here + flight_in e) 0 ≡ length the.in_flight
   flight_count = by_place ws (omega arith) (read_flight_count h d k)
 
   -- its words lie in the store, and its counts in their room

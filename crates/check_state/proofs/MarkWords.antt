@@ -18,7 +18,7 @@ use Rattle.rules.proofs.State.{decides_ids}
 use Rattle.rules.proofs.Table.{by_test}
 use Rattle.layout.specs.Layout.{decode}
 use Rattle.layout.specs.Canon.{CanonStore}
-use Rattle.layout.specs.Offsets.{dispatcher_at, mark_in}
+use Rattle.layout.specs.Offsets.{dispatcher_at, marks_in, mark_in}
 use Rattle.layout.specs.Fields.{zero_id, dispatcher_nth}
 use Rattle.layout.proofs.GetsDispatcher.{read_dispatcher_topic, dispatcher_short, read_outside_count, read_mark_count, read_outside_ledger, read_outside_entry, read_redelivery_count, read_w0, read_w1, read_w2, read_w3}
 use Rattle.check_rows.specs.Below.{some_below}
@@ -69,10 +69,10 @@ module _ {e : ℕ} {ws : List ℕ} (h : CanonStore e ws) (d : ℕ) (k : d < leng
         )
 
     -- the marks' test
-    marks_reads : marks_right ws ledger_here (length ledger) (here + 176 + 3 * e) (get_or ws (here + 175 + 3 * e) 0) ≡ valid_marks ledger the.marks
+    marks_reads : marks_right ws ledger_here (length ledger) (here + 176 + 3 * e) (get_or ws (here + marks_in e) 0) ≡ valid_marks ledger the.marks
     unfolding marks_right
     marks_reads =
-        let n : get_or ws (here + 175 + 3 * e) 0 ≡ length the.marks = by_place ws (omega arith) (read_mark_count h d k) in
+        let n : get_or ws (here + marks_in e) 0 ≡ length the.marks = by_place ws (omega arith) (read_mark_count h d k) in
         rw (n, marks_each ledger the.marks)
         (by_test (eqb (length the.marks) (length ledger))
         (λ t. let s = eqb-true (length the.marks) (length ledger) t in

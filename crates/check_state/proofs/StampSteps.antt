@@ -10,6 +10,7 @@ use lib.ListN.{length, get_or, set}
 use lib.Seq.{get_or-set_same, get_or-set_other}
 use borrow.Author.Tests.{eqb-true, eqb-false, eq-eqb, ne_eqb, ltb-true}
 use Rattle.rules.proofs.Table.{by_test}
+use Rattle.layout.specs.Offsets.{flight_in}
 use Rattle.check_rows.specs.Below.{each_below, some_below}
 use Rattle.check_rows.specs.Rows.{row, among}
 use Rattle.check_state.specs.Stamps.{stamped, Under}
@@ -143,7 +144,7 @@ unfolding stamped
 not_stamped stamps stamp p u = ne_eqb (get_or stamps p 0) stamp (λ e. let h = u p in absurd (omega arith))
 
 -- the places of a dispatcher, its counts read before, tested with a stamp that is not carried yet
-module _ (ws : List ℕ) (e at : ℕ) {count n m cursor : ℕ} (ring : count ≡ get_or ws (at + 11) 0) (flight : n ≡ get_or ws (at + 174 + e) 0)
+module _ (ws : List ℕ) (e at : ℕ) {count n m cursor : ℕ} (ring : count ≡ get_or ws (at + 11) 0) (flight : n ≡ get_or ws (at + flight_in e) 0)
     (queue : m ≡ get_or ws (at + 173) 0) (top : cursor ≡ get_or ws (at + 3) 0) where
   -- its parts
   parts : places_right ws e at

@@ -4,6 +4,7 @@ use Rattle.rules.specs.Permits.{least_total, most_total}
 use Rattle.rules.specs.Table.{all, distinct}
 use Rattle.rules.specs.State.{Dispatcher, State, same_pair}
 use Rattle.rules.specs.Valid.{is_byte, valid_dispatcher}
+use Rattle.layout.specs.Offsets.{dispatcher_words, ring_in, outside_in, queue_in, flight_in, marks_in}
 use Rattle.check_rows.specs.Rows.{rows_distinct}
 use Rattle.check_rows.specs.declared.PairRows.{PairRows}
 use Rattle.check_state.specs.Places.{places_right}
@@ -12,11 +13,11 @@ use Rattle.check_state.specs.Marks.{marks_right, outside_right}
 -- the words of a dispatcher at an offset lie in the store, and its counts within their lists' room
 pub record DispatcherRoom (e : ℕ) (ws : List ℕ) (at : ℕ) : Type 0 where
   pub E_most : e ≤ 4096
-  pub room : at + (176 + 9 * e) ≤ length ws
-  pub ring_count : get_or ws (at + 11) 0 ≤ 32
-  pub outside_count : get_or ws (at + 44) 0 ≤ 64
-  pub queue_count : get_or ws (at + 173) 0 ≤ e
-  pub flight_count : get_or ws (at + 174 + e) 0 ≤ e
+  pub room : at + dispatcher_words e ≤ length ws
+  pub ring_count : get_or ws (at + ring_in) 0 ≤ 32
+  pub outside_count : get_or ws (at + outside_in) 0 ≤ 64
+  pub queue_count : get_or ws (at + queue_in) 0 ≤ e
+  pub flight_count : get_or ws (at + flight_in e) 0 ≤ e
 
 -- rows that are a ledger of the same store
 pub record LedgerIn (e : ℕ) (ws : List ℕ) (r : PairRows) : Type 0 where
@@ -40,7 +41,7 @@ next_right next n = ltb next n || (eqb n 0 && eqb next 0)
 -- its ring: distinct ids, and next
 unfoldable pub ring_right : List ℕ → ℕ → Bool
 ring_right ws at =
-    rows_distinct ws (at + 12) 1 (get_or ws (at + 11) 0) && next_right (get_or ws (at + 2) 0) (get_or ws (at + 11) 0)
+    rows_distinct ws (at + (ring_in + 1)) 1 (get_or ws (at + ring_in) 0) && next_right (get_or ws (at + 2) 0) (get_or ws (at + ring_in) 0)
 
 -- what does not look into the ledger
 unfoldable pub front_right : List ℕ → ℕ → ℕ → ℕ → Bool
@@ -49,7 +50,7 @@ front_right ws e at entries = head_right ws at entries && (ring_right ws at && p
 -- what does: marks and outside ids
 unfoldable pub rest_right : List ℕ → ℕ → ℕ → ℕ → ℕ → Bool
 rest_right ws e at ledger entries =
-    marks_right ws ledger entries (at + 176 + 3 * e) (get_or ws (at + 175 + 3 * e) 0) && outside_right ws at ledger entries
+    marks_right ws ledger entries (at + 176 + 3 * e) (get_or ws (at + marks_in e) 0) && outside_right ws at ledger entries
 
 -- the dispatchers of a state: pairs distinct, each valid
 abbrev pub dispatchers_right : State → Bool

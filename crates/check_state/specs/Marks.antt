@@ -3,6 +3,7 @@ use Rattle.std.specs.Prelude.{ℕ, ◌+◌, ◌*◌, ◌^◌, Bool, cond, not, �
 use Rattle.std.specs.Int.Bits.{bit_or}
 use Rattle.bits.specs.Bits.{bits_empty, bits_below}
 use Rattle.bits.specs.declared.UnackedBits.{UnackedBits}
+use Rattle.layout.specs.Offsets.{outside_in, outside_id_in}
 use Rattle.check_rows.specs.Below.{each_below}
 use Rattle.check_rows.specs.Rows.{row, row_second, two_among, twos_ascend}
 
@@ -47,4 +48,4 @@ absent ws first n ledger entries = each_below (absent_id ws first ledger entries
 -- the outside ids of the dispatcher at an offset: ascending, none in the ledger
 unfoldable pub outside_right : List ℕ → ℕ → ℕ → ℕ → Bool
 outside_right ws at ledger entries =
-    twos_ascend ws (at + 45) 2 (get_or ws (at + 44) 0) && absent ws (at + 45) (get_or ws (at + 44) 0) ledger entries
+    twos_ascend ws (at + outside_id_in 0) 2 (get_or ws (at + outside_in) 0) && absent ws (at + outside_id_in 0) (get_or ws (at + outside_in) 0) ledger entries

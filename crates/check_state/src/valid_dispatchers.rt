@@ -13,7 +13,7 @@ ghost use Rattle.check_state.specs.Dispatchers.{head_right, next_right, ring_rig
 
 use super::dispatcher_at::DispatcherAt;
 use super::stamps::Stamps;
-use check_rows::Rows;
+use check_rows::{PairRows, Rows};
 use check_topics::valid_topics::ValidTopics;
 use store::limits::{MOST_ENTRIES, MOST_NUMBER};
 use store::offsets::{
@@ -121,5 +121,9 @@ pub(crate) fn dispatchers_valid(topics: &ValidTopics) -> bool
         width: DISPATCHER_WORDS + DISPATCHER_WORDS_E * e,
         count: word(topics.store, DISPATCHER_COUNT_AT + DISPATCHERS_AT_E * e),
     };
-    rows.pairs_distinct() && each_valid(topics)
+    let pairs = PairRows {
+        rows,
+        ascend: false,
+    };
+    pairs.pairs_distinct() && each_valid(topics)
 }

@@ -2,9 +2,10 @@
 // mark for each entry, outside ids that ascend, none of them among the entries.
 ghost use Rattle.std.specs.Prelude.{◌≡◌, true, ◌+◌, ◌*◌, ◌≤◌, length, get_or};
 ghost use Rattle.bits.specs.Four.{words};
-ghost use Rattle.check_rows.specs.Rows.{twos_ascend};
+ghost use Rattle.check_rows.specs.Values.{pairs_ascend};
 ghost use Rattle.check_state.specs.Marks.{mark_fits, joined, marks_right, absent, outside_right};
 ghost use Rattle.check_state.specs.Dispatchers.{rest_right};
+ghost use Rattle.layout.specs.Offsets.{marks_in};
 
 use super::dispatcher_at::DispatcherAt;
 use bits::UnackedBits;
@@ -49,19 +50,19 @@ fn joined(bits: UnackedBits, store: &[u64], at: usize) -> UnackedBits
 // Whether none of the ids, which ascend, stands in the ledger. Where the ledger's ids ascend too, as
 // they mostly do, ids above the last entry are told by the first of them, and others are searched for
 // by halves.
-fn ids_absent(ids: &Rows, ledger: &PairRows) -> bool
-    requires width { (ids.now.width ≡ 2) × (ledger.now.rows.width ≡ 4) }
-    requires store { ids.now.store.now ≡ ledger.now.rows.store.now }
-    requires ids { twos_ascend ids.now.store.now ids.now.first 2 ids.now.count ≡ true }
-    ensures { result ≡ absent ids.now.store.now ids.now.first ids.now.count ledger.now.rows.first ledger.now.rows.count }
+fn ids_absent(ids: &PairRows, ledger: &PairRows) -> bool
+    requires width { (ids.now.rows.width ≡ 2) × (ledger.now.rows.width ≡ 4) }
+    requires store { ids.now.rows.store.now ≡ ledger.now.rows.store.now }
+    requires ids { pairs_ascend ids.now ≡ true }
+    ensures { result ≡ absent ids.now.rows.store.now ids.now.rows.first ids.now.rows.count ledger.now.rows.first ledger.now.rows.count }
 {
-    if ids.count == 0 {
+    if ids.rows.count == 0 {
         return true;
     }
-    if ledger.ascend && ledger.rows.is_past(ids.word(0), ids.second(0)) {
+    if ledger.ascend && ledger.is_past(ids.rows.word(0), ids.second(0)) {
         return true;
     }
-    (0..ids.count).all(|j| !ledger.has(ids.word(j), ids.second(j)))
+    (0..ids.rows.count).all(|j| !ledger.has(ids.rows.word(j), ids.second(j)))
 }
 
 impl DispatcherAt<'_> {
@@ -70,10 +71,10 @@ impl DispatcherAt<'_> {
     // and no bit too high, unless one mark's is.
     fn marks_valid(&self) -> bool
         ensures { result ≡ marks_right self.now.store.now self.now.ledger.rows.first self.now.ledger.rows.count
-            (self.now.at + 176 + 3 * self.now.e) (get_or self.now.store.now (self.now.at + 175 + 3 * self.now.e) 0) }
+            (self.now.at + 176 + 3 * self.now.e) (get_or self.now.store.now (self.now.at + marks_in self.now.e) 0) }
     {
         let ledger = self.ledger.rows.first;
-        let n = word(self.store, self.at + MARKS_IN + MARKS_IN_E * self.e);
+        let n = word(self.store, self.at + (MARKS_IN + MARKS_IN_E * self.e));
         if n != self.ledger.rows.count {
             return false;
         }
@@ -102,11 +103,15 @@ impl DispatcherAt<'_> {
     fn outside_valid(&self) -> bool
         ensures { result ≡ outside_right self.now.store.now self.now.at self.now.ledger.rows.first self.now.ledger.rows.count }
     {
-        let ids = Rows {
+        let rows = Rows {
             store: self.store,
             first: self.at + OUTSIDE_IDS_IN,
             width: ID_WORDS,
             count: word(self.store, self.at + OUTSIDE_IN),
+        };
+        let ids = PairRows {
+            rows,
+            ascend: false,
         };
         ids.pairs_ascend() && ids_absent(&ids, &self.ledger)
     }

@@ -16,7 +16,7 @@ ghost use Rattle.check_rows.specs.Below.{each_below};
 ghost use Rattle.check_topics.specs.Orders.{batch_right, messages_ascend, messages_distinct, topic_order};
 ghost use Rattle.check_topics.specs.Ledgers.{Ordered};
 
-use check_rows::Rows;
+use check_rows::{PairRows, Rows};
 use store::limits::{MOST_BATCH, MOST_NUMBER, MOST_TOPICS};
 use store::offsets::{
     BATCH_IN, ENTRY_IN, MESSAGE_IN, MESSAGE_WORDS, MESSAGES_IN, TOPIC_COUNT_AT, topic_at,
@@ -40,18 +40,23 @@ fn messages_distinct(store: &[u64], first: usize, n: usize) -> bool
     requires { first + n * 4 ≤ length store.now }
     ensures { result ≡ messages_distinct store.now first n }
 {
-    let ids = Rows {
+    let rows = Rows {
         store,
         first,
         width: MESSAGE_WORDS,
         count: n,
+    };
+    let ids = PairRows {
+        rows,
+        ascend: false,
     };
     batches_right(store, first, n) && ids.pairs_distinct()
 }
 
 // Whether the n messages from `first` on, one at least, have batch sizes of at most 256 and ids that
 // ascend: then they are valid, and no id is looked for. Most are of the same ledger as the last, which
-// is asked first.
+// is asked first: `batches_right` and `pairs_ascend` made the check of a full store with E = 256 take
+// 153,535 instructions for 135,120.
 fn messages_ascend(store: &[u64], first: usize, n: usize) -> bool
     requires { (1 ≤ n) × (first + n * 4 ≤ length store.now) }
     ensures { result ≡ messages_ascend store.now first n }

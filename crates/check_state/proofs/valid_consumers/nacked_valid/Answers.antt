@@ -44,7 +44,7 @@ module _ {e : ℕ} {ws : List ℕ} {i : ℕ} (h : ConsumerIn e ws i) {at count :
       ∙ sym (all_each (λ (k : ℕ). ltb k n) (consumer_now ws i).nacked 0)
 
 pub invariant_of-nacked : goal.invariant_of-nacked
-invariant_of-nacked c = record { inside = inside c.requires c.consumer_at-at.ensures c.word.ensures }
+invariant_of-nacked c = record { some = omega arith; inside = inside c.requires c.consumer_at-at.ensures c.word.ensures }
 
 pub returns : goal.returns
 returns c =

@@ -33,7 +33,7 @@ module _ {e : ℕ} {ws : List ℕ} (canon : CanonStore e ws) {n first : ℕ} (co
   asked q = q ∙ ap₂ (λ (f m : ℕ). twos_distinct ws f (176 + 9 * e) m) start counted
 
 pub invariant_of-rows : goal.invariant_of-rows
-invariant_of-rows c = record { inside = inside c.requires c.word.ensures c.dispatcher_at.ensures }
+invariant_of-rows c = record { some = omega arith; inside = inside c.requires c.word.ensures c.dispatcher_at.ensures }
 
 pub returns-then-pairs_distinct : goal.returns-then-pairs_distinct
 returns-then-pairs_distinct c =

@@ -19,11 +19,11 @@ returns-then-ids-eq0 c = rw c.if-ids-eq0.true
 pub returns-then-is_past : goal.returns-then-is_past
 unfolding absent
 returns-then-is_past c =
-    let i = c.args.ids.now in
+    let i = c.args.ids.now.rows in
     let l = c.args.ledger.now.rows in
     let s = c.requires.store in
     let w = c.requires.width in
-    let up : twos_ascend l.store.now i.first 2 i.count ≡ true = rw s at c.requires.ids in
+    let up : twos_ascend l.store.now i.first 2 i.count ≡ true = rw (w.0, s) at c.requires.ids in
     let down : twos_ascend l.store.now l.first 4 l.count ≡ true = rw w.1 at (c.args.ledger.now.known c.if-ledger.true) in
     let past : above_last l.store.now l.first 4 l.count (row l.store.now i.first 2 0) (row_second l.store.now i.first 2 0) ≡ true =
     rw (c.word.ensures, c.second.ensures, w.0, w.1, s) at (sym c.is_past.ensures ∙ c.if-is_past.true) in
@@ -34,7 +34,7 @@ returns-then-is_past c =
 pub returns : goal.returns
 unfolding absent
 returns c =
-    let i = c.args.ids.now in
+    let i = c.args.ids.now.rows in
     let l = c.args.ledger.now.rows in
     let w = c.requires.width in
     let each =

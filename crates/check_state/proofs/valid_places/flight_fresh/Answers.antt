@@ -21,27 +21,27 @@ pub loop-i-init : goal.loop-i-init
 unfolding holders_right each_below
 loop-i-init c =
     let a = c.args in
-    (refl, placed_start a.ring.now.store.now (a.flight.now.first + 1) 2 a.cursor a.stamps.now)
+    (refl, placed_start a.ring.now.store.now (a.flight.now.rows.first + 1) 2 a.cursor a.stamps.now)
 
 pub returns-in_default : goal.returns-in_default
 returns-in_default c =
     let a = c.args in
     let r = a.ring.now in
-    let f = a.flight.now in
+    let f = a.flight.now.rows in
     let l = c.loop-i in
     let held : false ≡ held_right r.store.now r.first r.count f.first l.i =
     ap (λ (o : Option ℕ). is_some o) (sym c.in_default.is)
-    ∙ rw (c.requires.ring, c.word.ensures, c.requires.flight.0, c.requires.flight.1) at c.holder_slot.ensures.there in
+    ∙ rw (c.requires.widths.0, c.word.ensures, c.requires.widths.1, c.requires.store) at c.holder_slot.ensures.there in
     flown_unheld r.store.now r.first r.count f.first a.cursor a.stamps.now f.count l.i c.loop-i-test.true (sym held) l.invariant.1
 
 pub returns-then-not-place : goal.returns-then-not-place
 returns-then-not-place c =
     let a = c.args in
     let r = a.ring.now in
-    let f = a.flight.now in
+    let f = a.flight.now.rows in
     let l = c.loop-i in
     let here : c.second.result ≡ row r.store.now (f.first + 1) 2 l.i =
-    rw (c.requires.flight.0, c.requires.flight.1) at c.second.ensures ∙ position_of r.store.now f.first l.i in
+    rw (c.requires.widths.1, c.requires.store) at c.second.ensures ∙ position_of r.store.now f.first l.i in
     flown_stale r.store.now r.first r.count f.first a.cursor a.stamps.now f.count
     (placed_stop r.store.now (f.first + 1) 2 a.cursor a.stamps.now l.i l.invariant.1 here c.requires.cursor c.place.ensures f.count c.loop-i-test.true c.if-not-place.true)
 
@@ -50,13 +50,13 @@ unfolding holders_right
 loop-i-preserved c =
     let a = c.args in
     let r = a.ring.now in
-    let f = a.flight.now in
+    let f = a.flight.now.rows in
     let l = c.loop-i in
     let here : c.second.result ≡ row r.store.now (f.first + 1) 2 l.i =
-    rw (c.requires.flight.0, c.requires.flight.1) at c.second.ensures ∙ position_of r.store.now f.first l.i in
+    rw (c.requires.widths.1, c.requires.store) at c.second.ensures ∙ position_of r.store.now f.first l.i in
     let held : true ≡ held_right r.store.now r.first r.count f.first l.i =
     ap (λ (o : Option ℕ). is_some o) (sym c.in-Some.is)
-    ∙ rw (c.requires.ring, c.word.ensures, c.requires.flight.0, c.requires.flight.1) at c.holder_slot.ensures.there in (
+    ∙ rw (c.requires.widths.0, c.word.ensures, c.requires.widths.1, c.requires.store) at c.holder_slot.ensures.there in (
       each_turn (held_right r.store.now r.first r.count f.first) l.i l.invariant.0 (sym held),
       placed_turn r.store.now (f.first + 1) 2 a.cursor a.stamps.now l.i l.invariant.1 here c.requires.cursor c.place.ensures c.if-not-place.false,
     )
@@ -65,7 +65,7 @@ pub returns : goal.returns
 returns c =
     let a = c.args in
     let r = a.ring.now in
-    let f = a.flight.now in
+    let f = a.flight.now.rows in
     let l = c.loop-i in
     let e : l.i ≡ f.count = omega arith in
     flown_end r.store.now r.first r.count f.first a.cursor a.stamps.now f.count (rw e at l.invariant.0)

@@ -8,5 +8,5 @@ use Rattle.check_state.proofs.valid_places.flight_fresh.Given as goal
 
 abbrev pub invariant-loop-i : goal.invariant-loop-i
 invariant-loop-i l =
-    (holders_right l.ring.store.now l.ring.first l.ring.count l.flight.first l.i ≡ true)
-    × Placed l.ring.store.now (l.flight.first + 1) 2 l.i l.cursor l.initial.stamps l.stamps true
+    (holders_right l.ring.store.now l.ring.first l.ring.count l.flight.rows.first l.i ≡ true)
+    × Placed l.ring.store.now (l.flight.rows.first + 1) 2 l.i l.cursor l.initial.stamps l.stamps true

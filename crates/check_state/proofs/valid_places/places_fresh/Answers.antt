@@ -12,11 +12,11 @@ pub returns-then-not-place : goal.returns-then-not-place
 returns-then-not-place c =
     let a = c.args in
     let r = a.places.now in
-    placed_stop r.store.now r.first r.width a.cursor a.stamps.now c.loop-i.i c.loop-i.invariant c.word.ensures c.requires.1 c.place.ensures r.count c.loop-i-test.true
+    placed_stop r.store.now r.first r.width a.cursor a.stamps.now c.loop-i.i c.loop-i.invariant c.word.ensures c.requires c.place.ensures r.count c.loop-i-test.true
     c.if-not-place.true
 
 pub loop-i-preserved : goal.loop-i-preserved
 loop-i-preserved c =
     let a = c.args in
     let r = a.places.now in
-    placed_turn r.store.now r.first r.width a.cursor a.stamps.now c.loop-i.i c.loop-i.invariant c.word.ensures c.requires.1 c.place.ensures c.if-not-place.false
+    placed_turn r.store.now r.first r.width a.cursor a.stamps.now c.loop-i.i c.loop-i.invariant c.word.ensures c.requires c.place.ensures c.if-not-place.false

@@ -1,4 +1,5 @@
 -- `check_topics::valid_topics::ValidTopics::ledger` meets its contract: the words of the topic's slot, or no rows where there is none.
+use native.Mathlib.Omega.{arith}
 use mathlib.Core.Path.{refl}
 use Rattle.layout.proofs.Placed.{topic_in}
 use Rattle.check_topics.proofs.Ledgers.{ledger_absent, ledger_inside, ledger_rows}
@@ -10,7 +11,7 @@ returns-in_default c =
     record { same_store = refl; width = refl; count = s.0; spelt = s.1 }
 
 pub invariant_of-rows-2 : goal.invariant_of-rows-2
-invariant_of-rows-2 c = record { inside = ledger_inside (topic_in c.requires c.in-Some.t c.in-Some.ensures.1) c.topic_at-at.ensures c.word.ensures }
+invariant_of-rows-2 c = record { some = omega arith; inside = ledger_inside (topic_in c.requires c.in-Some.t c.in-Some.ensures.1) c.topic_at-at.ensures c.word.ensures }
 
 pub returns : goal.returns
 returns c =

@@ -1,4 +1,4 @@
--- `check_rows::Rows::pairs_distinct` meets its contract: a turn's row differs from those before it, and none up to it is above the
+-- `check_rows::PairRows::pairs_distinct` meets its contract: a turn's row differs from those before it, and none up to it is above the
 -- two words that are kept.
 use mathlib.Core.Path.{◌≡◌, refl, sym, ap, ◌∙◌}
 use mathlib.Core.Bool.{true, false, not}
@@ -8,8 +8,8 @@ use Rattle.check_rows.specs.Below.{each_below}
 use Rattle.check_rows.specs.Rows.{row, row_second, pair_above, two_differs, twos_distinct}
 use Rattle.check_rows.proofs.Below.{refuted, upheld, each_turn, each_stop}
 use Rattle.check_rows.proofs.RowOrder.{most_new, most_raised, most_kept}
-use Rattle.check_rows.proofs.Rows.pairs_distinct.Goals as goal
-use Rattle.check_rows.proofs.Rows.pairs_distinct.Goals.{then-is_above, else-is_above+else-is_pair_among}
+use Rattle.check_rows.proofs.PairRows.pairs_distinct.Goals as goal
+use Rattle.check_rows.proofs.PairRows.pairs_distinct.Goals.{then-is_above, else-is_above+else-is_pair_among}
 
 pub loop-i-init : goal.loop-i-init
 unfolding twos_distinct each_below
@@ -18,14 +18,14 @@ loop-i-init c = (refl, λ j h. absurd (not-suc-le-zero h))
 pub returns-then-is_pair_among : goal.returns-then-is_pair_among
 unfolding twos_distinct
 returns-then-is_pair_among c =
-    let s = c.args.self.now in
+    let s = c.args.self.now.rows in
     each_stop (two_differs s.store.now s.first s.width) s.count c.loop-i.i c.loop-i-test.true
     (refuted (rw (c.word-a.ensures, c.second-b.ensures) at c.is_pair_among.ensures) c.if-is_pair_among.true)
 
 pub loop-i-preserved : goal.loop-i-preserved
 unfolding twos_distinct
 loop-i-preserved c =
-    let s = c.args.self.now in
+    let s = c.args.self.now.rows in
     let l = c.loop-i in
     let x = row s.store.now s.first s.width l.i in
     let y = row_second s.store.now s.first s.width l.i in
