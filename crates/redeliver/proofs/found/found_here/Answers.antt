@@ -10,5 +10,5 @@ use Rattle.redeliver.proofs.found.found_here.Goals as goal
 pub returns : goal.returns
 returns c =
     c.from.ensures
-    ∙ rw (c.is_some.ensures ∙ found_test c.position_in.result _ _ c.position_in.ensures, ← c.topic.ensures)
-    (found_told (ledger_of (decode c.args.store.now) c.topic.result) (group_of c.args.group))
+    ∙ rw (c.is_some.ensures ∙ found_test c.position_in.result _ _ c.position_in.ensures)
+    (found_told (ledger_of (decode c.args.store.now) c.args.topic) (group_of c.args.group))
