@@ -18,7 +18,10 @@ use groups::group::Group;
 use groups::list::Groups;
 use topic::position::position_in;
 
-// Entry `j` in flight of dispatcher `d`, which is on position `k`, is handed back.
+// Entry `j` in flight of dispatcher `d`, which is on position `k`, is handed back. Not inlined, since the search for `j`
+// would then carry the places of all that is done here from turn to turn: 64 ids that are held, handed back, take 184,735
+// instructions so, and 237,940 inlined.
+#[inline(never)]
 fn hand_back_held(store: &mut [u64], e: usize, d: usize, j: usize, k: usize)
     requires { DispatcherIn e store.old d × (j < length (dispatcher_now store.old d).in_flight)
         × (length (dispatcher_now store.old d).redelivery < e) × (k < length (dispatcher_now store.old d).marks) }
@@ -29,15 +32,13 @@ fn hand_back_held(store: &mut [u64], e: usize, d: usize, j: usize, k: usize)
     raise_count(store, e, d, k);
 }
 
-// The id of a group is handed back if `id` holds it. The topic is the dispatcher's, read once for all groups: read for
-// each of 64 it makes a redeliver longer by a twentieth, 237,940 instructions for 226,125.
-fn hand_back(store: &mut [u64], e: usize, d: usize, topic: u64, id: u64, group: Group)
-    requires { DispatcherIn e store.old d × ValidDispatcher (decode store.old) (dispatcher_now store.old d)
-        × ((dispatcher_now store.old d).pair.topic ≡ topic) }
+// The id of a group is handed back if `id` holds it.
+fn hand_back(store: &mut [u64], e: usize, d: usize, id: u64, group: Group)
+    requires { DispatcherIn e store.old d × ValidDispatcher (decode store.old) (dispatcher_now store.old d) }
     ensures { store.new ≡ dispatcher_changed store.old d
-        (λ x. redeliver_id (ledger_of (decode store.old) topic) id x (group_of group.entry).id) }
+        (λ x. redeliver_id (ledger_of (decode store.old) x.pair.topic) id x (group_of group.entry).id) }
 {
-    let Some(k) = position_in(store, e, topic, group) else {
+    let Some(k) = position_in(store, e, topic(store, e, d), group) else {
         return;
     };
     if let Some(j) = find_hold(store, e, d, id, k) {
@@ -51,8 +52,7 @@ pub(crate) fn hand_back_all(store: &mut [u64], e: usize, d: usize, id: u64, grou
     ensures { store.new ≡ dispatcher_changed store.old d
         (λ x. redeliver_groups (ledger_of (decode store.old) x.pair.topic) id x (groups_in groups.entry)) }
 {
-    let number = topic(store, e, d);
     for group in groups {
-        hand_back(store, e, d, number, id, group);
+        hand_back(store, e, d, id, group);
     }
 }

@@ -31,9 +31,9 @@ returns-in-Some-find_hold c =
     let k = c.in-Some.k in
     let j = c.in-Some-find_hold.j in
     let f = found_some by_hold (held_of a.id k) x.in_flight (sym c.in-Some-find_hold.is ∙ c.find_hold.ensures) in
-    c.hand_back_held.ensures
+    rw (← c.topic.ensures) (c.hand_back_held.ensures
     ∙ ap (λ (y : Dispatcher). put a.store.now (set_dispatcher s a.d y))
-    (sym (redeliver_held s a.id j k x p.1 f.0 (ledger_of s a.topic) (group_of a.group).id c.in-Some.ensures.0 f.1))
+    (sym (redeliver_held s a.id j k x p.1 f.0 (ledger_of s c.topic.result) (group_of a.group).id c.in-Some.ensures.0 f.1)))
 
 pub returns-in_default-find_hold : goal.returns-in_default-find_hold
 returns-in_default-find_hold c =
@@ -43,10 +43,10 @@ returns-in_default-find_hold c =
     let x = dispatcher_nth s a.d in
     let k = c.in-Some.k in
     let f = found_none by_hold (held_of a.id k) x.in_flight (sym c.in_default-find_hold.is ∙ c.find_hold.ensures) in
-    stays a.d _ p.0 (redeliver_none s a.id (slot by_hold (held_of a.id k) x.in_flight) k x p.1 refl (ledger_of s a.topic) (group_of a.group).id c.in-Some.ensures.0 f)
+    rw (← c.topic.ensures) (stays a.d _ p.0 (redeliver_none s a.id (slot by_hold (held_of a.id k) x.in_flight) k x p.1 refl (ledger_of s c.topic.result) (group_of a.group).id c.in-Some.ensures.0 f))
 
 pub returns-in_default : goal.returns-in_default
 returns-in_default c =
     let a = c.args in
     let p = c.requires in
-    stays a.d _ p.0 (redeliver_absent (decode a.store.now) a.id a.topic (dispatcher_nth (decode a.store.now) a.d) (group_of a.group).id p.1 p.2 c.in_default.ensures)
+    rw (← c.topic.ensures) (stays a.d _ p.0 (redeliver_absent (decode a.store.now) a.id c.topic.result (dispatcher_nth (decode a.store.now) a.d) (group_of a.group).id p.1 (sym c.topic.ensures) c.in_default.ensures))
