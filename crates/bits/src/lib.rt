@@ -10,8 +10,8 @@ ghost use Rattle.bits.specs.Four.{four, words};
 ghost use Rattle.bits.specs.Masks.{mask};
 
 // Four fields and no array: in clauses an array is a list of any length, and each fact about a mark or a record would have
-// to add that it is four; four fields say it by themselves.
-#[derive(Clone, Copy)]
+// to add that it is four; four fields say it by themselves. The default is the empty set.
+#[derive(Clone, Copy, Default)]
 pub struct UnackedBits {
     pub w0: u64,
     pub w1: u64,
