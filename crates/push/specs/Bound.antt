@@ -3,7 +3,7 @@ use Rattle.std.specs.Prelude.{ℕ, ◌+◌, ◌-◌, List, [], ◌∷◌, length
 use Rattle.rules.specs.State.{Dispatcher, State, ledger_of}
 use Rattle.push_plain.specs.Reading.{waiting_for}
 
--- the numbers of the elements of a list, added up
+-- the numbers of the elements of a list, added up; `AddedUp` of push_plain is of numbers that a closure's contract tells by place
 unfoldable pub total : {A : Type 0} → (A → ℕ) → List A → ℕ
 total f [] = 0
 total f (a ∷ l) = f a + total f l

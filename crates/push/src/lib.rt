@@ -26,7 +26,8 @@ use record::RECORD_WORDS;
 use refusal::{Answer, Refusal};
 use store::answers::entries;
 
-// The permits of all consumers, by slot.
+// The permits of all consumers, by slot. They stay a plain list: that it has a number for each consumer is a fact of the list
+// and of the store, so no invariant of the list alone.
 fn load_permits(store: &[u64], e: usize, list: &mut [u64])
     requires { CanonStore e store.now × (length list.old ≡ length (decode store.now).consumers) }
     ensures { list.new ≡ permits_now (decode store.now) }
@@ -42,6 +43,7 @@ fn due(store: &[u64], e: usize) -> usize
     ensures { result ≡ length (local_push (decode store.now)).dispatched }
 {
     let n = consumer_count(store, e);
+    // 32 at most, and no heap: the array is lent as long as it is used.
     let mut all = [0u64; 32];
     let permits = &mut all[..n];
     load_permits(store, e, permits);
@@ -58,6 +60,7 @@ fn push_pending(store: &mut [u64], e: usize, list: &mut [u64]) -> usize
     ensures records { list.new ≡ filled list.old 0 (local_push (decode store.old)).dispatched }
 {
     let n = consumer_count(store, e);
+    // 32 at most, and no heap: the array is lent as long as it is used.
     let mut all = [0u64; 32];
     let permits = &mut all[..n];
     load_permits(store, e, permits);

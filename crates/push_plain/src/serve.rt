@@ -27,12 +27,6 @@ fn plain_record(store: &[u64], e: usize, t: usize, k: usize, id: u64, permits: u
     ensures { record_words result ≡ flat (record_to (topic_now store.now t).messages id k permits) }
 {
     let m = load_message(store, e, t, k);
-    let none = UnackedBits {
-        w0: 0,
-        w1: 0,
-        w2: 0,
-        w3: 0,
-    };
     Dispatch {
         consumer: id,
         ledger: m.ledger,
@@ -40,7 +34,7 @@ fn plain_record(store: &[u64], e: usize, t: usize, k: usize, id: u64, permits: u
         handle: m.handle,
         batch_size: m.batch_size,
         ack_set_words: 0,
-        ack_set: none,
+        ack_set: UnackedBits::default(),
         redelivery_count: 0,
         cost: 1,
         permits: signed(permits),

@@ -7,7 +7,6 @@ ghost use Rattle.layout.specs.Calls.{outcome, answer, after, list_after};
 ghost use Rattle.push_records.specs.Listed.{room, listed, no_dispatch};
 
 use super::fill::fill;
-use bits::UnackedBits;
 use broker::broker_push;
 use record::{Dispatch, RECORD_WORDS};
 use told::made_in;
@@ -54,27 +53,11 @@ pub struct Listed {
 }
 
 // A dispatch of nothing.
+#[tactic(auto, unfolding(crate::specs::Listed::no_dispatch))]
 fn no_dispatch() -> Dispatch
     ensures { result ≡ no_dispatch }
 {
-    let ack_set = UnackedBits {
-        w0: 0,
-        w1: 0,
-        w2: 0,
-        w3: 0,
-    };
-    Dispatch {
-        consumer: 0,
-        ledger: 0,
-        entry: 0,
-        handle: 0,
-        batch_size: 0,
-        ack_set_words: 0,
-        ack_set,
-        redelivery_count: 0,
-        cost: 0,
-        permits: 0,
-    }
+    Dispatch::default()
 }
 
 // Push into a list of 64 dispatches that is handed back by value, for callers that lend none.

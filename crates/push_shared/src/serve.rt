@@ -74,6 +74,7 @@ pub(crate) fn serve_dispatcher(
     ensures { Written e store.old d permits.old list.old store.new permits.new list.new result }
 {
     let size = ring_count(store, e, d);
+    // 32 at most, and no heap: the array is lent as long as it is used.
     let mut all = [0usize; 32];
     let ring = &mut all[..size];
     let served = find_served(store, e, d);

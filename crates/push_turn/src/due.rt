@@ -36,6 +36,7 @@ fn due_of(store: &[u64], e: usize, d: usize, permits: &mut [u64]) -> usize
     ensures permits { permits.new ≡ (served_now store.now d permits.old).after.permits }
 {
     let size = ring_count(store, e, d);
+    // 32 at most, and no heap: the array is lent as long as it is used.
     let mut all = [0usize; 32];
     let ring = &mut all[..size];
     let served = find_served(store, e, d);

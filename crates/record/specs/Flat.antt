@@ -22,7 +22,8 @@ record_words x =
 abbrev pub word_of : List ℕ → ℕ → ℕ → ℕ
 word_of ws i j = get_or ws (i * 13 + j) 0
 
--- record i of flat words: its fields are its 13 words in order
+-- record i of flat words: its fields are its 13 words in order, as `record_read` of the rules has them, but of the code's record,
+-- whose permits are in two's complement
 unfoldable pub record_at : List ℕ → ℕ → declared.Dispatch
 record_at ws i =
     record {

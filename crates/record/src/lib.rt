@@ -9,8 +9,8 @@ ghost use Rattle.record.specs.Flat.{record_words, record_at};
 use bits::UnackedBits;
 
 // A dispatch as push records it: its numbers are the words of its flat record, in their order. The permits
-// after it are in two's complement.
-#[derive(Clone, Copy)]
+// after it are in two's complement. The default is a dispatch of nothing, all zeros.
+#[derive(Clone, Copy, Default)]
 pub struct Dispatch {
     pub consumer: u64,
     pub ledger: u64,
