@@ -1,18 +1,15 @@
 -- The calls of a row on the way: what was done so far, and the row of the calls that are left on what it left, make the whole
 -- row. A call more keeps it, and at the end all of it is done.
-use Prim.Native.Nat.{ℕ, ◌+◌, ◌/◌, ◌^◌, ◌≤◌, ◌<◌}
-use mathlib.Core.Path.{◌≡◌, refl, sym, ap, ◌∙◌, subst}
-use mathlib.Core.Bool.{Bool, true, false}
-use mathlib.Core.List.{List, [], ◌∷◌, ◌++◌, append_assoc}
-use mathlib.Core.Option.{Option, some}
+use Prim.Native.Nat.{ℕ, ◌+◌, ◌-◌, ◌/◌, ◌^◌, ◌≤◌, ◌<◌}
+use mathlib.Core.Path.{◌≡◌, refl, sym, ap, ap₂, ◌∙◌, subst}
+use mathlib.Core.Bool.{true, ◌&&◌}
+use mathlib.Core.List.{List, [], ◌∷◌, ◌++◌, append_assoc, append-nil}
 use native.Mathlib.Omega.{arith}
-use lib.Dec.{ltb}
-use borrow.Author.Tests.{ltb-true, ltb-false}
-use lib.ListN.{length, get_or, set, take, drop, length-append, length-drop, length-set, drop_of_length-le}
-use lib.Seq.{drop_at, drop-drop, get_or-drop, length-take-le}
+use lib.ListN.{length, set, take, drop, length-append, length-drop, length-set, drop_of_length-le}
+use lib.Seq.{drop_at, drop-drop, length-take-le, take_all}
 use Rattle.words.specs.Act.{lay, store}
 use Rattle.words.proofs.Act.{lay_eq, lay_cons, lay_append, lay_none, lay_front}
-use Rattle.rules.specs.Table.{is_some, or_else}
+use Rattle.rules.specs.Table.{all}
 use Rattle.rules.specs.Outcome.{Outcome}
 use Rattle.rules.specs.Calls.{Call, fits, answer_word}
 use Rattle.rules.proofs.Valid.{says_valid}
@@ -21,146 +18,103 @@ use Rattle.layout.specs.Calls.{outcome, answer, after, run, made_words, with_rec
 use Rattle.layout.proofs.Store.{spells_valid}
 use Rattle.layout.proofs.Calls.{outcome_is, length_after, spells_after}
 use Rattle.layout.proofs.Demand.{records_in_front}
+use Rattle.words.proofs.Check.{and_left, and_right}
 use Rattle.trace.specs.Calls.{kind_of}
-use Rattle.trace.proofs.Calls.{if_call, call_fits, call_kind}
-use Rattle.trace_call.specs.Made.{made, answer_of, answered, words_made, list_made}
-use Rattle.row.specs.Script.{call_size, call_record, script_call, script_calls}
+use Rattle.trace_form.specs.declared.Call as code
+use Rattle.trace_form.specs.declared.Call.TheVariants as calls_of
+use Rattle.trace_form.specs.Calls.{as_call}
 use Rattle.row.specs.Row.{with_room, left_of, given, row_answers, row_records}
 use Rattle.row.specs.Promises.{MadeFirst, OneByOne}
-use Rattle.row.proofs.Script.{FirstCall, first_call, whole_call, call_inside, script_empty}
-use Rattle.row.proofs.Given.{room_fits, room_is_word, call_with_room, made_within, as_many, answers_many, records_within}
+use Rattle.row.proofs.Given.{room_fits, room_is_word, made_within, as_many, answers_many, records_within}
 use Rattle.row.proofs.OneByOne.{one_by_one}
-use Rattle.row_calls.specs.Rows.{words_filled, CallThere, call_at, Ready, MadeAll}
+use Rattle.row_calls.specs.Rows.{words_filled, MadeAll}
 use Rattle.row_calls.proofs.Filled.{filled}
 
--- the calls of a script
-abbrev all_calls : List ℕ → List Call
-all_calls script = or_else (script_calls script) []
-
--- words, answers and list on the way, from those at the start; `at` is where the next call stands, `call` how many are made,
--- `from` how many words of the list are filled
-pub record Going (script ws₀ answers₀ list₀ ws answers list : List ℕ) (at call from : ℕ) : Type 0 where
-  pub calls : List Call
-  pub left : script_calls (drop at script) ≡ some calls
-  pub placed : at ≤ length script
+-- words, answers and list on the way, from those at the start; the calls that are left of all, how many are made, and how many
+-- words of the list are filled
+pub record Going (every : List Call) (ws₀ answers₀ list₀ ws answers list : List ℕ) (left : List Call) (call from : ℕ) : Type 0 where
+  pub fit : all fits left ≡ true
   pub spelt : spells ws ≡ true
   pub inside : from ≤ length list
-  pub enough : call + length calls ≤ length answers
-  pub many : call + length calls ≡ length (all_calls script)
+  pub enough : call + length left ≤ length answers
   pub short : length list < 2 ^ 64
   pub as_many_words : length ws ≡ length ws₀
   pub as_many_answers : length answers ≡ length answers₀
   pub as_long : length list ≡ length list₀
-  pub words : run ws (given (decode ws) (drop from list) calls) ≡ run ws₀ (given (decode ws₀) list₀ (all_calls script))
+  pub words : run ws (given (decode ws) (drop from list) left) ≡ run ws₀ (given (decode ws₀) list₀ every)
   pub each :
-      (lay (row_answers (decode ws) (given (decode ws) (drop from list) calls))).run call answers
-      ≡ (lay (row_answers (decode ws₀) (given (decode ws₀) list₀ (all_calls script)))).run 0 answers₀
+      (lay (row_answers (decode ws) (given (decode ws) (drop from list) left))).run call answers
+      ≡ (lay (row_answers (decode ws₀) (given (decode ws₀) list₀ every))).run 0 answers₀
   pub records :
-      (lay (row_records (decode ws) (given (decode ws) (drop from list) calls))).run from list
-      ≡ (lay (row_records (decode ws₀) (given (decode ws₀) list₀ (all_calls script)))).run 0 list₀
+      (lay (row_records (decode ws) (given (decode ws) (drop from list) left))).run from list
+      ≡ (lay (row_records (decode ws₀) (given (decode ws₀) list₀ every))).run 0 list₀
 
 -- at the start
-pub starts_going : (script ws answers list : List ℕ) → Ready ws script answers → length list < 2 ^ 64 → Going script ws answers list ws answers list 0 0 0
-unfolding or_else
-starts_going script ws answers list r small =
-    let same : or_else (script_calls script) [] ≡ r.calls = ap (λ (o : Option (List Call)). or_else o []) r.are in
-    let n = r.enough in
+pub starts_going : (ws answers list : List ℕ) (calls : List Call) → spells ws ≡ true → all fits calls ≡ true → length calls ≤ length answers
+    → length list < 2 ^ 64 → Going calls ws answers list ws answers list calls 0 0
+starts_going ws answers list calls h f n small =
     record {
-      calls = r.calls;
-      left = r.are;
-      placed = omega arith;
-      spelt = r.spelt;
+      fit = f;
+      spelt = h;
       inside = omega arith;
       enough = omega arith;
-      many = let k = ap length same in omega arith;
       short = small;
       as_many_words = refl;
       as_many_answers = refl;
       as_long = refl;
-      words = ap (λ (l : List Call). run ws (given (decode ws) list l)) (sym same);
-      each = ap (λ (l : List Call). (lay (row_answers (decode ws) (given (decode ws) list l))).run 0 answers) (sym same);
-      records = ap (λ (l : List Call). (lay (row_records (decode ws) (given (decode ws) list l))).run 0 list) (sym same);
+      words = refl;
+      each = refl;
+      records = refl;
     }
 
--- a script of no words has none
-no_calls : {l : List Call} → some l ≡ some [] → l ≡ []
-no_calls e = cc
-
--- where a call is left, words of the script are
-pub some_left : {script ws₀ answers₀ list₀ ws answers list : List ℕ} {at call from : ℕ} → Going script ws₀ answers₀ list₀ ws answers list at call from
-    → call < length (all_calls script) → at < length script
-some_left {script} {at = at} {call = call} g h = go (ltb at (length script)) refl
-  where
-    go : (t : Bool) → ltb at (length script) ≡ t → at < length script
-    go true e = ltb-true at (length script) e
-    go false e =
-        let over : length script ≤ at = ltb-false at (length script) e in
-        let none_left = no_calls (sym g.left ∙ ap script_calls (drop_of_length-le script over) ∙ script_empty) in
-        let l = ap length none_left in
-        let m = g.many in
-        absurd (omega arith)
+-- a call of the code is the rules' with its room
+made_as : (room : ℕ) (x : code.Call) → as_call room x ≡ with_room room (as_call 0 x)
+unfolding as_call with_room
+made_as room (calls_of.Append topic ledger entry handle batch_size) = refl
+made_as room (calls_of.Subscribe consumer kind topic subscription) = refl
+made_as room (calls_of.Flow consumer grant) = refl
+made_as room (calls_of.Ack consumer list) = refl
+made_as room (calls_of.Seek consumer target) = refl
+made_as room (calls_of.Redeliver consumer list) = refl
+made_as room (calls_of.Close consumer) = refl
+made_as room calls_of.Push = refl
 
 -- ---- one call
 
-module _ {script ws₀ answers₀ list₀ ws answers list : List ℕ} {at call from : ℕ} (g : Going script ws₀ answers₀ list₀ ws answers list at call from)
-    (more : at < length script) where
-  -- the call that stands there
-  pub the_first : FirstCall (drop at script) g.calls
-  the_first = first_call (drop at script) g.calls (let l = length-drop at script in omega arith) g.left
-
-  -- it stands there whole
-  its_size : the_first.size ≡ call_size (get_or script (at + 1) 0)
-  its_size = (whole_call (drop at script) the_first.size the_first.ends_there).is_size ∙ ap call_size (get_or-drop at script 1 0)
-
-  pub stands : CallThere script at
-  unfolding is_some
-  stands =
-      let w = call_inside (drop at script) the_first.size the_first.ends_there in
-      let e = its_size in
-      let l = length-drop at script in
-      record { front = omega (arith, w.1); inside = omega (arith, w.1); is_call = ap is_some the_first.is_call }
-
+module _ {every : List Call} {ws₀ answers₀ list₀ ws answers list : List ℕ} {left : List Call} {call from : ℕ}
+    (g : Going every ws₀ answers₀ list₀ ws answers list left call from) (made : code.Call) (others : List Call) (are : left ≡ as_call 0 made ∷ others) where
   -- what is left of the list, and the call as it is made with it
   abbrev rest : List ℕ
   rest = drop from list
 
   abbrev as_made : Call
-  as_made = with_room (length rest / 13) the_first.first
+  as_made = with_room (length rest / 13) (as_call 0 made)
 
   rest_short : length rest < 2 ^ 64
   rest_short = let l = length-drop from list in let s = g.short in omega arith
 
-  -- the call at that place is that call
-  pub is_made : call_at script at rest ≡ some as_made
-  unfolding call_at script_call
-  is_made = call_with_room (length rest / 13) _ _ the_first.first (room_is_word rest rest_short) the_first.is_call
+  -- it has its widths, and so have the others
+  all_fit : fits (as_call 0 made) && all fits others ≡ true
+  unfolding all
+  all_fit = ap (all fits) (sym are) ∙ g.fit
 
-  -- of the kind that stands there
-  pub kind_is : kind_of the_first.first ≡ get_or script at 0
-  unfolding script_call call_record
-  kind_is =
-      if_call (λ (y : Call). kind_of y ≡ get_or (drop at script) 0 0) _ the_first.first (call_kind 0 _ _) the_first.is_call
-      ∙ get_or-drop at script 0 0 ∙ ap (λ (k : ℕ). get_or script k 0) (let z : at + 0 ≡ at = omega arith in z)
-
-  -- it has its widths
   first_fits : fits as_made ≡ true
-  unfolding script_call
-  first_fits =
-      room_fits (length rest / 13) the_first.first (room_is_word rest rest_short)
-      (if_call (λ (y : Call). fits y ≡ true) _ the_first.first (call_fits 0 _ _) the_first.is_call)
+  first_fits = room_fits (length rest / 13) (as_call 0 made) (room_is_word rest rest_short) (and_left (fits (as_call 0 made)) (all fits others) all_fit)
+
+  others_fit : all fits others ≡ true
+  others_fit = and_right (fits (as_call 0 made)) (all fits others) all_fit
 
   -- what it makes has room
   made_short : length (made_words (outcome ws as_made)) ≤ length rest
   made_short =
-      subst (λ (o : Outcome). length (made_words o) ≤ length rest) (sym (outcome_is ws as_made g.spelt)) (made_within (decode ws) rest the_first.first)
+      subst (λ (o : Outcome). length (made_words o) ≤ length rest) (sym (outcome_is ws as_made g.spelt)) (made_within (decode ws) rest (as_call 0 made))
 
   -- its answer tells how much of the list it filled
-  pub fills : words_filled (get_or script at 0) (answer ws as_made) ≡ length (made_words (outcome ws as_made))
+  pub fills : words_filled (kind_of (as_call 0 made)) (answer ws as_made) ≡ length (made_words (outcome ws as_made))
   unfolding answer
   fills =
-      ap (λ (k : ℕ). words_filled k (answer ws as_made)) (sym kind_is)
-      ∙ subst (λ (o : Outcome). words_filled (kind_of the_first.first) (answer_word o) ≡ length (made_words o)) (sym (outcome_is ws as_made g.spelt))
-      (filled (decode ws) (length rest / 13) the_first.first ((says_valid (decode ws)).gives (spells_valid ws g.spelt)))
+      subst (λ (o : Outcome). words_filled (kind_of (as_call 0 made)) (answer_word o) ≡ length (made_words o)) (sym (outcome_is ws as_made g.spelt))
+      (filled (decode ws) (length rest / 13) (as_call 0 made) ((says_valid (decode ws)).gives (spells_valid ws g.spelt)))
 
   -- the list after it: its records stand where the rest began
   laid_there : {list' : List ℕ} → list' ≡ take from list ++ list_after rest (outcome ws as_made)
@@ -192,7 +146,7 @@ module _ {script ws₀ answers₀ list₀ ws answers list : List ℕ} {at call f
   next_words = after ws as_made
 
   abbrev next_given : List ℕ → List Call
-  next_given l = given (decode next_words) l the_first.others
+  next_given l = given (decode next_words) l others
 
   abbrev next_list : List ℕ
   next_list = (lay (made_words (outcome ws as_made))).run from list
@@ -201,101 +155,97 @@ module _ {script ws₀ answers₀ list₀ ws answers list : List ℕ} {at call f
   next_from = from + length (made_words (outcome ws as_made))
 
   -- the row of the calls that are left is this call, and the row of those after it
-  its_row : MadeFirst ws rest the_first.first the_first.others
+  its_row : MadeFirst ws rest (as_call 0 made) others
   unfolding OneByOne
-  its_row = one_by_one ws rest the_first.first the_first.others g.spelt first_fits
+  its_row = one_by_one ws rest (as_call 0 made) others g.spelt first_fits
 
   next_each : (lay (row_answers (decode next_words) (next_given (drop next_from next_list)))).run (call + 1) (set answers call (answer ws as_made))
-      ≡ (lay (row_answers (decode ws) (given (decode ws) rest g.calls))).run call answers
+      ≡ (lay (row_answers (decode ws) (given (decode ws) rest left))).run call answers
   unfolding store
   next_each =
       ap (λ (l : List ℕ). (lay (row_answers (decode next_words) (next_given l))).run (call + 1) (set answers call (answer ws as_made))) left_there
       ∙ sym (lay_cons (answer ws as_made) _ call answers) ∙ ap (λ (l : List ℕ). (lay l).run call answers) (sym its_row.each)
-      ∙ ap (λ (l : List Call). (lay (row_answers (decode ws) (given (decode ws) rest l))).run call answers) (sym the_first.are)
+      ∙ ap (λ (l : List Call). (lay (row_answers (decode ws) (given (decode ws) rest l))).run call answers) (sym are)
 
   next_records : (lay (row_records (decode next_words) (next_given (drop next_from next_list)))).run next_from next_list
-      ≡ (lay (row_records (decode ws) (given (decode ws) rest g.calls))).run from list
+      ≡ (lay (row_records (decode ws) (given (decode ws) rest left))).run from list
   next_records =
       ap (λ (l : List ℕ). (lay (row_records (decode next_words) (next_given l))).run next_from next_list) left_there
       ∙ sym (lay_append (made_words (outcome ws as_made)) _ from list) ∙ ap (λ (l : List ℕ). (lay l).run from list) (sym its_row.records)
-      ∙ ap (λ (l : List Call). (lay (row_records (decode ws) (given (decode ws) rest l))).run from list) (sym the_first.are)
+      ∙ ap (λ (l : List Call). (lay (row_records (decode ws) (given (decode ws) rest l))).run from list) (sym are)
 
   -- so the row goes on
-  going_next : Going script ws₀ answers₀ list₀ next_words (set answers call (answer ws as_made)) next_list (at + the_first.size) (call + 1) next_from
+  going_next : Going every ws₀ answers₀ list₀ next_words (set answers call (answer ws as_made)) next_list others (call + 1) next_from
   going_next =
-      let w = call_inside (drop at script) the_first.size the_first.ends_there in
-      let l = length-drop at script in
       let r = length-drop from list in
       let m = made_short in
       let i = g.inside in
-      let p = g.placed in
       let t = g.short in
       let n = g.enough in
-      let c = ap length the_first.are in
+      let c = ap length are in
       let even = (lay (made_words (outcome ws as_made))).even from list in
       let same = length-set answers call (answer ws as_made) in
       record {
-        calls = the_first.others;
-        left = ap script_calls (sym (drop-drop the_first.size at script)) ∙ the_first.follow;
-        placed = omega (arith, w.1);
+        fit = others_fit;
         spelt = spells_after ws as_made g.spelt first_fits;
         inside = omega arith;
         enough = omega arith;
-        many = let k = g.many in omega arith;
         short = omega arith;
         as_many_words = length_after ws as_made g.spelt ∙ g.as_many_words;
         as_many_answers = same ∙ g.as_many_answers;
         as_long = even ∙ g.as_long;
         words =
             ap (λ (k : List ℕ). run next_words (next_given k)) left_there
-            ∙ sym its_row.words ∙ ap (λ (k : List Call). run ws (given (decode ws) rest k)) (sym the_first.are) ∙ g.words;
+            ∙ sym its_row.words ∙ ap (λ (k : List Call). run ws (given (decode ws) rest k)) (sym are) ∙ g.words;
         each = next_each ∙ g.each;
         records = next_records ∙ g.records;
       }
 
   -- there is a word for its answer
   pub has_place : call < length answers
-  has_place = let n = g.enough in let c = ap length the_first.are in omega arith
+  has_place = let n = g.enough in let c = ap length are in omega arith
 
-  -- what was made there is that call
-  pub was_made : {ws' list' : List ℕ} {a : ℕ}
-      → record {
-        answer : a ≡ answered ws (call_at script at rest);
-        words : ws' ≡ words_made ws (call_at script at rest);
-        records : list' ≡ take from list ++ list_made ws rest (call_at script at rest);
-      }
-      → record { answer : a ≡ answer ws as_made; words : ws' ≡ after ws as_made; records : list' ≡ take from list ++ list_after rest (outcome ws as_made) }
-  unfolding answered answer_of made words_made list_made
-  was_made e =
-      record {
-        answer = e.answer ∙ ap (answered ws) is_made;
-        words = e.words ∙ ap (words_made ws) is_made;
-        records = e.records ∙ ap (λ (o : Option Call). take from list ++ list_made ws rest o) is_made;
-      }
+  -- the part of the list that is lent is all that is left
+  abbrev part : List ℕ
+  part = take (length list - from) (drop from list)
+
+  is_rest : part ≡ drop from list
+  is_rest = let l = length-drop from list in take_all (length list - from) (drop from list) (omega arith)
+
+  none_behind : drop (length list - from) (drop from list) ≡ []
+  none_behind = let l = length-drop from list in let h : length (drop from list) ≤ length list - from = omega arith in drop_of_length-le (drop from list) h
+
+  abbrev of_part : Call
+  of_part = as_call (length part / 13) made
+
+  part_is : of_part ≡ as_made
+  part_is = ap (λ (l : List ℕ). as_call (length l / 13) made) is_rest ∙ made_as (length rest / 13) made
 
   -- with the numbers as the code has them
-  pub goes_on : {ws' answers' list' : List ℕ} {a at' from' : ℕ} → ws' ≡ after ws as_made → a ≡ answer ws as_made → answers' ≡ set answers call a
-      → list' ≡ take from list ++ list_after rest (outcome ws as_made) → at' ≡ at + call_size (get_or script (at + 1) 0)
-      → from' ≡ from + words_filled (get_or script at 0) a → Going script ws₀ answers₀ list₀ ws' answers' list' at' (call + 1) from'
-  goes_on {ws'} {answers'} {list'} {a} {at'} {from'} w e s l p f =
-      let from_is : from' ≡ next_from = f ∙ ap (λ (k : ℕ). from + words_filled (get_or script at 0) k) e ∙ ap (λ (k : ℕ). from + k) fills in
-      let at_is : at' ≡ at + the_first.size = p ∙ ap (λ (k : ℕ). at + k) (sym its_size) in
-      let list_is : list' ≡ next_list = laid_there l in
-      let answers_are : answers' ≡ set answers call (answer ws as_made) = s ∙ ap (set answers call) e in
-      rw (w, answers_are, list_is, at_is, from_is) going_next
+  pub goes_on : {ws' answers' filled_part : List ℕ} {a from' : ℕ} → ws' ≡ after ws of_part → a ≡ answer ws of_part → answers' ≡ set answers call a
+      → filled_part ≡ list_after part (outcome ws of_part) → from' ≡ from + words_filled (kind_of (as_call 0 made)) a
+      → Going every ws₀ answers₀ list₀ ws' answers' (take from list ++ (filled_part ++ drop (length list - from) (drop from list))) others (call + 1) from'
+  goes_on {ws'} {answers'} {filled_part} {a} {from'} w e s l f =
+      let e' : a ≡ answer ws as_made = e ∙ ap (answer ws) part_is in
+      let w' : ws' ≡ after ws as_made = w ∙ ap (after ws) part_is in
+      let l' : filled_part ≡ list_after rest (outcome ws as_made) = l ∙ ap₂ (λ (k : List ℕ) (x : Call). list_after k (outcome ws x)) is_rest part_is in
+      let from_is : from' ≡ next_from = f ∙ ap (λ (k : ℕ). from + words_filled (kind_of (as_call 0 made)) k) e' ∙ ap (λ (k : ℕ). from + k) fills in
+      let whole : take from list ++ (filled_part ++ drop (length list - from) (drop from list)) ≡ next_list =
+      laid_there (ap (λ (k : List ℕ). take from list ++ k) (ap (λ (k : List ℕ). filled_part ++ k) none_behind ∙ append-nil filled_part ∙ l')) in
+      let answers_are : answers' ≡ set answers call (answer ws as_made) = s ∙ ap (set answers call) e' in
+      rw (w', answers_are, whole, from_is) going_next
 
 -- ---- the end
 
 -- no call is left, so all are made
-pub all_made : {script ws answers list ws' answers' list' : List ℕ} {at call from : ℕ} → Going script ws answers list ws' answers' list' at call from
-    → length (all_calls script) ≤ call → length (all_calls script) ≤ length answers → MadeAll ws answers list (all_calls script) ws' answers' list'
+pub all_made : {every : List Call} {ws answers list ws' answers' list' : List ℕ} {left : List Call} {call from : ℕ}
+    → Going every ws answers list ws' answers' list' left call from → left ≡ [] → length every ≤ length answers
+    → MadeAll ws answers list every ws' answers' list'
 unfolding run given row_answers row_records with_records
-all_made {script} {ws} {answers} {list} {ws'} {answers'} {list'} {at} {call} {from} g e n =
-    let m = g.many in
-    let none_left : g.calls ≡ [] = none_of g.calls (omega arith) in
-    let a = answers_many (decode ws) (given (decode ws) list (all_calls script)) in
-    let b = as_many (decode ws) list (all_calls script) in
-    let c = records_within (decode ws) list (all_calls script) in
+all_made {every} {ws} {answers} {list} {ws'} {answers'} {list'} {left} {call} {from} g none_left n =
+    let a = answers_many (decode ws) (given (decode ws) list every) in
+    let b = as_many (decode ws) list every in
+    let c = records_within (decode ws) list every in
     record {
       words = sym (ap (λ (l : List Call). run ws' (given (decode ws') (drop from list') l)) none_left) ∙ g.words;
       each =
@@ -307,7 +257,3 @@ all_made {script} {ws} {answers} {list} {ws'} {answers'} {list'} {at} {call} {fr
           ∙ sym (ap (λ (l : List Call). (lay (row_records (decode ws') (given (decode ws') (drop from list') l))).run from list') none_left)
           ∙ g.records ∙ lay_front _ list (omega arith);
     }
-  where
-    none_of : (l : List Call) → length l ≡ 0 → l ≡ []
-    none_of [] h = refl
-    none_of (x ∷ l) h = absurd (omega arith)

@@ -1,4 +1,3 @@
 pub mod Filled
 pub mod Going
-pub mod Parts
 pub mod Rows

@@ -11,16 +11,17 @@ use borrow.Author.Tests.{le-leb, lt-leb}
 use Rattle.std.proofs.Common.{Ok, Err}
 use Rattle.refusal.specs.declared.Refusal.{Refusal}
 use Rattle.refusal.specs.declared.Refusal.TheVariants.{NoCall}
-use Rattle.rules.specs.Table.{or_else}
-use Rattle.rules.specs.Calls.{Call}
+use Rattle.rules.specs.Table.{is_some, or_else, all}
+use Rattle.rules.specs.Calls.{Call, fits}
 use Rattle.layout.specs.Layout.{decode, spells}
 use Rattle.layout.specs.Calls.{run, with_records}
 use Rattle.trace.specs.Calls.{NO_CALL}
 use Rattle.row.specs.Script.{script_calls}
 use Rattle.row.specs.Row.{ANSWERS_SHORT, Row, given, row_answers, row_records, row_within, row_of, row, row_answer, row_calls, RowLeft}
 use Rattle.row.specs.Row.Row.{refused_row, made_row}
+use Rattle.row.proofs.Demand.{script_fits}
 use Rattle.row_script.specs.Counted.{counted}
-use Rattle.row_calls.specs.Rows.{Ready, MadeAll}
+use Rattle.row_calls.specs.Rows.{MadeAll}
 
 -- ---- what was counted
 
@@ -46,6 +47,11 @@ pub row_many : (script : List ℕ) (n : ℕ) → HasCalls script n → n ≡ len
 unfolding or_else
 row_many script n c = c.many ∙ ap length (sym (ap (λ (o : Option (List Call)). or_else o []) c.are))
 
+-- so its calls can be gone through
+pub has_form : (script : List ℕ) (n : ℕ) → HasCalls script n → is_some (script_calls script) ≡ true
+unfolding is_some
+has_form script n c = rw c.are
+
 -- it is bad
 pub has_none : (script : List ℕ) {e : Refusal} → Err e ≡ counted 0 (script_calls script) → (script_calls script ≡ none) × (e ≡ NoCall)
 unfolding counted
@@ -54,6 +60,15 @@ has_none script {e} is = go (script_calls script) is
     go : (o : Option (List Call)) → Err e ≡ counted 0 o → (o ≡ none) × (e ≡ NoCall)
     go none f = (refl, cc)
     go (some calls) f = absurd (let z : ◌≡◌ {A = ℕ} 0 1 = cc in omega arith)
+
+-- the calls of any script have their widths
+pub calls_fit : (script : List ℕ) → all fits (or_else (script_calls script) []) ≡ true
+unfolding or_else all
+calls_fit script = go (script_calls script) refl
+  where
+    go : (o : Option (List Call)) → script_calls script ≡ o → all fits (or_else o []) ≡ true
+    go none q = refl
+    go (some calls) q = script_fits script calls q
 
 -- ---- the row
 
@@ -92,10 +107,6 @@ module _ (ws script answers list : List ℕ) where
         let m = c.many in
         leaves (refused_row ANSWERS_SHORT (length c.calls)) (rw (h, c.are, lt-leb (length c.calls) (length answers) (omega arith)))
         (ap (λ (k : ℕ). k % 2 ^ 56 * 256 + ANSWERS_SHORT) m) (nothing_made ANSWERS_SHORT (length c.calls))
-
-    -- it can be made
-    pub row_ready : (n : ℕ) → HasCalls script n → n ≤ length answers → Ready ws script answers
-    row_ready n c s = let m = c.many in record { spelt = h; calls = c.calls; are = c.are; enough = omega arith }
 
     -- and was made
     pub row_made : (n : ℕ) → HasCalls script n → n ≤ length answers → {ws' answers' list' : List ℕ}

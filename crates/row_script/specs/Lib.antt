@@ -1,1 +1,3 @@
 pub mod Counted
+pub mod Left
+pub mod Split

@@ -1,80 +1,152 @@
--- Whether the words of a kind are a call: every word of a slice has 64 bits, so only the number of words, and a field that is
--- narrower or has only some values, has to be tested.
-use Prim.Native.Nat.{ℕ, zero, suc, ◌^◌, ◌<◌}
-use mathlib.Core.Path.{◌≡◌, refl, ◌∙◌}
-use mathlib.Core.Bool.{Bool, true, false, not}
+-- Words read as a call of a kind: every word of a slice has 64 bits, so only the number of words, and a field that is narrower
+-- or has only some values, is tested.
+use Prim.Native.Nat.{ℕ, ◌^◌, ◌≤◌, ◌<◌}
+use mathlib.Core.Path.{◌≡◌, refl, sym, ap, ◌∙◌}
+use mathlib.Core.Bool.{Bool, true, false, ◌&&◌, ◌||◌}
 use mathlib.Core.List.{List}
 use mathlib.Core.Option.{Option, none, some, bind}
 use native.Mathlib.Omega.{arith}
-use lib.Dec.{eqb, leb}
-use lib.ListN.{length, get_or}
-use borrow.Author.Tests.{eqb-true, ne_eqb, le-leb}
-use Rattle.rules.specs.Table.{is_some}
-use Rattle.rules.specs.Calls.{Call, fits, target_from}
-use Rattle.rules.specs.Calls.Call.{Ack, Redeliver, Close, Push}
+use lib.Dec.{eqb}
+use lib.ListN.{length, get_or, drop}
+use borrow.Author.Tests.{eqb-true, eq-eqb, ne_eqb, le-leb, lt-leb}
+use Rattle.words.proofs.Check.{and_left, and_right}
+use Rattle.rules.specs.State.{Kind}
+use Rattle.rules.specs.Calls.{Call, fits, kind_from, target_from}
+use Rattle.rules.specs.Calls.Call.{Append, Subscribe, Flow, Ack, Seek, Redeliver, Close, Push}
+use Rattle.rules.specs.Commands.Target.{start, to_id}
 use Rattle.layout.proofs.Slices.{word}
-use Rattle.trace.specs.Calls.{if_so, ack_from, seek_from, redeliver_from, close_from, push_from, that_fits}
-use Rattle.trace.proofs.Calls.{not_passed, is_call}
-use Rattle.trace.proofs.Widths.{start_fits, id_fits, list_fits}
+use Rattle.trace.specs.Calls.{append_from, subscribe_from, flow_from, ack_from, seek_from, redeliver_from, close_from}
+use Rattle.trace.specs.Calls.{push_from, that_fits, call_of}
+use Rattle.trace_kind.specs.Commands.{number_of, command_of}
+use Rattle.trace_kind.specs.declared.Command.{Command}
+use Rattle.trace_kind.proofs.Commands.{read_as}
+use Rattle.std.proofs.Common.{Result, Ok}
+use Rattle.refusal.specs.declared.Refusal.{Refusal}
+use Rattle.trace.proofs.Calls.{not_passed, too_wide, is_call}
+use Rattle.trace.proofs.Widths.{append_fits, append_wide, subscribe_fits, topic_wide, subscription_wide, flow_fits, grant_wide, start_fits, id_fits, list_fits}
 
--- there is none
-pub none_is : {o : Option Call} → o ≡ none → false ≡ is_some o
-unfolding is_some
-none_is e = rw e
+module _ (ws : List ℕ) where
+  -- ---- none
 
--- there is one
-pub some_is : {o : Option Call} {x : Call} → o ≡ some x → true ≡ is_some o
-unfolding is_some
-some_is e = rw e
+  -- an append of another number of words, or of a topic that is no byte
+  pub no_append : (length ws ≡ 5 → ⊥) → none ≡ bind (append_from ws) that_fits
+  unfolding append_from
+  no_append h = sym (not_passed _ (ne_eqb (length ws) 5 h))
 
--- a call that fits is there if its test is passed
-some_if : (t : Bool) (x : Call) → fits x ≡ true → t ≡ is_some (bind (if_so t x) that_fits)
-unfolding bind if_so that_fits is_some
-some_if true x f = rw f
-some_if false x f = refl
+  pub append_too_wide : 255 < get_or ws 0 0 → none ≡ bind (append_from ws) that_fits
+  unfolding append_from
+  append_too_wide h = sym (too_wide _ _ (append_wide _ _ h))
 
--- some words
-not_none : (n : ℕ) → not (eqb n 0) ≡ leb 1 n
-not_none zero = refl
-not_none (suc n) = rw (ne_eqb (suc n) 0 (λ e. omega (arith, e)), le-leb 1 (suc n) (omega arith))
+  -- a subscribe of another number of words, of another kind, of a topic or of a subscription that is no byte
+  pub no_subscribe : (length ws ≡ 4 → ⊥) → none ≡ bind (subscribe_from ws) that_fits
+  unfolding subscribe_from
+  no_subscribe h = sym (not_passed _ (rw (ne_eqb (length ws) 4 h)))
 
-module _ (ws : List ℕ) (w : (k : ℕ) → get_or ws k 0 < 2 ^ 64) where
-  -- an ack has words
-  pub is_ack : not (eqb (length ws) 0) ≡ is_some (bind (ack_from ws) that_fits)
-  unfolding ack_from fits
-  is_ack = not_none (length ws) ∙ some_if (leb 1 (length ws)) (Ack (get_or ws 0 0) _) (list_fits ws w)
+  pub no_kind : length ws ≡ 4 → 1 < get_or ws 1 0 → none ≡ bind (subscribe_from ws) that_fits
+  unfolding subscribe_from
+  no_kind l h = sym (not_passed _ (rw (l, lt-leb (get_or ws 1 0) 1 h)))
 
-  -- so has a redeliver
-  pub is_redeliver : not (eqb (length ws) 0) ≡ is_some (bind (redeliver_from ws) that_fits)
-  unfolding redeliver_from fits
-  is_redeliver = not_none (length ws) ∙ some_if (leb 1 (length ws)) (Redeliver (get_or ws 0 0) _) (list_fits ws w)
+  pub topic_too_wide : 255 < get_or ws 2 0 → none ≡ bind (subscribe_from ws) that_fits
+  unfolding subscribe_from
+  topic_too_wide h = sym (too_wide _ _ (topic_wide _ _ _ h))
 
-  -- a close has one
-  pub is_close : eqb (length ws) 1 ≡ is_some (bind (close_from ws) that_fits)
-  unfolding close_from fits
-  is_close = some_if (eqb (length ws) 1) (Close (get_or ws 0 0)) (word (get_or ws 0 0) (w 0))
+  pub subscription_too_wide : 255 < get_or ws 3 0 → none ≡ bind (subscribe_from ws) that_fits
+  unfolding subscribe_from
+  subscription_too_wide h = sym (too_wide _ _ (subscription_wide _ _ _ h))
 
-  -- a push none
-  pub is_push_of_none : eqb (length ws) 0 ≡ is_some (bind (push_from 0 ws) that_fits)
-  unfolding push_from fits
-  is_push_of_none = some_if (eqb (length ws) 0) (Push 0) (word 0 (omega arith))
+  -- a flow of another number of words, or of a grant of more than 32 bits
+  pub no_flow : (length ws ≡ 2 → ⊥) → none ≡ bind (flow_from ws) that_fits
+  unfolding flow_from
+  no_flow h = sym (not_passed _ (ne_eqb (length ws) 2 h))
 
-  -- a seek of two words, of which the second is 0
-  pub seek_of_two : length ws ≡ 2 → eqb (get_or ws 1 0) 0 ≡ is_some (bind (seek_from ws) that_fits)
-  unfolding seek_from target_from
-  seek_of_two l = go (eqb (get_or ws 1 0) 0) refl
+  pub grant_too_wide : 0xffff_ffff < get_or ws 1 0 → none ≡ bind (flow_from ws) that_fits
+  unfolding flow_from
+  grant_too_wide h = sym (too_wide _ _ (grant_wide _ _ h))
+
+  -- an ack, a redeliver of no words; a close not of one, a push of any
+  pub no_ack : length ws < 1 → none ≡ bind (ack_from ws) that_fits
+  unfolding ack_from
+  no_ack h = sym (not_passed _ (lt-leb 1 (length ws) h))
+
+  pub no_redeliver : length ws < 1 → none ≡ bind (redeliver_from ws) that_fits
+  unfolding redeliver_from
+  no_redeliver h = sym (not_passed _ (lt-leb 1 (length ws) h))
+
+  pub no_close : (length ws ≡ 1 → ⊥) → none ≡ bind (close_from ws) that_fits
+  unfolding close_from
+  no_close h = sym (not_passed _ (ne_eqb (length ws) 1 h))
+
+  pub no_push : (length ws ≡ 0 → ⊥) → none ≡ bind (push_from 0 ws) that_fits
+  unfolding push_from
+  no_push h = sym (not_passed _ (ne_eqb (length ws) 0 h))
+
+  -- ---- one
+
+  module _ (w : (k : ℕ) → get_or ws k 0 < 2 ^ 64) where
+    -- an append of five words, of which the first is a byte
+    pub an_append : length ws ≡ 5 → get_or ws 0 0 ≤ 255 → some (Append (get_or ws 0 0) (record { id = record { ledger = get_or ws 1 0; entry = get_or ws 2 0 }; handle = get_or ws 3 0; batch_size = get_or ws 4 0 })) ≡ bind (append_from ws) that_fits
+    unfolding append_from
+    an_append l t = sym (is_call (eq-eqb (length ws) 5 l) (append_fits _ _ t (w 1) (w 2) (w 3) (w 4)))
+
+    -- a subscribe of four words, of which the last two are bytes, and its kind
+    pub a_subscribe : (kind : Kind) → length ws ≡ 4 → get_or ws 1 0 ≤ 1 → kind_from (get_or ws 1 0) ≡ kind → get_or ws 2 0 ≤ 255 → get_or ws 3 0 ≤ 255
+        → some (Subscribe (get_or ws 0 0) kind (record { topic = get_or ws 2 0; subscription = get_or ws 3 0 })) ≡ bind (subscribe_from ws) that_fits
+    unfolding subscribe_from
+    a_subscribe kind l k e t s =
+        sym (is_call (rw (l, le-leb (get_or ws 1 0) 1 k)) (subscribe_fits _ _ _ (w 0) t s)
+        ∙ ap (λ (n : Kind). some (Subscribe (get_or ws 0 0) n (record { topic = get_or ws 2 0; subscription = get_or ws 3 0 }))) e)
+
+    -- a flow of two, of which the second has 32 bits
+    pub a_flow : length ws ≡ 2 → get_or ws 1 0 ≤ 0xffff_ffff → some (Flow (get_or ws 0 0) (get_or ws 1 0)) ≡ bind (flow_from ws) that_fits
+    unfolding flow_from
+    a_flow l g = sym (is_call (eq-eqb (length ws) 2 l) (flow_fits _ _ (w 0) g))
+
+    -- an ack and a redeliver of one and more
+    pub an_ack : 1 ≤ length ws → {list : List ℕ} → list ≡ drop 1 ws → some (Ack (get_or ws 0 0) list) ≡ bind (ack_from ws) that_fits
+    unfolding ack_from fits
+    an_ack l e = rw e (sym (is_call {x = Ack (get_or ws 0 0) (drop 1 ws)} (le-leb 1 (length ws) l) (list_fits ws w)))
+
+    pub a_redeliver : 1 ≤ length ws → {list : List ℕ} → list ≡ drop 1 ws → some (Redeliver (get_or ws 0 0) list) ≡ bind (redeliver_from ws) that_fits
+    unfolding redeliver_from fits
+    a_redeliver l e = rw e (sym (is_call {x = Redeliver (get_or ws 0 0) (drop 1 ws)} (le-leb 1 (length ws) l) (list_fits ws w)))
+
+    -- a close of one
+    pub a_close : length ws ≡ 1 → some (Close (get_or ws 0 0)) ≡ bind (close_from ws) that_fits
+    unfolding close_from fits
+    a_close l = sym (is_call {x = Close (get_or ws 0 0)} (eq-eqb (length ws) 1 l) (word (get_or ws 0 0) (w 0)))
+
+    -- a seek of two to the start, and of four to an id
+    pub to_start : length ws ≡ 2 → get_or ws 1 0 ≡ 0 → some (Seek (get_or ws 0 0) start) ≡ bind (seek_from ws) that_fits
+    unfolding seek_from target_from
+    to_start l z = rw (l, z) (sym (is_call {x = Seek (get_or ws 0 0) start} refl (start_fits (get_or ws 0 0) (w 0))))
+
+    pub to_an_id : length ws ≡ 4 → get_or ws 1 0 ≡ 1
+        → some (Seek (get_or ws 0 0) (to_id (record { ledger = get_or ws 2 0; entry = get_or ws 3 0 }))) ≡ bind (seek_from ws) that_fits
+    unfolding seek_from target_from
+    to_an_id l one =
+        rw (l, one)
+        (sym (is_call {x = Seek (get_or ws 0 0) (to_id (record { ledger = get_or ws 2 0; entry = get_or ws 3 0 }))} refl
+        (id_fits (get_or ws 0 0) _ (w 0) (w 2) (w 3))))
+
+  -- a seek of another form
+  pub no_seek : (length ws ≡ 2 → get_or ws 1 0 ≡ 0 → ⊥) → (length ws ≡ 4 → get_or ws 1 0 ≡ 1 → ⊥) → none ≡ bind (seek_from ws) that_fits
+  unfolding seek_from
+  no_seek h k = sym (not_passed _ (go (eqb (length ws) 2 && eqb (get_or ws 1 0) 0) refl (eqb (length ws) 4 && eqb (get_or ws 1 0) 1) refl))
     where
-      go : (t : Bool) → eqb (get_or ws 1 0) 0 ≡ t → t ≡ is_some (bind (seek_from ws) that_fits)
-      go true e = rw (l, e) (some_is (is_call refl (start_fits (get_or ws 0 0) (w 0))))
-      go false e = none_is (not_passed _ (rw (l, e)))
+      both : (a b c d : ℕ) → eqb a b && eqb c d ≡ true → (a ≡ b) × (c ≡ d)
+      both a b c d e = (eqb-true a b (and_left (eqb a b) (eqb c d) e), eqb-true c d (and_right (eqb a b) (eqb c d) e))
 
-  -- a seek of four, of which the second is 1
-  pub seek_of_four : length ws ≡ 4 → eqb (get_or ws 1 0) 1 ≡ is_some (bind (seek_from ws) that_fits)
-  unfolding seek_from target_from
-  seek_of_four l = go (eqb (get_or ws 1 0) 1) refl
-    where
-      go : (t : Bool) → eqb (get_or ws 1 0) 1 ≡ t → t ≡ is_some (bind (seek_from ws) that_fits)
-      go true e =
-          let one : get_or ws 1 0 ≡ 1 = eqb-true (get_or ws 1 0) 1 e in
-          some_is (is_call (rw (l, one)) (rw one (id_fits (get_or ws 0 0) _ (w 0) (w 2) (w 3))))
-      go false e = none_is (not_passed _ (rw (l, e)))
+      go : (s : Bool) → eqb (length ws) 2 && eqb (get_or ws 1 0) 0 ≡ s → (t : Bool) → eqb (length ws) 4 && eqb (get_or ws 1 0) 1 ≡ t → s || t ≡ false
+      go true e t f = let z = both (length ws) 2 (get_or ws 1 0) 0 e in absurd (h z.0 z.1)
+      go false e true f = let z = both (length ws) 4 (get_or ws 1 0) 1 f in absurd (k z.0 z.1)
+      go false e false f = refl
+
+-- a push of none
+pub a_push : (ws : List ℕ) → length ws ≡ 0 → some (Push 0) ≡ bind (push_from 0 ws) that_fits
+unfolding push_from fits
+a_push ws l = sym (is_call {x = Push 0} (eq-eqb (length ws) 0 l) (word 0 (omega arith)))
+
+-- what the number of a command and its words are, a number that was read as it and these words are
+pub of_command : {r : Result Command Refusal} {c : Command} {o : Option Call} (kind : ℕ) (ws : List ℕ) (d : Command)
+    → r ≡ command_of kind → r ≡ Ok c → c ≡ d → o ≡ call_of 0 (number_of d) ws → o ≡ call_of 0 kind ws
+of_command kind ws d e is same o = o ∙ ap (λ (n : ℕ). call_of 0 n ws) (sym (read_as kind d e is same))

@@ -5,7 +5,7 @@ use Rattle.row_calls.proofs.Filled.{of_dispatches}
 use Rattle.row_calls.proofs.words_filled.Goals as goal
 
 pub overflow_mul-result : goal.overflow_mul-result
-overflow_mul-result c = let f = few_told c.args.kind c.args.answer in omega (arith, c.dispatches.ensures)
+overflow_mul-result c = let f = few_told c.from.result c.args.answer in omega (arith, c.dispatches.ensures)
 
 pub returns : goal.returns
-returns c = ap (λ n. n * 13) c.dispatches.ensures ∙ of_dispatches _ _
+returns c = rw (← c.command_of-command.ensures, ← c.from.ensures) (ap (λ n. n * 13) c.dispatches.ensures ∙ of_dispatches _ _)

@@ -1,0 +1,19 @@
+-- `trace_form::append_of` meets its contract: five words, of which the first is a byte, are an append.
+use Rattle.std.proofs.Common.{arith}
+use Rattle.trace_form.proofs.Tested.{no_append, append_too_wide, an_append}
+use Rattle.trace_form.specs.Calls.{as_call, as_read}
+use Rattle.trace_form.proofs.append_of.Goals as goal
+
+pub returns-then-words-ne5 : goal.returns-then-words-ne5
+unfolding as_read
+returns-then-words-ne5 c = no_append _ c.if-words-ne5.true
+
+pub returns-in_default : goal.returns-in_default
+unfolding as_read
+returns-in_default c = append_too_wide _ (let over = c.in_default.ensures in omega (arith, over))
+
+pub returns : goal.returns
+unfolding as_read as_call
+returns c =
+    let is = c.in-Ok.ensures in
+    rw is.1 (an_append _ (λ k. (c.type_inv.words k).fits) c.if-words-ne5.false (omega (arith, is.0)))
