@@ -15,7 +15,7 @@ fn words(c: Command) -> [u64; 8]
         Command::Subscribe(s) => [
             s.consumer,
             s.request,
-            s.kind.number(),
+            u64::from(s.kind),
             s.topic.start,
             s.topic.size,
             s.subscription.start,
