@@ -16,7 +16,7 @@ impl From<Command> for [u64; 8] {
             Command::Subscribe(s) => [
                 s.consumer,
                 s.request,
-                s.kind.number(),
+                u64::from(s.kind),
                 s.topic.start,
                 s.topic.size,
                 s.subscription.start,
