@@ -60,14 +60,6 @@ module _ {e : ℕ} {ws us : List ℕ} (i topic : ℕ) (all gs : List Group) (h :
   pub joining_in : ConsumerIn e us i
   joining_in = let q = entries_here h.canon in consumer_still_in ws (decode ws) i _ h.canon.shaped q (shaped_reading (consumer_nth (decode ws) i) (consumer_nth (decode ws) i).cursor (consumer_nth (decode us) i).nacked (omega (arith, fit))) j.written h.there
 
-  -- and of the same topic
-  pub joining_topic : (consumer_nth (decode us) i).pair.topic ≡ (consumer_nth (decode ws) i).pair.topic
-  unfolding with_reading set_consumer with_consumers
-  joining_topic =
-      let c = with_reading (consumer_nth (decode ws) i) (consumer_nth (decode ws) i).cursor (consumer_nth (decode us) i).nacked in
-      ap (λ (t : State). (consumer_nth t i).pair.topic) state_now
-      ∙ ap (λ (y : Consumer). y.pair.topic) (get_or-set_same (decode ws).consumers i c zero_consumer h.there)
-
   -- at the end
   pub joining_end : gs ≡ [] → us ≡ put ws (set_consumer (decode ws) i (with_reading (consumer_nth (decode ws) i) (consumer_nth (decode ws) i).cursor ((consumer_nth (decode ws) i).nacked ++ found_positions (ledger_of (decode ws) topic) all)))
   unfolding found_positions

@@ -4,6 +4,7 @@ ghost use Rattle.std.specs.Prelude.{◌≡◌, ◌++◌, ◌∷◌, [], ◌+◌,
 ghost use Rattle.rules.specs.State.{ledger_of};
 ghost use Rattle.rules.specs.Commands.{with_reading, found_positions};
 ghost use Rattle.layout.specs.Layout.{decode};
+ghost use Rattle.layout.specs.Canon.{CanonStore};
 ghost use Rattle.layout.specs.Fields.{consumer_now, consumer_changed};
 ghost use Rattle.layout.specs.Placed.{ConsumerIn};
 ghost use Rattle.groups.specs.Lent.{group_of, groups_in};
@@ -14,13 +15,12 @@ use groups::group::Group;
 use groups::list::Groups;
 use topic::position::position_in;
 
-// 1 if the id of a group is in the ledger of consumer `i`, else 0.
-fn found_here(store: &[u64], e: usize, i: usize, group: Group) -> usize
-    requires { ConsumerIn e store.now i }
-    ensures { result ≡ length (found_positions (ledger_of (decode store.now) (consumer_now store.now i).pair.topic)
-        (group_of group.entry ∷ [])) }
+// 1 if the id of a group is in the ledger of a topic, else 0.
+fn found_here(store: &[u64], e: usize, topic: u64, group: Group) -> usize
+    requires { CanonStore e store.now }
+    ensures { result ≡ length (found_positions (ledger_of (decode store.now) topic) (group_of group.entry ∷ [])) }
 {
-    usize::from(position_in(store, e, topic(store, e, i), group).is_some())
+    usize::from(position_in(store, e, topic, group).is_some())
 }
 
 // How many groups have an id in the ledger of consumer `i`.
@@ -29,21 +29,22 @@ pub(crate) fn found_count(store: &[u64], e: usize, i: usize, groups: Groups) -> 
     ensures { result ≡ length (found_positions (ledger_of (decode store.now) (consumer_now store.now i).pair.topic)
         (groups_in groups.entry)) }
 {
+    let number = topic(store, e, i);
     let mut count = 0;
     for group in groups {
-        count += found_here(store, e, i, group);
+        count += found_here(store, e, number, group);
     }
     count
 }
 
 // The position of the id of a group joins the nacked positions of consumer `i` if it is found.
-fn join_here(store: &mut [u64], e: usize, i: usize, group: Group)
+fn join_here(store: &mut [u64], e: usize, i: usize, topic: u64, group: Group)
     requires { ConsumerIn e store.old i × (length (consumer_now store.old i).nacked
-        + length (found_positions (ledger_of (decode store.old) (consumer_now store.old i).pair.topic) (group_of group ∷ [])) ≤ 64) }
+        + length (found_positions (ledger_of (decode store.old) topic) (group_of group ∷ [])) ≤ 64) }
     ensures { store.new ≡ consumer_changed store.old i (λ x. with_reading x x.cursor (x.nacked
-        ++ found_positions (ledger_of (decode store.old) x.pair.topic) (group_of group.entry ∷ []))) }
+        ++ found_positions (ledger_of (decode store.old) topic) (group_of group.entry ∷ []))) }
 {
-    if let Some(k) = position_in(store, e, topic(store, e, i), group) {
+    if let Some(k) = position_in(store, e, topic, group) {
         append_nacked(store, e, i, k);
     }
 }
@@ -55,7 +56,8 @@ pub(crate) fn join_found(store: &mut [u64], e: usize, i: usize, groups: Groups)
     ensures { store.new ≡ consumer_changed store.old i (λ x. with_reading x x.cursor (x.nacked
         ++ found_positions (ledger_of (decode store.old) x.pair.topic) (groups_in groups.entry))) }
 {
+    let number = topic(store, e, i);
     for group in groups {
-        join_here(store, e, i, group);
+        join_here(store, e, i, number, group);
     }
 }

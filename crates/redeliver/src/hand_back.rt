@@ -18,7 +18,10 @@ use groups::group::Group;
 use groups::list::Groups;
 use topic::position::position_in;
 
-// Entry `j` in flight of dispatcher `d`, which is on position `k`, is handed back.
+// Entry `j` in flight of dispatcher `d`, which is on position `k`, is handed back. Not inlined, since the search for `j`
+// would then carry the places of all that is done here from turn to turn: 64 ids that are held, handed back, take 184,735
+// instructions so, and 237,940 inlined.
+#[inline(never)]
 fn hand_back_held(store: &mut [u64], e: usize, d: usize, j: usize, k: usize)
     requires { DispatcherIn e store.old d × (j < length (dispatcher_now store.old d).in_flight)
         × (length (dispatcher_now store.old d).redelivery < e) × (k < length (dispatcher_now store.old d).marks) }

@@ -20,7 +20,7 @@ overflow_add-count c =
     let w = c.loop-group.invariant in
     let f = found_few l (groups_in c.args.groups) in
     let m = groups_few c.args.groups in
-    let r = c.found_here-count.ensures in
+    let r = rw c.topic-number.ensures at c.found_here-count.ensures in
     omega arith
 
 pub loop-group-preserved : goal.loop-group-preserved
@@ -28,7 +28,7 @@ loop-group-preserved c =
     let l = ledger_of (decode c.args.store.now) (consumer_nth (decode c.args.store.now) c.args.i).pair.topic in
     let s = found_ahead l (group_of c.in-Some.group) _ _ c.in-Some.ensures.steps in
     let w = c.loop-group.invariant in
-    let r = c.found_here-count.ensures in
+    let r = rw c.topic-number.ensures at c.found_here-count.ensures in
     omega arith
 
 pub returns : goal.returns

@@ -12,5 +12,5 @@ pub returns : goal.returns
 unfolding holds_id
 returns c =
     c.from.ensures
-    ∙ rw (found_held (group_of c.args.group).id (ledger_of (decode c.args.store.now) c.topic.result) c.is_some.ensures c.position_in.ensures, ← c.topic.ensures)
-    (found_told (ledger_of (decode c.args.store.now) c.topic.result) (group_of c.args.group))
+    ∙ rw (found_held (group_of c.args.group).id (ledger_of (decode c.args.store.now) c.args.topic) c.is_some.ensures c.position_in.ensures)
+    (found_told (ledger_of (decode c.args.store.now) c.args.topic) (group_of c.args.group))

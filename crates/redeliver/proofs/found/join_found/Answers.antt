@@ -2,7 +2,7 @@
 use Rattle.layout.specs.Layout.{decode}
 use Rattle.layout.specs.Fields.{consumer_nth}
 use Rattle.groups.specs.Lent.{group_of, groups_in}
-use Rattle.redeliver.proofs.Joins.{joining_start, joining_in, joining_room, joining_topic, joining_turn, joining_end}
+use Rattle.redeliver.proofs.Joins.{joining_start, joining_in, joining_room, joining_turn, joining_end}
 use Rattle.redeliver.proofs.found.join_found.Goals as goal
 
 pub loop-group-init : goal.loop-group-init
@@ -16,7 +16,7 @@ join_here-requires c =
     let p = c.requires in
     let j = c.loop-group.invariant in (
       joining_in a.i t (groups_in a.groups) _ p.0 j p.1,
-      rw (joining_topic a.i t (groups_in a.groups) _ p.0 j p.1) (joining_room a.i t (groups_in a.groups) _ p.0 j p.1 (group_of c.in-Some.group) _ c.in-Some.ensures.steps),
+      rw c.topic-number.ensures (joining_room a.i t (groups_in a.groups) _ p.0 j p.1 (group_of c.in-Some.group) _ c.in-Some.ensures.steps),
     )
 
 pub loop-group-preserved : goal.loop-group-preserved
@@ -25,7 +25,7 @@ loop-group-preserved c =
     let t = (consumer_nth (decode a.store.now) a.i).pair.topic in
     let p = c.requires in
     joining_turn a.i t (groups_in a.groups) _ p.0 c.loop-group.invariant p.1 (group_of c.in-Some.group) _ c.in-Some.ensures.steps
-    (rw (joining_topic a.i t (groups_in a.groups) _ p.0 c.loop-group.invariant p.1) at c.join_here.ensures)
+    (rw c.topic-number.ensures at c.join_here.ensures)
 
 pub returns : goal.returns
 returns c =

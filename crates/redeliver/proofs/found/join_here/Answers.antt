@@ -14,21 +14,18 @@ use Rattle.redeliver.proofs.found.join_here.Goals as goal
 
 pub append_nacked-requires : goal.append_nacked-requires
 append_nacked-requires c =
-    let s = position_found (group_of c.args.group).id (ledger_of (decode c.args.store.now) c.topic.result) c.in-Some.ensures in
-    let f = found_one (ledger_of (decode c.args.store.now) c.topic.result) (group_of c.args.group) c.in-Some.k s.0 s.1 in
-    let n = ap (λ (l : List ℕ). length l) (rw c.topic.ensures at f) in
+    let s = position_found (group_of c.args.group).id (ledger_of (decode c.args.store.now) c.args.topic) c.in-Some.ensures in
+    let f = found_one (ledger_of (decode c.args.store.now) c.args.topic) (group_of c.args.group) c.in-Some.k s.0 s.1 in
+    let n = ap (λ (l : List ℕ). length l) f in
     let p = c.requires.1 in
     (c.requires.0, omega arith)
 
 pub returns-in-Some : goal.returns-in-Some
 returns-in-Some c =
-    let s = position_found (group_of c.args.group).id (ledger_of (decode c.args.store.now) c.topic.result) c.in-Some.ensures in
-    rw (← c.topic.ensures, found_one (ledger_of (decode c.args.store.now) c.topic.result) (group_of c.args.group) c.in-Some.k s.0 s.1) c.append_nacked.ensures
+    let s = position_found (group_of c.args.group).id (ledger_of (decode c.args.store.now) c.args.topic) c.in-Some.ensures in
+    rw (found_one (ledger_of (decode c.args.store.now) c.args.topic) (group_of c.args.group) c.in-Some.k s.0 s.1) c.append_nacked.ensures
 
 pub returns-in_default : goal.returns-in_default
 returns-in_default c =
-    rw (
-      ← c.topic.ensures,
-      found_none (ledger_of (decode c.args.store.now) c.topic.result) (group_of c.args.group)
-          (position_missing (group_of c.args.group).id (ledger_of (decode c.args.store.now) c.topic.result) c.in_default.ensures),
-    ) (joined_nothing c.args.i c.requires.0)
+    rw (found_none (ledger_of (decode c.args.store.now) c.args.topic) (group_of c.args.group) (position_missing (group_of c.args.group).id (ledger_of (decode c.args.store.now) c.args.topic) c.in_default.ensures))
+    (joined_nothing c.args.i c.requires.0)
