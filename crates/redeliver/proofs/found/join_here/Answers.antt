@@ -27,7 +27,6 @@ returns-in-Some c =
 
 pub returns-in_default : goal.returns-in_default
 returns-in_default c =
-    rw (
-      found_none (ledger_of (decode c.args.store.now) c.args.topic) (group_of c.args.group)
-          (position_missing (group_of c.args.group).id (ledger_of (decode c.args.store.now) c.args.topic) c.in_default.ensures),
-    ) (joined_nothing c.args.i c.requires.0)
+    let ledger = ledger_of (decode c.args.store.now) c.args.topic in
+    let missing = position_missing (group_of c.args.group).id ledger c.in_default.ensures in
+    rw (found_none ledger (group_of c.args.group) missing) (joined_nothing c.args.i c.requires.0)
