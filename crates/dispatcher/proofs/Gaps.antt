@@ -1,22 +1,21 @@
 -- Words of a dispatcher's lists as the code reads and writes them.
 use mathlib.Core.Path.{◌≡◌, sym, ap₂, ◌∙◌}
 use mathlib.Core.Bool.{true, or-false}
-use mathlib.Core.List.{List, [], ◌∷◌, ◌++◌}
+use mathlib.Core.List.{List}
 use Prim.Native.Nat.{ℕ, suc, ◌+◌, ◌-◌, ◌*◌, ◌^◌, ◌<◌, min}
 use native.Mathlib.Omega.{arith}
 use lib.Dec.{ltb}
-use lib.ListN.{length, get_or, set, take, drop}
+use lib.ListN.{length, get_or, set}
 use borrow.Author.Tests.{le-ltb, eq-eqb, ne_eqb}
-use Rattle.words.specs.Act.{close}
 use Rattle.rules.specs.State.{Id, new_mark}
 use Rattle.rules.specs.Ledger.{after_id}
 use Rattle.rules.specs.Dispatcher.{with_marks, mark_at}
 use Rattle.rules.specs.Commands.{raised}
 use Rattle.layout.specs.Layout.{decode, put}
-use Rattle.layout.specs.Offsets.{dispatcher_at, outside_id_in, marks_in, mark_in}
+use Rattle.layout.specs.Offsets.{dispatcher_at, outside_id_in, mark_in}
 use Rattle.layout.specs.Fields.{zero_id, dispatcher_nth, set_dispatcher, with_complete, with_count}
 use Rattle.layout.specs.Placed.{DispatcherIn}
-use Rattle.layout.proofs.GetsDispatcher.{read_outside_count, read_outside_ledger, read_outside_entry, read_mark_count, read_redelivery_count}
+use Rattle.layout.proofs.GetsDispatcher.{read_outside_ledger, read_outside_entry, read_redelivery_count}
 use Rattle.layout.proofs.SetsDispatcher as layout
 use Rattle.topic.specs.Ids.{id_of, id_at}
 

@@ -12,7 +12,7 @@ use Rattle.rules.specs.Ledger.{insert_id}
 use Rattle.rules.specs.Dispatcher.{with_attached, with_places, with_marks}
 use Rattle.layout.specs.Records.{held_codec}
 use Rattle.layout.specs.Layout.{decode, put}
-use Rattle.layout.specs.Offsets.{dispatcher_at, dispatcher_words, ring_in, flight_in, held_in, outside_id_in}
+use Rattle.layout.specs.Offsets.{dispatcher_at, dispatcher_words, held_in, outside_id_in}
 use Rattle.layout.specs.Fields.{zero_dispatcher, dispatcher_nth, set_dispatcher}
 use Rattle.layout.specs.Canon.{CanonStore}
 use Rattle.layout.specs.Placed.{DispatcherIn}

@@ -2,33 +2,26 @@
 use mathlib.Core.Path.{◌≡◌, refl, sym, ap, ◌∙◌}
 use mathlib.Core.Bool.{Bool, true, false}
 use mathlib.Core.List.{List, [], ◌∷◌, ◌++◌}
-use Prim.Native.Nat.{ℕ, suc, ◌+◌, ◌-◌, ◌*◌, ◌≤◌, ◌<◌}
+use Prim.Native.Nat.{ℕ, suc, ◌+◌, ◌*◌, ◌<◌}
 use native.Mathlib.Omega.{arith}
 use lib.Dec.{eqb}
 use lib.ListN.{length, get_or, set, take, drop}
 use Rattle.words.specs.Codec.{bit}
-use Rattle.words.specs.Act.{up, lay, clear, both}
-use Rattle.words.proofs.Lists.{writes_keep}
+use Rattle.words.specs.Act.{lay}
 use Rattle.rules.specs.State.{Id, Dispatcher, new_mark}
 use Rattle.rules.specs.Ledger.{after_id, insert_id}
 use Rattle.rules.specs.Dispatcher.{with_next, with_cursor, with_mark_delete, with_total, with_places, with_marks, mark_at, complete_at}
 use Rattle.rules.proofs.Table.{by_test}
-use Rattle.layout.specs.Records.{held_codec}
 use Rattle.layout.specs.Layout.{decode, put}
-use Rattle.layout.specs.Offsets.{dispatcher_at, outside_id_in, mark_in, flight_in, held_in}
+use Rattle.layout.specs.Offsets.{dispatcher_at, mark_in, held_in}
 use Rattle.layout.specs.Fields.{dispatcher_nth, set_dispatcher}
 use Rattle.layout.specs.Placed.{DispatcherIn}
 use Rattle.layout.specs.Whole.{ShapedDispatcher}
 use Rattle.layout.proofs.Store.{canon_entries}
-use Rattle.layout.proofs.Widths.{width_held}
-use Rattle.layout.proofs.Parts.{flight_part}
-use Rattle.layout.proofs.Spot.{spot_in, lists}
-use Rattle.layout.proofs.GetsDispatcher.{read_mark_complete, read_redelivery_count, read_w0, read_w1, read_w2, read_w3, read_next, read_cursor, read_mark_delete, read_total, dispatcher_here}
+use Rattle.layout.proofs.GetsDispatcher.{read_mark_complete, read_redelivery_count, read_w0, read_w1, read_w2, read_w3, read_next, read_cursor, read_mark_delete, read_total}
 use Rattle.layout.proofs.SetsDispatcher as layout
 use Rattle.store.specs.Find.{slot}
-use Rattle.store.proofs.Finding.{slot_le}
 use Rattle.operation_laws.proofs.Frame.{dispatcher_twice, dispatcher_set_in}
-use Rattle.topic.specs.Ids.{id_of}
 use Rattle.dispatcher.specs.Held.{held_of}
 use Rattle.dispatcher.specs.Outside.{by_order}
 use Rattle.dispatcher.specs.Values.{mark_of, head_of, with_head}

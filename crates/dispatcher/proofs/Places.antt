@@ -1,20 +1,19 @@
 -- The ring, the queue and what is in flight as the code reads and writes them.
 use mathlib.Core.Path.{◌≡◌, sym, ap₂}
-use mathlib.Core.List.{List, [], ◌∷◌, ◌++◌}
-use Prim.Native.Nat.{ℕ, suc, ◌+◌, ◌-◌, ◌*◌, ◌≤◌, ◌<◌}
+use mathlib.Core.List.{List, [], ◌∷◌}
+use Prim.Native.Nat.{ℕ, suc, ◌+◌, ◌*◌, ◌<◌}
 use native.Mathlib.Omega.{arith}
-use lib.ListN.{length, get_or, set, take, drop}
+use lib.ListN.{length, get_or, set, drop}
 use lib.Seq.{set-get_or}
-use Rattle.words.specs.Act.{lay, close}
+use Rattle.words.specs.Act.{lay}
 use Rattle.rules.specs.State.{with_dispatchers}
-use Rattle.rules.specs.Dispatcher.{with_attached, with_places}
+use Rattle.rules.specs.Dispatcher.{with_places}
 use Rattle.layout.specs.Layout.{decode, put}
-use Rattle.layout.specs.Offsets.{dispatcher_at, flight_in, held_in}
+use Rattle.layout.specs.Offsets.{dispatcher_at, held_in}
 use Rattle.layout.specs.Fields.{zero_held, zero_dispatcher, dispatcher_nth, set_dispatcher}
 use Rattle.layout.specs.Placed.{DispatcherIn}
 use Rattle.layout.proofs.Store.{put_decode}
-use Rattle.layout.proofs.GetsDispatcher.{read_ring_count, read_ring, read_queue_count, read_queue, read_flight_count, read_holder, read_position}
-use Rattle.layout.proofs.SetsDispatcher as layout
+use Rattle.layout.proofs.GetsDispatcher.{read_ring, read_queue, read_holder, read_position}
 use Rattle.rules.specs.State.{Held}
 use Rattle.dispatcher.specs.Held.{held_of}
 

@@ -1,5 +1,5 @@
 -- Entries in flight from the numbers that code has of them, and what rows of a dispatcher's lists are found by.
-use Rattle.std.specs.Prelude.{ℕ, ◌+◌, List, eqb, get_or}
+use Rattle.std.specs.Prelude.{ℕ, List, eqb, get_or}
 use Rattle.rules.specs.Table.{Key}
 use Rattle.rules.specs.State.{Held}
 use Rattle.rules.specs.Dispatcher.{is_hold}

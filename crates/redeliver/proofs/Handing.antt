@@ -3,7 +3,7 @@ use mathlib.Core.Path.{◌≡◌, refl, sym, ap, ◌∙◌, subst}
 use mathlib.Core.List.{List, [], ◌∷◌, ◌++◌}
 use Prim.Native.Nat.{ℕ, ◌+◌, ◌≤◌, ◌<◌}
 use native.Mathlib.Omega.{arith}
-use lib.ListN.{length, set, take, drop, length-append, length-take, length-drop}
+use lib.ListN.{length, set, take, drop, length-append}
 use lib.Seq.{set-get_or}
 use Rattle.rules.specs.State.{Pair, StoredMessage, Dispatcher, State, topic_of, ledger_of, with_dispatchers}
 use Rattle.rules.specs.Dispatcher.{with_places, with_marks, mark_at}

@@ -1,17 +1,15 @@
 -- `redeliver::redeliver_plain` meets its contract: too many, or the found positions join nacked.
 use mathlib.Core.Path.{◌≡◌, refl}
 use native.Mathlib.Omega.{arith}
-use Prim.Native.Nat.{ℕ}
-use mathlib.Core.List.{◌++◌}
 use lib.ListN.{length, length-append}
 use Rattle.rules.specs.State.{ledger_of}
-use Rattle.rules.specs.Commands.{found_positions, with_reading}
-use Rattle.layout.specs.Layout.{decode, put}
-use Rattle.layout.specs.Fields.{consumer_nth, set_consumer}
+use Rattle.rules.specs.Commands.{found_positions}
+use Rattle.layout.specs.Layout.{decode}
+use Rattle.layout.specs.Fields.{consumer_nth}
 use Rattle.groups.specs.Lent.{groups_in}
 use Rattle.groups.proofs.Lists.{groups_read, groups_few}
 use Rattle.operation_laws.proofs.Frame.{refused_with, done_with_nothing}
-use Rattle.consumer.proofs.Found.{live_canon, live_in, live_valid, live_slot}
+use Rattle.consumer.proofs.Found.{live_in, live_valid, live_slot}
 use Rattle.redeliver.proofs.Finds.{found_few}
 use Rattle.redeliver.proofs.Plain.{plain_over, plain_joins}
 use Rattle.redeliver.proofs.redeliver_plain.Goals as goal

@@ -1,9 +1,5 @@
 -- `redeliver::redeliver_shared` meets its contract: what it holds of the list is handed back.
-use mathlib.Core.Path.{ap, ◌∙◌}
-use Rattle.rules.specs.State.{Pair, ledger_of}
-use Rattle.rules.specs.Commands.{redeliver_groups}
-use Rattle.layout.specs.Layout.{decode, put}
-use Rattle.layout.specs.Fields.{consumer_nth, dispatcher_nth, set_dispatcher}
+use Rattle.layout.specs.Layout.{decode}
 use Rattle.layout.proofs.Placed.{dispatcher_in}
 use Rattle.groups.specs.Lent.{groups_in}
 use Rattle.groups.proofs.Lists.{groups_read}

@@ -1,6 +1,5 @@
 -- `dispatcher::table::own_pair` meets its contract: the first two words of the dispatcher.
 use mathlib.Core.Path.{ap, ap₂, ◌∙◌}
-use Prim.Native.Nat.{ℕ}
 use native.Mathlib.Omega.{arith}
 use Rattle.layout.specs.Fields.{pair_of}
 use Rattle.layout.proofs.GetsDispatcher.{read_dispatcher_topic, read_dispatcher_subscription}
