@@ -1,5 +1,5 @@
 -- Append by the slot of its topic: the refusals as one number, and the state after in the steps of the code.
-use Rattle.std.specs.Prelude.{ℕ, ◌≡◌, true, cond, List, [], ◌∷◌, ◌++◌, map, leb, ltb, length}
+use Rattle.std.specs.Prelude.{ℕ, ◌≡◌, cond, List, [], ◌∷◌, ◌++◌, map, leb, ltb, length}
 use Rattle.rules.specs.Table.{put}
 use Rattle.rules.specs.State.{Id, StoredMessage, State, by_number, ledger_of, with_topics, with_dispatchers}
 use Rattle.rules.specs.Ledger.{holds_id, appended}

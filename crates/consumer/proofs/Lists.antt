@@ -4,8 +4,7 @@ use mathlib.Core.Path.{◌≡◌, sym, ap, ◌∙◌}
 use mathlib.Core.List.{List, [], ◌∷◌, ◌++◌}
 use Prim.Native.Nat.{ℕ, ◌+◌, ◌-◌, ◌*◌, ◌≤◌, ◌<◌}
 use native.Mathlib.Omega.{arith}
-use lib.ListN.{length, replicate, set, take, drop}
-use Rattle.words.specs.Act.{up, lay, both}
+use lib.ListN.{length, replicate, take, drop}
 use Rattle.rules.specs.State.{Consumer, with_consumers}
 use Rattle.rules.specs.Commands.{with_reading}
 use Rattle.layout.specs.Records.{consumer_codec}

@@ -1,5 +1,5 @@
 -- `flow::flow_live` meets its contract: over the limit, a plain consumer, or a shared one.
-use mathlib.Core.Path.{◌≡◌, refl, sym, ◌∙◌}
+use mathlib.Core.Path.{◌≡◌, refl}
 use Prim.Native.Nat.{◌+◌, ◌≤◌, ◌<◌}
 use native.Mathlib.Omega.{arith}
 use Rattle.layout.specs.Layout.{decode}
