@@ -1,14 +1,11 @@
 -- Words of a dispatcher's lists as the code reads and writes them.
-use mathlib.Core.Path.{◌≡◌, sym, ap₂, ◌∙◌}
-use mathlib.Core.Bool.{true, or-false}
+use mathlib.Core.Path.{◌≡◌, ap₂, ◌∙◌}
+use mathlib.Core.Bool.{true}
 use mathlib.Core.List.{List}
 use Prim.Native.Nat.{ℕ, suc, ◌+◌, ◌-◌, ◌*◌, ◌^◌, ◌<◌, min}
 use native.Mathlib.Omega.{arith}
-use lib.Dec.{ltb}
 use lib.ListN.{length, get_or, set}
-use borrow.Author.Tests.{le-ltb, eq-eqb, ne_eqb}
-use Rattle.rules.specs.State.{Id, new_mark}
-use Rattle.rules.specs.Ledger.{after_id}
+use Rattle.rules.specs.State.{new_mark}
 use Rattle.rules.specs.Dispatcher.{with_marks, mark_at}
 use Rattle.rules.specs.Commands.{raised}
 use Rattle.layout.specs.Layout.{decode, put}
