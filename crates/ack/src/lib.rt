@@ -29,7 +29,7 @@ use dispatcher::numbers::mark_delete;
 use groups::list::Groups;
 use outside_ids::passes_64;
 use refusal::{Answer, Refusal};
-use store::answers::entries;
+use store::header::entries;
 
 // 4 if not live. 10 unless the list is of the form. 11 if outside ids would pass 64. The value is
 // mark-delete and whether it moved.

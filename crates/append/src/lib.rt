@@ -18,7 +18,7 @@ ghost use Rattle.append.specs.Appends.{append_refusal, with_topic, append_state,
 use entry::new_entries;
 use message_id::Id;
 use refusal::{Answer, Refusal};
-use store::answers::entries;
+use store::header::entries;
 use store::limits::{MOST_BATCH, MOST_TOPICS};
 use topic::append::append_message;
 use topic::find::position_of;

@@ -9,7 +9,7 @@ use check_state::spells;
 use dispatcher::table::dispatcher_count;
 use dispatcher::total::total_available_permits;
 use std::io;
-use store::answers::entries;
+use store::header::entries;
 
 // Prints the balance check of every dispatcher, in the order in which they were made, a line each.
 pub(crate) fn show_balances(rt: &impl Print, store: &[u64]) -> io::Result<()> {

@@ -11,7 +11,7 @@ use Rattle.layout.proofs.Slices.{byte_over, byte_fits}
 use Rattle.words.specs.Codec.{bit}
 use Rattle.rules.specs.Permits.{least_permits, most_permits}
 use Rattle.rules.specs.Table.{member}
-use Rattle.rules.specs.State.{Kind, by_kind, Consumer, State, ledger_of, dispatcher}
+use Rattle.rules.specs.State.{Kind, Pair, by_kind, Consumer, State, ledger_of, dispatcher}
 use Rattle.rules.specs.State.Kind.{plain, shared}
 use Rattle.rules.specs.Calls.{kind_from}
 use Rattle.rules.specs.Valid.{is_byte, valid_consumer}
@@ -50,10 +50,9 @@ module _ (s : State) (c : Consumer) {w : ℕ} {k : Kind} (word : w ≡ bit (flag
   plain_passes e = rw (kind_is ∙ e)
 
   -- of a shared one the ring decides, asked by the words read
-  pub ring_decides : {r : Bool} {i t u : ℕ} → k ≡ shared → i ≡ c.id → t ≡ c.pair.topic → u ≡ c.pair.subscription
-      → r ≡ member i (dispatcher s (record { topic = t; subscription = u })).attached → r ≡ attached_valid s c
+  pub ring_decides : {r : Bool} {i : ℕ} {p : Pair} → k ≡ shared → i ≡ c.id → p ≡ c.pair → r ≡ member i (dispatcher s p).attached → r ≡ attached_valid s c
   unfolding attached_valid by_kind
-  ring_decides f x y z e = rw (kind_is ∙ f) (rw (x, y, z) at e)
+  ring_decides f x y e = rw (kind_is ∙ f) (rw (x, y) at e)
 
 -- a byte, as the code tests it
 byte_tested : (n : ℕ) → leb n 255 ≡ is_byte n

@@ -66,10 +66,7 @@ fn attached_valid(store: &[u64], e: usize, i: usize) -> bool
     ensures { result ≡ attached_valid (decode store.now) (consumer_now store.now i) }
 {
     let at = consumer_at(i);
-    let pair = Pair {
-        topic: store[at + CONSUMER_TOPIC_IN],
-        subscription: store[at + CONSUMER_SUBSCRIPTION_IN],
-    };
+    let pair = Pair::at(store, at + CONSUMER_TOPIC_IN);
     match Kind::from(store[at + KIND_IN]) {
         Kind::Plain => true,
         Kind::Shared => in_ring(store, e, pair, store[at]),

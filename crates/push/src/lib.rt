@@ -24,7 +24,7 @@ use push_shared::push_pending_shared;
 use push_turn::due::due_shared;
 use record::RECORD_WORDS;
 use refusal::{Answer, Refusal};
-use store::answers::entries;
+use store::header::entries;
 
 // The permits of all consumers, by slot. They stay a plain list: that it has a number for each consumer is a fact of the list
 // and of the store, so no invariant of the list alone.

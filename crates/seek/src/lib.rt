@@ -24,7 +24,7 @@ use consumer::lookup::find_consumer;
 use consumer::nacked::clear_nacked;
 use message_id::Id;
 use refusal::{Answer, Refusal};
-use store::answers::entries;
+use store::header::entries;
 use topic::find::first_at_or_after;
 use topic::table::existing_topic;
 

@@ -5,7 +5,6 @@
 // be, and are not between a record's first write and its count's, so no fact of a value that holds the words would last.
 #![tactic(auto)]
 
-pub mod answers;
 pub mod counted;
 pub mod header;
 pub mod limits;

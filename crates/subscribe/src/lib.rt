@@ -24,7 +24,7 @@ use dispatcher::table::Pair;
 use enter::enter;
 use refusal::{Answer, Refusal};
 use seat::seat_consumer;
-use store::answers::entries;
+use store::header::entries;
 
 // Done at once if the id is live and that is a no-op. 12 if the id is not live and 32 are. 13 if it is
 // shared, its pair is new, and 8 exist. 14 if it is shared, not in that ring, and the ring has 32.

@@ -1,2 +1,0 @@
-// E under the name of its former place.
-pub use super::header::entries;
