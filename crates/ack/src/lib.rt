@@ -22,7 +22,8 @@ ghost use Rattle.consumer.specs.Live.{Live};
 ghost use Rattle.ack.specs.Ackable.{Ackable, OutsideFits};
 
 use ack_id::ack_all;
-use consumer::fields::{consumer_id, is_shared, shared_dispatcher, topic};
+use command_parts::Kind;
+use consumer::fields::{consumer_id, kind, shared_dispatcher, topic};
 use consumer::lookup::find_consumer;
 use dispatcher::completion::{advance_mark_delete, drop_complete};
 use dispatcher::numbers::mark_delete;
@@ -54,10 +55,10 @@ fn ack_live(store: &mut [u64], e: usize, i: usize, groups: Groups) -> Answer
     ensures answer { word_of result ≡ answer store.old (Ack (consumer_now store.old i).id groups.entry.list.now) }
     ensures words { store.new ≡ after store.old (Ack (consumer_now store.old i).id groups.entry.list.now) }
 {
-    if is_shared(store, e, i) {
-        return ack_shared(store, e, i, groups);
+    match kind(store, e, i) {
+        Kind::Plain => Ok(0),
+        Kind::Shared => ack_shared(store, e, i, groups),
     }
-    Ok(0)
 }
 
 // An ack of the live shared consumer `i`.

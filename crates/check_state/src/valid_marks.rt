@@ -5,7 +5,7 @@ ghost use Rattle.bits.specs.Four.{words};
 ghost use Rattle.check_rows.specs.Values.{pairs_ascend};
 ghost use Rattle.check_state.specs.Marks.{mark_fits, joined, marks_right, absent, outside_right};
 ghost use Rattle.check_state.specs.Dispatchers.{rest_right};
-ghost use Rattle.layout.specs.Offsets.{marks_in};
+ghost use Rattle.layout.specs.Offsets.{marks_in, mark_in};
 
 use super::dispatcher_at::DispatcherAt;
 use bits::UnackedBits;
@@ -71,17 +71,17 @@ impl DispatcherAt<'_> {
     // and no bit too high, unless one mark's is.
     fn marks_valid(&self) -> bool
         ensures { result ≡ marks_right self.now.store.now self.now.ledger.rows.first self.now.ledger.rows.count
-            (self.now.at + 176 + 3 * self.now.e) (get_or self.now.store.now (self.now.at + marks_in self.now.e) 0) }
+            (self.now.at + mark_in self.now.e 0) (get_or self.now.store.now (self.now.at + marks_in self.now.e) 0) }
     {
         let ledger = self.ledger.rows.first;
         let n = word(self.store, self.at + (MARKS_IN + MARKS_IN_E * self.e));
         if n != self.ledger.rows.count {
             return false;
         }
-        let first = self.at + MARK_IN + MARKS_IN_E * self.e;
+        let first = self.at + (MARK_IN + MARKS_IN_E * self.e);
         let mut batch = 0;
         let mut count = 0;
-        let mut bits = UnackedBits::fresh_unacked_bits(0);
+        let mut bits = UnackedBits::default();
         for i in 0..n {
             let next = self.store[ledger + i * MESSAGE_WORDS + BATCH_IN];
             if next != batch {
@@ -90,7 +90,7 @@ impl DispatcherAt<'_> {
                 }
                 batch = next;
                 count = 0;
-                bits = UnackedBits::fresh_unacked_bits(0);
+                bits = UnackedBits::default();
             }
             let at = first + i * MARK_WORDS;
             count |= self.store[at + REDELIVERY_COUNT_IN];

@@ -8,7 +8,8 @@ ghost use Rattle.push_plain.specs.Reading.{ledger_now, waiting_for, due_now, pla
 
 use super::reader::Reader;
 use super::sum::added_up;
-use consumer::fields::{cursor, is_shared, topic};
+use command_parts::Kind;
+use consumer::fields::{cursor, kind, topic};
 use consumer::nacked::nacked_count;
 use store::permits::ZERO_PERMITS;
 use topic::table::ledger_length;
@@ -35,10 +36,9 @@ pub fn waiting_for(store: &[u64], e: usize, i: usize) -> usize
     requires { ConsumerIn e store.now i }
     ensures { result ≡ waiting_for (decode store.now) (consumer_now store.now i) }
 {
-    if is_shared(store, e, i) {
-        0
-    } else {
-        waiting(store, e, i)
+    match kind(store, e, i) {
+        Kind::Plain => waiting(store, e, i),
+        Kind::Shared => 0,
     }
 }
 

@@ -7,11 +7,17 @@ use lib.Dec.{ltb}
 use lib.ListN.{length}
 use mir.Val.{bool_byte}
 use borrow.Author.Tests.{lt-ltb, le-ltb}
-use Rattle.rules.specs.State.{StoredMessage}
+use Rattle.std.specs.declared.option.Option.TheVariants.{None, Some}
+use Rattle.rules.specs.State.{State, StoredMessage, by_number, ledger_of}
 use Rattle.rules.specs.Ledger.{position_of, holds_id}
 use Rattle.rules.specs.Groups.{Group}
 use Rattle.rules.specs.Commands.{found_positions}
 use Rattle.rules.proofs.Table.{by_test}
+use Rattle.layout.specs.Fields.{topic_nth}
+use Rattle.store.specs.Found.{found}
+use Rattle.store.proofs.Founds.{found_some}
+use Rattle.store.proofs.Founds.{found_none as missing}
+use Rattle.topic.proofs.Ledgers.{ledger_here, ledger_none}
 
 module _ (ledger : List StoredMessage) (g : Group) where
   -- a group whose id is found
@@ -55,3 +61,19 @@ unfolding found_positions
 found_few ledger [] = omega arith
 found_few ledger (g ∷ gs) =
     let h = found_few ledger gs in by_test (holds_id g.id ledger) (λ t. rw t (omega arith)) (λ t. rw t (omega arith))
+
+-- the ledger of a topic that was sought and found, by its slot
+pub sought_here : (s : State) {sought topic t : ℕ} → sought ≡ topic → Some t ≡ found by_number sought s.topics
+    → (ledger_of s topic ≡ (topic_nth s t).messages) × (t < length s.topics)
+sought_here s {sought} {topic} {t} e f =
+    let h = found_some by_number sought s.topics f in (rw (← e) (ledger_here s sought t h.0 h.1), h.1)
+
+-- and of one that was sought and not found
+pub sought_nowhere : (s : State) {sought topic : ℕ} → sought ≡ topic → None ≡ found by_number sought s.topics → ledger_of s topic ≡ []
+sought_nowhere s {sought} {topic} e f = rw (← e) (ledger_none s sought (missing by_number sought s.topics f))
+
+-- nothing is found in an empty ledger
+pub found_in_none : (gs : List Group) → found_positions [] gs ≡ []
+unfolding found_positions holds_id
+found_in_none [] = refl
+found_in_none (g ∷ gs) = rw (le-ltb (position_of g.id []) 0 (omega arith)) (found_in_none gs)

@@ -5,22 +5,24 @@ ghost use Rattle.rules.specs.State.{ledger_of};
 ghost use Rattle.rules.specs.Commands.{with_reading, found_positions};
 ghost use Rattle.layout.specs.Layout.{decode};
 ghost use Rattle.layout.specs.Canon.{CanonStore};
-ghost use Rattle.layout.specs.Fields.{consumer_now, consumer_changed};
-ghost use Rattle.layout.specs.Placed.{ConsumerIn};
+ghost use Rattle.layout.specs.Fields.{consumer_now, topic_now, consumer_changed};
+ghost use Rattle.layout.specs.Placed.{ConsumerIn, TopicIn};
 ghost use Rattle.groups.specs.Lent.{group_of, groups_in};
 
 use consumer::fields::topic;
 use consumer::nacked::append_nacked;
 use groups::group::Group;
 use groups::list::Groups;
+use topic::find::position_of;
 use topic::position::position_in;
+use topic::table::existing_topic;
 
-// 1 if the id of a group is in the ledger of a topic, else 0.
-fn found_here(store: &[u64], e: usize, topic: u64, group: Group) -> usize
-    requires { CanonStore e store.now }
-    ensures { result ≡ length (found_positions (ledger_of (decode store.now) topic) (group_of group.entry ∷ [])) }
+// 1 if the id of a group is in the ledger of topic `t`, else 0.
+fn found_here(store: &[u64], e: usize, t: usize, group: Group) -> usize
+    requires { TopicIn e store.now t }
+    ensures { result ≡ length (found_positions (topic_now store.now t).messages (group_of group.entry ∷ [])) }
 {
-    usize::from(position_in(store, e, topic, group).is_some())
+    usize::from(position_of(store, e, t, group.id()).is_some())
 }
 
 // How many groups have an id in the ledger of consumer `i`.
@@ -29,10 +31,12 @@ pub(crate) fn found_count(store: &[u64], e: usize, i: usize, groups: Groups) -> 
     ensures { result ≡ length (found_positions (ledger_of (decode store.now) (consumer_now store.now i).pair.topic)
         (groups_in groups.entry)) }
 {
-    let number = topic(store, e, i);
+    let Some(t) = existing_topic(store, e, topic(store, e, i)) else {
+        return 0;
+    };
     let mut count = 0;
     for group in groups {
-        count += found_here(store, e, number, group);
+        count += found_here(store, e, t, group);
     }
     count
 }

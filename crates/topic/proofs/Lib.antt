@@ -1,3 +1,4 @@
 pub mod LedgerWords
 pub mod Ledgers
+pub mod Lists
 pub mod Positions

@@ -2,23 +2,21 @@
 use mathlib.Core.Path.{◌≡◌, refl, ap, ap₂, ◌∙◌}
 use mathlib.Core.Bool.{Bool}
 use mathlib.Core.List.{List, [], ◌∷◌}
-use Prim.Native.Nat.{ℕ, suc, ◌+◌, ◌*◌, ◌≤◌, ◌<◌}
+use Prim.Native.Nat.{ℕ, ◌+◌, ◌*◌, ◌≤◌, ◌<◌}
 use native.Mathlib.Omega.{arith}
-use lib.ListN.{length, get_or, set}
+use lib.ListN.{length, get_or}
 use Rattle.std.specs.Option.{is_some}
 use Rattle.std.specs.declared.option.Option.{Option}
 use Rattle.std.specs.declared.option.Option.TheVariants.{None, Some}
 use Rattle.rules.specs.Table.{Key}
 use Rattle.rules.specs.State.{Id, StoredMessage}
-use Rattle.rules.specs.Ledger.{position_of, holds_id, at_or_after, first_at_or_after, seek_position, appended, no_message, message_at}
+use Rattle.rules.specs.Ledger.{position_of, holds_id, at_or_after, first_at_or_after, seek_position, no_message, message_at}
 use Rattle.rules.proofs.Ledger.{seek_position_cons}
-use Rattle.words.specs.Act.{lay}
-use Rattle.layout.specs.Layout.{decode, put}
+use Rattle.layout.specs.Layout.{decode}
 use Rattle.layout.specs.Offsets.{topic_at, message_in}
-use Rattle.layout.specs.Fields.{topic_nth, set_topic}
+use Rattle.layout.specs.Fields.{topic_nth}
 use Rattle.layout.specs.Placed.{TopicIn}
-use Rattle.layout.proofs.Gets.{read_message_count, read_message_ledger, read_message_entry, read_message_handle, read_message_batch}
-use Rattle.layout.proofs.Sets.{append_message}
+use Rattle.layout.proofs.Gets.{read_message_ledger, read_message_entry, read_message_handle, read_message_batch}
 use Rattle.store.specs.Find.{slot}
 use Rattle.store.specs.Found.{found}
 use Rattle.store.proofs.Founds.{found_some, found_none, found_is}
@@ -60,33 +58,6 @@ pub id_here : {e : ℕ} {ws : List ℕ} (t at k : ℕ) → TopicIn e ws t → at
 id_here {e} {ws} t at k h a l =
     let n : at + 4 + k * 4 ≡ topic_at e t + message_in k = omega arith in
     rw n (ap₂ id_of (read_message_ledger h.canon t h.there k l) (read_message_entry h.canon t h.there k l))
-
--- the number of messages, where the code reads it
-pub count_here : {e : ℕ} {ws : List ℕ} (t at : ℕ) → TopicIn e ws t → at ≡ topic_at e t → get_or ws (at + 3) 0 ≡ length (topic_nth (decode ws) t).messages
-count_here t at h a = rw a (read_message_count h.canon t h.there)
-
--- the words of one message more lie in the store
-pub room_here : {e : ℕ} {ws : List ℕ} (t at n : ℕ) → TopicIn e ws t → at ≡ topic_at e t → n ≡ length (topic_nth (decode ws) t).messages
-    → length (topic_nth (decode ws) t).messages < e → at + 4 + n * 4 + 4 ≤ length ws
-room_here t at n h a c r = let i = h.inside in let l = h.canon.long in omega arith
-
--- four stores are one run of stores
-pub four_words : (a b c d to : ℕ) (ws : List ℕ) → set (set (set (set ws to a) (to + 1) b) (to + 2) c) (to + 3) d ≡ (lay (a ∷ b ∷ c ∷ d ∷ [])).run to ws
-unfolding lay
-four_words a b c d to ws =
-    let one : to + 1 ≡ suc to = omega arith in
-    let two : to + 2 ≡ suc (suc to) = omega arith in
-    let three : to + 3 ≡ suc (suc (suc to)) = omega arith in
-    rw (one, two, three)
-
--- a message laid past the last, and the count raised
-pub appended_words : {e : ℕ} {ws : List ℕ} (t at n : ℕ) (m : StoredMessage) → TopicIn e ws t → at ≡ topic_at e t → n ≡ length (topic_nth (decode ws) t).messages
-    → length (topic_nth (decode ws) t).messages < e
-    → set ((lay (m.id.ledger ∷ m.id.entry ∷ m.handle ∷ m.batch_size ∷ [])).run (at + 4 + n * 4) ws) (at + 3) (n + 1)
-    ≡ put ws (set_topic (decode ws) t (appended m (topic_nth (decode ws) t)))
-appended_words {e} {ws} t at n m h a c r =
-    let to : at + 4 + n * 4 ≡ topic_at e t + message_in n = omega arith in
-    rw (to, a, c) (append_message h.canon t h.there m r)
 
 -- the batch size of a message, where the code reads it
 pub batch_here : {e : ℕ} {ws : List ℕ} (t at k : ℕ) → TopicIn e ws t → at ≡ topic_at e t → k < length (topic_nth (decode ws) t).messages

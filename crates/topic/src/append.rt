@@ -6,10 +6,7 @@ ghost use Rattle.layout.specs.Placed.{TopicIn};
 ghost use Rattle.topic.specs.Ids.{message_of};
 
 use super::message::StoredMessage;
-use store::offsets::{
-    BATCH_IN, ENTRY_IN, HANDLE_IN, MESSAGE_IN, MESSAGE_WORDS, MESSAGES_IN, topic_at,
-};
-use store::stretch::word;
+use super::table::message_list;
 
 // Topic `t`, which has room, gains a message at its end.
 pub fn append_message(store: &mut [u64], e: usize, t: usize, message: StoredMessage)
@@ -17,12 +14,11 @@ pub fn append_message(store: &mut [u64], e: usize, t: usize, message: StoredMess
     ensures { store.new ≡ topic_changed store.old t
         (appended (message_of message.ledger message.entry message.handle message.batch_size)) }
 {
-    let at = topic_at(e, t);
-    let n = word(store, at + MESSAGES_IN);
-    let to = at + MESSAGE_IN + n * MESSAGE_WORDS;
-    store[to] = message.ledger;
-    store[to + ENTRY_IN] = message.entry;
-    store[to + HANDLE_IN] = message.handle;
-    store[to + BATCH_IN] = message.batch_size;
-    store[at + MESSAGES_IN] = (n + 1) as u64;
+    let words = [
+        message.ledger,
+        message.entry,
+        message.handle,
+        message.batch_size,
+    ];
+    message_list(e, t).push(store, words);
 }

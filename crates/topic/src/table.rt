@@ -1,5 +1,5 @@
 // The table of topics: their number, the slot of a topic by its number, the length of its ledger, and a topic made.
-ghost use Rattle.std.specs.Prelude.{◌≡◌, ◌++◌, ◌∷◌, [], ◌<◌, length};
+ghost use Rattle.std.specs.Prelude.{◌≡◌, ◌++◌, ◌∷◌, [], ◌≤◌, ◌<◌, length};
 ghost use Rattle.rules.specs.State.{by_number, ledger_of, with_topics};
 ghost use Rattle.layout.specs.Layout.{decode};
 ghost use Rattle.layout.specs.Canon.{CanonStore};
@@ -7,17 +7,46 @@ ghost use Rattle.layout.specs.Fields.{zero_topic, topic_now, state_changed, topi
 ghost use Rattle.layout.specs.Placed.{TopicIn};
 ghost use Rattle.store.specs.Find.{slot};
 ghost use Rattle.store.specs.Found.{found};
+ghost use Rattle.topic.specs.Lists.{topic_list, message_list};
 
 use search::first_row;
-use store::offsets::{MESSAGES_IN, TOPIC_COUNT_AT, topic_at};
-use store::stretch::word;
+use store::counted::Counted;
+use store::offsets::{
+    MESSAGE_IN, MESSAGE_WORDS, MESSAGES_IN, TOPIC_COUNT_AT, TOPIC_WORDS, TOPIC_WORDS_E, TOPICS_AT,
+    topic_at,
+};
+
+// The topics, as a list in a store.
+fn topic_list(e: usize) -> Counted
+    requires { e ≤ 4096 }
+    ensures { result ≡ topic_list e }
+{
+    Counted {
+        count_at: TOPIC_COUNT_AT,
+        first: TOPICS_AT,
+        width: TOPIC_WORDS + TOPIC_WORDS_E * e,
+    }
+}
+
+// The messages of topic `t`, as a list in a store.
+pub(crate) fn message_list(e: usize, t: usize) -> Counted
+    requires { (e ≤ 4096) × (t ≤ 8) }
+    ensures { result ≡ message_list e t }
+{
+    let at = topic_at(e, t);
+    Counted {
+        count_at: at + MESSAGES_IN,
+        first: at + MESSAGE_IN,
+        width: MESSAGE_WORDS,
+    }
+}
 
 // The number of topics.
 pub fn topic_count(store: &[u64], e: usize) -> usize
     requires { CanonStore e store.now }
     ensures { result ≡ length (decode store.now).topics }
 {
-    word(store, TOPIC_COUNT_AT)
+    topic_list(e).count(store)
 }
 
 // The number of topic `t`.
@@ -63,8 +92,7 @@ pub fn message_count(store: &[u64], e: usize, t: usize) -> usize
     requires { TopicIn e store.now t }
     ensures { result ≡ length (topic_now store.now t).messages }
 {
-    let at = topic_at(e, t);
-    word(store, at + MESSAGES_IN)
+    message_list(e, t).count(store)
 }
 
 // The table, which has room, gains a topic at its end: the words there are 0 already.
@@ -72,8 +100,7 @@ pub fn raise_topics(store: &mut [u64], e: usize)
     requires { CanonStore e store.old × (length (decode store.old).topics < 8) }
     ensures { store.new ≡ state_changed store.old (λ s. with_topics s (s.topics ++ zero_topic ∷ [])) }
 {
-    let n = topic_count(store, e);
-    store[TOPIC_COUNT_AT] = (n + 1) as u64;
+    topic_list(e).raise(store);
 }
 
 // Topic `t` gets another number.

@@ -1,27 +1,26 @@
 -- `ack::ack_live` meets its contract: a shared consumer, or a plain one, whose ack changes nothing.
-use mathlib.Core.Path.{refl, sym, ◌∙◌}
+use mathlib.Core.Path.{refl, sym}
 use Rattle.layout.specs.Layout.{decode}
 use Rattle.layout.proofs.Store.{put_decode}
 use Rattle.groups.specs.Lent.{groups_in}
 use Rattle.groups.proofs.Lists.{groups_read}
 use Rattle.operation_laws.proofs.Frame.{done_with}
 use Rattle.consumer.proofs.Found.{live_canon, live_in, live_slot}
-use Rattle.consumer.proofs.Records.{flag_shared, flag_plain}
+use Rattle.consumer.proofs.Records.{told_shared, told_plain}
 use Rattle.ack.proofs.Outcomes.{value_plain, ack_plain}
 use Rattle.ack.proofs.ack_live.Goals as goal
 
-pub is_shared-requires : goal.is_shared-requires
-is_shared-requires c = live_in c.requires
+pub kind-requires : goal.kind-requires
+kind-requires c = live_in c.requires
 
 pub ack_shared-requires : goal.ack_shared-requires
-ack_shared-requires c = (c.requires, flag_shared _ (sym c.is_shared.ensures ∙ c.if-is_shared.true))
+ack_shared-requires c = (c.requires, told_shared c.in-Shared.is c.kind.ensures)
 
-pub returns : goal.returns
-returns c =
+pub returns-in-Plain : goal.returns-in-Plain
+returns-in-Plain c =
     let a = c.args in
     let h = c.requires in
     let s = decode a.store.now in
-    let k = flag_plain _ (sym c.is_shared.ensures ∙ c.if-is_shared.false) in
     done_with a.store.now _ h.opened.spelt 0 0
-    (ack_plain s a.i _ a.groups.list.now (live_slot h) h.there (groups_in a.groups) (groups_read a.groups) k)
+    (ack_plain s a.i _ a.groups.list.now (live_slot h) h.there (groups_in a.groups) (groups_read a.groups) (told_plain c.in-Plain.is c.kind.ensures))
     value_plain refl (sym (put_decode (live_canon h)))

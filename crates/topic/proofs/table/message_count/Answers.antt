@@ -1,7 +1,12 @@
--- `topic::table::message_count` meets its contract: the word at its offset.
-use mathlib.Core.Path.{◌∙◌}
-use Rattle.topic.proofs.Positions.{count_here}
+-- `topic::table::message_count` meets its contract: the size of a list.
+use mathlib.Core.Path.{ap, ◌∙◌}
+use Rattle.store.specs.declared.counted.Counted.{Counted}
+use Rattle.store.specs.Counted.{size}
+use Rattle.topic.proofs.Lists.{message_inside, message_size}
 use Rattle.topic.proofs.table.message_count.Goals as goal
 
+pub count-requires : goal.count-requires
+count-requires c = rw c.message_list.ensures (message_inside c.args.t c.requires)
+
 pub returns : goal.returns
-returns c = c.word.ensures ∙ count_here c.args.t c.topic_at-at.result c.requires c.topic_at-at.ensures
+returns c = c.count.ensures ∙ ap (λ (l : Counted). size l c.args.store.now) c.message_list.ensures ∙ message_size c.args.t c.requires

@@ -5,6 +5,7 @@ use Prim.Native.Nat.{◌+◌, ◌*◌}
 use native.Mathlib.Omega.{arith}
 use lib.ListN.{get_or}
 use borrow.Author.Tests.{eq-eqb, ne_eqb}
+use Rattle.layout.specs.Offsets.{mark_in}
 use Rattle.bits.specs.Four.{words}
 use Rattle.check_rows.specs.Below.{each_below}
 use Rattle.check_state.specs.Marks.{mark_fits, mark_suits, marks_right}
@@ -19,14 +20,15 @@ returns-then-n-self c = rw (← c.word-n.ensures) (fails _ (ne_eqb _ _ c.if-n-se
 
 pub loop-i-init : goal.loop-i-init
 unfolding each_below
-loop-i-init c = fits_none c.fresh_unacked_bits-bits.result 0 c.fresh_unacked_bits-bits.ensures
+loop-i-init c = fits_none c.default-bits.result 0 c.default-bits.ensures
 
 pub returns-then-not-mark_fits : goal.returns-then-not-mark_fits
 unfolding marks_right
 returns-then-not-mark_fits c =
     let s = c.args.self.now in
-    let first = s.at + 176 + 3 * s.e in
-    rw (← c.word-n.ensures)
+    let first = s.at + (176 + 3 * s.e) in
+    let start : s.at + mark_in s.e 0 ≡ first = omega arith in
+    rw (start, ← c.word-n.ensures)
     (passes (eq-eqb c.word-n.result s.ledger.rows.count c.if-n-self.false)
     (run_stop s.store.now s.ledger.rows.first first c.word-n.result c.loop-i.i (omega arith)
     (answered_no c.mark_fits.ensures c.if-not-mark_fits.true) c.loop-i.invariant))
@@ -34,7 +36,7 @@ returns-then-not-mark_fits c =
 pub loop-i-preserved : goal.loop-i-preserved
 loop-i-preserved c =
     let s = c.args.self.now in
-    let first = s.at + 176 + 3 * s.e in
+    let first = s.at + (176 + 3 * s.e) in
     let now = c.if-next-batch in
     -- the run, after the batch size of the next entry was looked at: it is the entry's
     let run : (mark_fits now.count (words now.bits) now.batch ≡ each_below (mark_suits s.store.now s.ledger.rows.first first) c.loop-i.i)
@@ -42,7 +44,7 @@ loop-i-preserved c =
     elim now.branch [
       | then-next-batch+else-not-mark_fits w ↦ (
         rw (w.count-is, w.bits-is)
-            (fits_none w.fresh_unacked_bits-bits-then-next-batch.result now.batch w.fresh_unacked_bits-bits-then-next-batch.ensures
+            (fits_none w.default-bits-then-next-batch.result now.batch w.default-bits-then-next-batch.ensures
             ∙ sym (sym c.loop-i.invariant ∙ answered_yes w.mark_fits.ensures w.if-not-mark_fits.false)),
         w.batch-is,
       )
@@ -54,6 +56,6 @@ pub returns : goal.returns
 unfolding marks_right
 returns c =
     let s = c.args.self.now in
-    let first = s.at + 176 + 3 * s.e in
+    let start : s.at + mark_in s.e 0 ≡ s.at + (176 + 3 * s.e) = omega arith in
     let e : c.loop-i.i ≡ c.word-n.result = omega arith in
-    rw (← c.word-n.ensures) (passes (eq-eqb c.word-n.result s.ledger.rows.count c.if-n-self.false) (c.mark_fits-2.ensures ∙ (rw e at c.loop-i.invariant)))
+    rw (start, ← c.word-n.ensures) (passes (eq-eqb c.word-n.result s.ledger.rows.count c.if-n-self.false) (c.mark_fits-2.ensures ∙ (rw e at c.loop-i.invariant)))
