@@ -2,15 +2,13 @@
 use mathlib.Core.Path.{◌≡◌, refl, sym}
 use mathlib.Core.Bool.{true, false, ◌&&◌}
 use mathlib.Core.List.{List}
-use Prim.Native.Nat.{ℕ, ◌+◌, ◌≤◌, ◌<◌}
-use native.Mathlib.Nat.{le_trans}
-use native.Mathlib.Omega.{arith}
-use lib.Dec.{eqb, leb}
+use Prim.Native.Nat.{ℕ, ◌<◌}
+use lib.Dec.{eqb}
 use Rattle.std.proofs.Common.{Option, Some, None, is_some, IfSome}
-use borrow.Author.Tests.{leb-true, le-leb, eq-eqb, ne_eqb}
-use Rattle.check_rows.specs.Below.{each_below, some_below}
+use borrow.Author.Tests.{eq-eqb}
+use Rattle.check_rows.specs.Below.{some_below}
 use Rattle.check_rows.specs.Rows.{row, row_second, among, first_row, two_among}
-use Rattle.check_rows.proofs.Below.{each_at, each_given, each_turn, some_found, some_none, first_some, first_less}
+use Rattle.check_rows.proofs.Below.{some_found, first_some, first_less}
 
 module _ (ws : List ℕ) (first w : ℕ) where
   -- ---- one word
@@ -35,23 +33,6 @@ module _ (ws : List ℕ) (first w : ℕ) where
   unfolding first_row
   first_inside n a None e = tt
   first_inside n a (Some i) e = first_less (λ j. eqb a (row ws first w j)) n i (sym e)
-
-  -- a word above all rows is none of theirs
-  pub among_above : (n a greatest : ℕ) → each_below (λ j. leb (row ws first w j) greatest) n ≡ true → greatest < a → among ws first w n a ≡ false
-  unfolding among
-  among_above n a greatest e h =
-      some_none (λ j. eqb a (row ws first w j)) n
-      (λ j l. ne_eqb a (row ws first w j)
-      (λ q. let k = leb-true (row ws first w j) greatest (each_at (λ i. leb (row ws first w i) greatest) n j e l) in absurd (omega arith)))
-
-  -- the greatest row, one row further
-  pub rows_most : (i greatest more : ℕ) → each_below (λ j. leb (row ws first w j) greatest) i ≡ true → greatest ≤ more → row ws first w i ≤ more
-      → each_below (λ j. leb (row ws first w j) more) (i + 1) ≡ true
-  rows_most i greatest more e h k =
-      each_turn (λ j. leb (row ws first w j) more) i
-      (each_given (λ j. leb (row ws first w j) more) i
-      (λ j l. le-leb (row ws first w j) more (le_trans (leb-true (row ws first w j) greatest (each_at (λ i. leb (row ws first w i) greatest) i j e l)) h)))
-      (le-leb (row ws first w i) more k)
 
   -- ---- two words
 

@@ -9,7 +9,7 @@ use lib.ListN.{length, get_or}
 use Rattle.rules.specs.Table.{distinct, member, is_empty}
 use Rattle.rules.proofs.Table.{Decides, decides_numbers}
 use Rattle.check_rows.specs.Below.{some_below}
-use Rattle.check_rows.specs.Rows.{row, row_second, among, differs, rows_distinct, two_among, two_differs, twos_distinct}
+use Rattle.check_rows.specs.Rows.{row, row_second, among, same_word, rows_distinct, two_among, same_two, twos_distinct}
 use Rattle.check_rows.proofs.Below.{each_same, some_same}
 use Rattle.check_rows.proofs.Elements.{any_some, distinct_each}
 
@@ -42,9 +42,9 @@ module _ (ws : List ℕ) (first w : ℕ) (l : List ℕ) (spell : Spell ws first 
 
   -- all distinct
   pub distinct_list : rows_distinct ws first w (length l) ≡ distinct eqb l
-  unfolding rows_distinct
+  unfolding rows_distinct among
   distinct_list =
-      each_same (differs ws first w) (λ j. not (some_below (λ i. eqb (get_or l j 0) (get_or l i 0)) j)) (length l)
+      each_same (λ j. not (some_below (same_word ws first w j) j)) (λ j. not (some_below (λ i. eqb (get_or l j 0) (get_or l i 0)) j)) (length l)
       (λ j h. ap not (among_before j (row ws first w j) (omega arith) ∙ ap (λ (a : ℕ). some_below (λ i. eqb a (get_or l i 0)) j) (spell j h)))
       ∙ sym (distinct_each decides_numbers l 0)
 
@@ -64,6 +64,8 @@ module _ {A : Type 0} (same : A → A → Bool) (tells : Decides same) (f g : A 
   pub twos_list : twos_distinct ws first w (length l) ≡ distinct same l
   unfolding twos_distinct
   twos_list =
-      each_same (two_differs ws first w) (λ j. not (some_below (λ i. same (get_or l j d) (get_or l i d)) j)) (length l)
-      (λ j h. let s = spell j h in rw (s.0, s.1) (ap not (two_before j (get_or l j d) (omega arith))))
+      each_same (λ j. not (some_below (same_two ws first w j) j)) (λ j. not (some_below (λ i. same (get_or l j d) (get_or l i d)) j)) (length l)
+      (λ j h. ap not
+      (some_same (same_two ws first w j) (λ i. same (get_or l j d) (get_or l i d)) j
+      (λ i k. let s = spell j h in let q = spell i (omega arith) in rw (s.0, s.1, q.0, q.1) (sym (by_two (get_or l j d) (get_or l i d))))))
       ∙ sym (distinct_each tells l d)

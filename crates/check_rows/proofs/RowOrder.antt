@@ -1,6 +1,6 @@
 -- Rows in the order of their two words: what the order's test says, and what rows that ascend tell of two words that are
 -- looked for among them.
-use mathlib.Core.Path.{◌≡◌, refl, sym, ap, subst}
+use mathlib.Core.Path.{◌≡◌, refl, sym, ap, ap₂, subst}
 use mathlib.Core.Logic.{◌⊎◌, inl, inr, ⊎_elim}
 use mathlib.Core.Bool.{Bool, true, false, not, ◌&&◌, or-false, and-eq-true_iff}
 use mathlib.Core.List.{List}
@@ -13,8 +13,9 @@ use lib.ListN.{get_or}
 use borrow.Author.Tests.{ltb-true, ltb-false, eqb-true, le-ltb, eq-eqb, ne_eqb}
 use Rattle.rules.proofs.Says.{Says, says_or, says_and, says_ltb, says_eqb}
 use Rattle.rules.proofs.Table.{by_test, never_both}
-use Rattle.check_rows.specs.Below.{each_below}
-use Rattle.check_rows.specs.Rows.{row, row_second, two_among, two_differs, twos_distinct, pair_above, above_row, two_ascends, twos_ascend, above_last}
+use Rattle.check_rows.specs.Below.{each_below, some_below}
+use Rattle.check_rows.specs.Alike.{Orders}
+use Rattle.check_rows.specs.Rows.{row, row_second, two_among, same_word, same_two, twos_distinct, pair_above, above_row, two_ascends, twos_ascend, above_last}
 use Rattle.check_rows.proofs.Below.{each_at, each_given, each_turn, some_none}
 
 -- ---- the order
@@ -97,11 +98,11 @@ module _ (ws : List ℕ) (first w n : ℕ) (ascend : twos_ascend ws first w n �
 
   -- so no two are the same
   pub ascend_distinct : twos_distinct ws first w n ≡ true
-  unfolding twos_distinct two_among
+  unfolding twos_distinct
   ascend_distinct =
-      each_given (two_differs ws first w) n
+      each_given (λ j. not (some_below (same_two ws first w j) j)) n
       (λ j l. ap not
-      (some_none (λ i. eqb (row ws first w j) (row ws first w i) && eqb (row_second ws first w j) (row_second ws first w i)) j
+      (some_none (same_two ws first w j) j
       (λ i k. unlike (row ws first w j) (row_second ws first w j) (row ws first w i) (row_second ws first w i)
       (above_differ (row ws first w j) (row_second ws first w j) (row ws first w i) (row_second ws first w i) (ascend_pairs i j k l)))))
 
@@ -158,32 +159,32 @@ none_shared ws first w n others v m up down s j l =
     (λ u. let g = ltb-false 0 j u in let e : j ≡ 0 = omega arith in rw e t.1) in
     last_none ws others v m (row ws first w j) (row_second ws first w j) down (rw (t.0, over))
 
--- ---- rows of which none is above some two words
+-- ---- the order tells rows apart
 
-module _ (ws : List ℕ) (first w i x y : ℕ) (most : (j : ℕ) → j < i → pair_above (row ws first w j) (row_second ws first w j) x y ≡ false) where
-  -- two words above those start none of them
-  pub most_new : (a b : ℕ) → pair_above a b x y ≡ true → two_among ws first w i a b ≡ false
-  unfolding two_among
-  most_new a b s =
-      some_none (λ j. eqb a (row ws first w j) && eqb b (row_second ws first w j)) i
-      (λ j l. unlike a b (row ws first w j) (row_second ws first w j) (λ e. never_both (pair_above a b x y) s (rw (e.0, e.1) (most j l))))
+-- by one word
+pub word_order : (ws : List ℕ) (first w : ℕ) → Orders (same_word ws first w) (λ i j. ltb (row ws first w j) (row ws first w i))
+word_order ws first w =
+    record {
+      never = λ i. le-ltb (row ws first w i) (row ws first w i) (omega arith);
+      through = λ i j k s t.
+          let p = ltb-true (row ws first w j) (row ws first w i) s in
+          let q = ltb-true (row ws first w k) (row ws first w j) t in
+          (says_ltb (row ws first w k) (row ws first w i)).given (omega arith);
+      equal = λ i j k s. ap (ltb (row ws first w k)) (eqb-true (row ws first w i) (row ws first w j) s);
+    }
 
-  -- and none of them, nor they themselves, is above them
-  pub most_raised : pair_above (row ws first w i) (row_second ws first w i) x y ≡ true
-      → (j : ℕ) → j < i + 1 → pair_above (row ws first w j) (row_second ws first w j) (row ws first w i) (row_second ws first w i) ≡ false
-  most_raised s j h =
-      by_test (pair_above (row ws first w j) (row_second ws first w j) (row ws first w i) (row_second ws first w i))
-      (λ t.
-      by_test (ltb j i)
-      (λ u. never_both (pair_above (row ws first w j) (row_second ws first w j) x y)
-      (above_trans (row ws first w j) (row_second ws first w j) (row ws first w i) (row_second ws first w i) x y t s) (most j (ltb-true j i u)))
-      (λ u. let g = ltb-false j i u in
-      let e : j ≡ i = omega arith in
-      absurd (above_differ (row ws first w j) (row_second ws first w j) (row ws first w i) (row_second ws first w i) t (rw e, rw e))))
-      (λ t. t)
-
-  -- a row more that is not above them
-  pub most_kept : pair_above (row ws first w i) (row_second ws first w i) x y ≡ false
-      → (j : ℕ) → j < i + 1 → pair_above (row ws first w j) (row_second ws first w j) x y ≡ false
-  most_kept s j h =
-      by_test (ltb j i) (λ t. most j (ltb-true j i t)) (λ t. let g = ltb-false j i t in let e : j ≡ i = omega arith in rw e s)
+-- by two
+pub pair_order : (ws : List ℕ) (first w : ℕ) → Orders (same_two ws first w) (λ i. above_row ws first w (row ws first w i) (row_second ws first w i))
+pair_order ws first w =
+    record {
+      never = λ i.
+          by_test (above_row ws first w (row ws first w i) (row_second ws first w i) i)
+          (λ t. absurd (above_differ (row ws first w i) (row_second ws first w i) (row ws first w i) (row_second ws first w i) t (refl, refl)))
+          (λ t. t);
+      through = λ i j k.
+          above_trans (row ws first w i) (row_second ws first w i) (row ws first w j) (row_second ws first w j) (row ws first w k) (row_second ws first w k);
+      equal = λ i j k s.
+          let t = (and-eq-true_iff (eqb (row ws first w i) (row ws first w j)) (eqb (row_second ws first w i) (row_second ws first w j))).0 s in
+          ap₂ (λ (a b : ℕ). above_row ws first w a b k) (eqb-true (row ws first w i) (row ws first w j) t.0)
+          (eqb-true (row_second ws first w i) (row_second ws first w j) t.1);
+    }

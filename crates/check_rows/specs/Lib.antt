@@ -1,3 +1,4 @@
+pub mod Alike
 pub mod Below
 pub mod Rows
 pub mod Values

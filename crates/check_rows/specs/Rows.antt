@@ -1,5 +1,6 @@
 -- Tests of rows of words: n rows of a width stand from an offset on, and each is known by its first word or its first two.
-use Rattle.std.specs.Prelude.{ℕ, ◌+◌, ◌-◌, ◌*◌, Bool, not, ◌&&◌, ◌||◌, Option, List, eqb, ltb, get_or}
+use Rattle.std.specs.Prelude.{ℕ, ◌+◌, ◌-◌, ◌*◌, Bool, ◌&&◌, ◌||◌, Option, List, eqb, ltb, get_or}
+use Rattle.check_rows.specs.Alike.{none_alike}
 use Rattle.check_rows.specs.Below.{each_below, some_below, first_below}
 
 -- ---- rows known by one word
@@ -16,13 +17,13 @@ among ws first w n a = some_below (λ j. eqb a (row ws first w j)) n
 unfoldable pub first_row : List ℕ → ℕ → ℕ → ℕ → ℕ → Option ℕ
 first_row ws first w n a = first_below (λ j. eqb a (row ws first w j)) n
 
--- whether row j starts with another word than each row before it
-abbrev pub differs : List ℕ → ℕ → ℕ → ℕ → Bool
-differs ws first w j = not (among ws first w j (row ws first w j))
+-- whether rows j and i start with the same word
+abbrev pub same_word : List ℕ → ℕ → ℕ → ℕ → ℕ → Bool
+same_word ws first w j i = eqb (row ws first w j) (row ws first w i)
 
 -- whether no two of n rows start with the same word
 unfoldable pub rows_distinct : List ℕ → ℕ → ℕ → ℕ → Bool
-rows_distinct ws first w n = each_below (differs ws first w) n
+rows_distinct ws first w n = none_alike (same_word ws first w) n
 
 -- ---- rows known by two words
 
@@ -34,13 +35,13 @@ row_second ws first w j = get_or ws (first + j * w + 1) 0
 unfoldable pub two_among : List ℕ → ℕ → ℕ → ℕ → ℕ → ℕ → Bool
 two_among ws first w n a b = some_below (λ j. eqb a (row ws first w j) && eqb b (row_second ws first w j)) n
 
--- whether row j starts with other two words than each row before it
-abbrev pub two_differs : List ℕ → ℕ → ℕ → ℕ → Bool
-two_differs ws first w j = not (two_among ws first w j (row ws first w j) (row_second ws first w j))
+-- whether rows j and i start with the same two words
+abbrev pub same_two : List ℕ → ℕ → ℕ → ℕ → ℕ → Bool
+same_two ws first w j i = eqb (row ws first w j) (row ws first w i) && eqb (row_second ws first w j) (row_second ws first w i)
 
 -- whether no two of n rows start with the same two words
 unfoldable pub twos_distinct : List ℕ → ℕ → ℕ → ℕ → Bool
-twos_distinct ws first w n = each_below (two_differs ws first w) n
+twos_distinct ws first w n = none_alike (same_two ws first w) n
 
 -- whether two words are above another two: by the first words, or by the second where the first are the same
 unfoldable pub pair_above : ℕ → ℕ → ℕ → ℕ → Bool

@@ -2,7 +2,8 @@
 // all are distinct, whether they ascend. Nothing here knows what the words mean.
 #![tactic(auto)]
 
-ghost use Rattle.std.specs.Prelude.{◌≡◌, true, ◌+◌, ◌*◌, ◌≤◌, length};
+ghost use Rattle.std.specs.Prelude.{ℕ, Bool, ◌≡◌, true, ◌+◌, ◌*◌, ◌≤◌, ◌<◌, length};
+ghost use Rattle.check_rows.specs.Alike.{Orders, Tells, none_alike};
 ghost use Rattle.check_rows.specs.Rows.{pair_above, twos_ascend};
 
 // Rows of `width` words each, which stand in a store from `first` on.
@@ -37,9 +38,35 @@ pub fn is_above(a: u64, b: u64, c: u64, d: u64) -> bool
     c < a
 }
 
+// Whether no two of `count` rows are alike, by tests of two rows. A row above the greatest before it is not compared, so that
+// ascending rows are passed over once.
+fn none_alike<S: Fn(usize, usize) -> bool, A: Fn(usize, usize) -> bool>(
+    count: usize,
+    alike: S,
+    above: A,
+) -> bool
+    requires alike { (i j : ℕ) → i < count → j < count → S.pre alike i j }
+    requires above { (i j : ℕ) → i < count → j < count → A.pre above i j }
+    ensures { (same over : ℕ → ℕ → Bool) → Orders same over → Tells (S.post alike) same → Tells (A.post above) over
+        → result ≡ none_alike same count }
+{
+    let mut greatest = 0;
+    for i in 0..count {
+        if above(i, greatest) {
+            greatest = i;
+        } else if (0..i).any(
+            |j|
+                requires { S.pre alike i j }
+            { alike(i, j) },
+        ) {
+            return false;
+        }
+    }
+    true
+}
+
 impl Rows<'_> {
-    ghost use Rattle.std.specs.Prelude.{◌<◌};
-    ghost use Rattle.check_rows.specs.Values.{word_of, word_among, first_with, words_distinct};
+    ghost use Rattle.check_rows.specs.Values.{word_of, first_with, words_distinct};
 
     // The first word of row i.
     pub fn word(&self, i: usize) -> u64
@@ -56,33 +83,19 @@ impl Rows<'_> {
         (0..self.count).find(|&i| a == self.word(i))
     }
 
-    // Whether one of the first n rows starts with a word.
-    fn is_among(&self, n: usize, a: u64) -> bool
-        requires { n ≤ self.now.count }
-        ensures { result ≡ word_among self.now n a }
-    {
-        (0..n).any(|i| a == self.word(i))
-    }
-
-    // Whether no two rows start with the same word. A word above all before it is not compared, so that
-    // ascending rows are passed over once.
+    // Whether no two rows start with the same word.
     pub fn distinct(&self) -> bool
         ensures { result ≡ words_distinct self.now }
     {
-        let mut greatest = 0;
-        for i in 0..self.count {
-            let a = self.word(i);
-            if a <= greatest && self.is_among(i, a) {
-                return false;
-            }
-            greatest = greatest.max(a);
-        }
-        true
+        none_alike(
+            self.count,
+            |i, j| self.word(i) == self.word(j),
+            |i, j| self.word(j) < self.word(i),
+        )
     }
 }
 
 impl PairRows<'_> {
-    ghost use Rattle.std.specs.Prelude.{◌<◌};
     ghost use Rattle.check_rows.specs.Values.{second_of, pair_among, pairs_distinct, pairs_ascend, past_last};
 
     // The second word of row i.
@@ -101,24 +114,20 @@ impl PairRows<'_> {
         (0..n).any(|i| a == self.rows.word(i) && b == self.second(i))
     }
 
-    // Whether no two rows start with the same two words. Two words above all before them are not
-    // compared, so that ascending rows are passed over once.
+    // Whether no two rows start with the same two words.
     pub fn pairs_distinct(&self) -> bool
         ensures { result ≡ pairs_distinct self.now }
     {
-        let mut x = 0;
-        let mut y = 0;
-        for i in 0..self.rows.count {
-            let a = self.rows.word(i);
-            let b = self.second(i);
-            if is_above(a, b, x, y) {
-                x = a;
-                y = b;
-            } else if self.is_pair_among(i, a, b) {
-                return false;
-            }
-        }
-        true
+        none_alike(
+            self.rows.count,
+            |i, j| self.rows.word(i) == self.rows.word(j) && self.second(i) == self.second(j),
+            |i, j| is_above(
+                self.rows.word(i),
+                self.second(i),
+                self.rows.word(j),
+                self.second(j),
+            ),
+        )
     }
 
     // Whether the rows ascend by their two words.

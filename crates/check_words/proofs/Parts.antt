@@ -17,32 +17,32 @@ use Rattle.check_words.specs.Canonical.{list_canonical, lists_canonical}
 use Rattle.check_words.proofs.Spelt.{list_of_words, list_of_slots, blank_one}
 
 -- a consumer
-pub consumer_parts : (ws : List ℕ) (at : ℕ) → at + 72 ≤ length ws
-    → canonical consumer_codec (drop at ws) ≡ (leb (get_or ws (at + 3) 0) 1 && (list_canonical ws (at + 6) 64 1 && eqb (get_or ws (at + 71) 0) 0))
-consumer_parts ws at h =
-    check_consumer at ws h
-    ∙ ap₂ {A = Bool} {B = Bool} (λ x y. leb (get_or ws (at + 3) 0) 1 && (x && y))
-    (sym (list_of_words ws (at + 6) (at + 7) 64 (omega arith)))
-    (blank_one ws (at + 71) (omega arith))
+pub consumer_parts : (ws : List ℕ) → 72 ≤ length ws
+    → canonical consumer_codec ws ≡ (leb (get_or ws 3 0) 1 && (list_canonical (drop 6 ws) 64 1 && eqb (get_or ws 71 0) 0))
+consumer_parts ws h =
+    check_consumer 0 ws h
+    ∙ ap₂ {A = Bool} {B = Bool} (λ x y. leb (get_or ws 3 0) 1 && (x && y)) (sym (list_of_words ws 6 7 64 refl)) (blank_one ws 71 (omega arith))
 
 -- a topic
-pub topic_parts : (ws : List ℕ) (e at : ℕ) → at + (4 + 4 * e) ≤ length ws
-    → canonical (topic_codec e) (drop at ws) ≡ (blank 2 (drop (at + 1) ws) && list_canonical ws (at + 3) e 4)
-topic_parts ws e at h =
-    check_topic e at ws h ∙ ap (λ (x : Bool). blank 2 (drop (at + 1) ws) && x) (sym (list_of_slots ws (at + 3) (at + 4) e 4 (omega arith)))
+pub topic_parts : (ws : List ℕ) (e : ℕ) → 4 + 4 * e ≤ length ws
+    → canonical (topic_codec e) ws ≡ (blank 2 (drop 1 ws) && list_canonical (drop 3 ws) e 4)
+topic_parts ws e h =
+    check_topic e 0 ws (omega arith) ∙ ap (λ (x : Bool). blank 2 (drop 1 ws) && x) (sym (list_of_slots ws 3 4 e 4 refl))
 
 -- a dispatcher
-pub dispatcher_parts : (ws : List ℕ) (e at : ℕ) → at + (176 + 9 * e) ≤ length ws
-    → canonical (dispatcher_codec e) (drop at ws)
-    ≡ (blank 5 (drop (at + 6) ws) && (lists_canonical ws e at && canonical (upto mark_codec e) (drop (at + 175 + 3 * e) ws)))
+pub dispatcher_parts : (ws : List ℕ) (e : ℕ) → 176 + 9 * e ≤ length ws
+    → canonical (dispatcher_codec e) ws
+    ≡ (blank 5 (drop 6 ws) && (lists_canonical ws e && canonical (upto mark_codec e) (drop (175 + 3 * e) ws)))
 unfolding lists_canonical
-dispatcher_parts ws e at h =
-    let m : at + marks_in e ≡ at + 175 + 3 * e = omega arith in
-    check_dispatcher e at ws h
-    ∙ ap (λ (x : Bool). blank 5 (drop (at + 6) ws) && x)
-    (ap₂ {A = Bool} {B = Bool} ◌&&◌ (sym (list_of_words ws (at + 11) (at + 12) 32 (omega arith)))
-    (ap₂ {A = Bool} {B = Bool} ◌&&◌ (sym (list_of_slots ws (at + 44) (at + 45) 64 2 (omega arith)))
-    (ap₂ {A = Bool} {B = Bool} ◌&&◌ (sym (list_of_words ws (at + 173) (at + 174) e (omega arith)))
-    (ap₂ {A = Bool} {B = Bool} ◌&&◌ (sym (list_of_slots ws (at + flight_in e) (at + held_in e 0) e 2 (omega arith)))
+dispatcher_parts ws e h =
+    let m : 0 + marks_in e ≡ 175 + 3 * e = omega arith in
+    let f : 0 + flight_in e ≡ flight_in e = omega arith in
+    check_dispatcher e 0 ws (omega arith)
+    ∙ ap (λ (x : Bool). blank 5 (drop 6 ws) && x)
+    (ap₂ {A = Bool} {B = Bool} ◌&&◌ (sym (list_of_words ws 11 12 32 refl))
+    (ap₂ {A = Bool} {B = Bool} ◌&&◌ (sym (list_of_slots ws 44 45 64 2 refl))
+    (ap₂ {A = Bool} {B = Bool} ◌&&◌ (sym (list_of_words ws 173 174 e refl))
+    (ap₂ {A = Bool} {B = Bool} ◌&&◌
+    (sym (list_of_slots ws (0 + flight_in e) (0 + held_in e 0) e 2 (omega arith)) ∙ ap (λ (k : ℕ). list_canonical (drop k ws) e 2) f)
     (ap (λ (k : ℕ). canonical (upto mark_codec e) (drop k ws)) m))))
     ∙ simp and_assoc refl)

@@ -3,38 +3,56 @@ use mathlib.Core.Path.{◌≡◌, ap, ◌∙◌}
 use mathlib.Core.Bool.{Bool, false, ◌&&◌}
 use mathlib.Core.List.{List}
 use Prim.Native.Nat.{ℕ, ◌+◌, ◌-◌, ◌*◌, ◌≤◌, ◌<◌}
-use native.Mathlib.Nat.{mul-one}
+use native.Mathlib.Nat.{mul-one, add-zero, sub-zero}
+use native.Mathlib.Omega.{arith}
 use lib.Dec.{leb, eqb}
-use lib.ListN.{length, get_or, drop}
+use lib.ListN.{length, get_or, take, drop}
+use Rattle.std.proofs.lemmas.List.{take_rest}
+use lib.Seq.{get_or-drop, drop-drop}
 use borrow.Author.Tests.{lt-leb, le-leb}
 use Rattle.words.specs.Words.{blank}
 use Rattle.words.proofs.Check.{blank_none, blank_cons, and_true}
 use Rattle.check_words.specs.Canonical.{list_canonical}
-use Rattle.store.proofs.Rooms.{room_left}
 
 -- a count past the room
-pub list_over : (ws : List ℕ) (at most w : ℕ) {n : ℕ} → n ≡ get_or ws at 0 → most < n → false ≡ list_canonical ws at most w
+pub list_over : (ws : List ℕ) (most w : ℕ) {n : ℕ} → n ≡ get_or ws 0 0 → most < n → false ≡ list_canonical ws most w
 unfolding list_canonical
-list_over ws at most w {n} e h = let g : most < get_or ws at 0 = rw e at h in rw (lt-leb (get_or ws at 0) most g)
+list_over ws most w {n} e h = let g : most < get_or ws 0 0 = rw e at h in rw (lt-leb (get_or ws 0 0) most g)
 
 -- a count within it: the rest decides
-pub list_within : (ws : List ℕ) (at most w : ℕ) {n : ℕ} {r : Bool} → n ≡ get_or ws at 0 → n ≤ most
-    → r ≡ blank (at + 1 + most * w - (at + 1 + n * w)) (drop (at + 1 + n * w) ws) → r ≡ list_canonical ws at most w
+pub list_within : (ws : List ℕ) (most w : ℕ) {n : ℕ} {r : Bool} → n ≡ get_or ws 0 0 → n ≤ most
+    → r ≡ blank ((most - n) * w - 0) (take (length ws - (1 + n * w)) (drop (1 + n * w) ws)) → r ≡ list_canonical ws most w
 unfolding list_canonical
-list_within ws at most w {n} {r} e h q =
-    rw (← e, le-leb n most h, ← room_left n most w (at + 1) h) q
+list_within ws most w {n} {r} e h q =
+    rw (← e, le-leb n most h) (rw (sub-zero ((most - n) * w), take_rest ws (1 + n * w)) at q)
+
+-- the word that a part from a place on begins with
+pub first_from : (ws : List ℕ) (at : ℕ) → get_or (drop at ws) 0 0 ≡ get_or ws at 0
+first_from ws at = get_or-drop at ws 0 0 ∙ ap (λ (n : ℕ). get_or ws n 0) (add-zero at)
+
+-- a list from a place on
+pub list_from : (ws : List ℕ) (at most w : ℕ)
+    → list_canonical (drop at ws) most w ≡ (leb (get_or ws at 0) most && blank ((most - get_or ws at 0) * w) (drop (at + 1 + get_or ws at 0 * w) ws))
+unfolding list_canonical
+list_from ws at most w =
+    let past : at + (1 + get_or ws at 0 * w) ≡ at + 1 + get_or ws at 0 * w = omega arith in
+    ap (λ (n : ℕ). leb n most && blank ((most - n) * w) (drop (1 + n * w) (drop at ws))) (first_from ws at)
+    ∙ ap (λ (us : List ℕ). leb (get_or ws at 0) most && blank ((most - get_or ws at 0) * w) us)
+    (drop-drop (1 + get_or ws at 0 * w) at ws ∙ ap (λ (n : ℕ). drop n ws) past)
+
+-- a list of a part that is lent
+pub list_lent : (ws : List ℕ) (at most w : ℕ) {r : Bool} → r ≡ list_canonical (take (length ws - at) (drop at ws)) most w → r ≡ list_canonical (drop at ws) most w
+list_lent ws at most w q = q ∙ ap (λ (us : List ℕ). list_canonical us most w) (take_rest ws at)
 
 -- a list of single words, its first word named
 pub list_of_words : (ws : List ℕ) (at first most : ℕ) → at + 1 ≡ first
-    → list_canonical ws at most 1 ≡ (leb (get_or ws at 0) most && blank (most - get_or ws at 0) (drop (first + get_or ws at 0) ws))
-unfolding list_canonical
-list_of_words ws at first most f = rw (mul-one (most - get_or ws at 0), mul-one (get_or ws at 0), f)
+    → list_canonical (drop at ws) most 1 ≡ (leb (get_or ws at 0) most && blank (most - get_or ws at 0) (drop (first + get_or ws at 0) ws))
+list_of_words ws at first most f = list_from ws at most 1 ∙ rw (mul-one (most - get_or ws at 0), mul-one (get_or ws at 0), f)
 
 -- a list of wider elements
 pub list_of_slots : (ws : List ℕ) (at first most w : ℕ) → at + 1 ≡ first
-    → list_canonical ws at most w ≡ (leb (get_or ws at 0) most && blank ((most - get_or ws at 0) * w) (drop (first + get_or ws at 0 * w) ws))
-unfolding list_canonical
-list_of_slots ws at first most w f = rw f
+    → list_canonical (drop at ws) most w ≡ (leb (get_or ws at 0) most && blank ((most - get_or ws at 0) * w) (drop (first + get_or ws at 0 * w) ws))
+list_of_slots ws at first most w f = list_from ws at most w ∙ rw f
 
 -- ---- tests one after the other
 

@@ -6,7 +6,8 @@ use Prim.Native.Nat.{ℕ, zero, suc, ◌+◌, ◌-◌, ◌*◌, ◌≤◌, ◌<�
 use native.Mathlib.Nat.{sub-zero, zero-mul, add-zero}
 use native.Mathlib.Omega.{arith}
 use lib.Dec.{leb}
-use lib.ListN.{length, get_or, drop}
+use lib.ListN.{length, get_or, take, drop}
+use Rattle.std.proofs.lemmas.List.{take_rest}
 use borrow.Author.Tests.{leb-true}
 use native.Mathlib.Numerals.{add-one}
 use Rattle.rules.proofs.Table.{by_test}
@@ -16,13 +17,13 @@ use Rattle.words.specs.Store.{canonical, canonicals}
 use Rattle.words.proofs.Check.{canonical_upto, canonicals_none, canonicals_turn}
 use Rattle.check_rows.specs.Below.{each_below}
 use Rattle.check_words.specs.Canonical.{list_canonical, table_canonical}
+use Rattle.check_words.proofs.Spelt.{first_from, list_of_slots}
 
 -- a list that is spelt as it should be counts no more than its room
-pub list_few : (ws : List ℕ) (at most w : ℕ) → list_canonical ws at most w ≡ true → get_or ws at 0 ≤ most
+pub list_few : (ws : List ℕ) (most w : ℕ) → list_canonical ws most w ≡ true → get_or ws 0 0 ≤ most
 unfolding list_canonical
-list_few ws at most w e =
-    leb-true (get_or ws at 0) most
-    ((and-eq-true_iff (leb (get_or ws at 0) most) (blank ((most - get_or ws at 0) * w) (drop (at + 1 + get_or ws at 0 * w) ws))).0 e).0
+list_few ws most w e =
+    leb-true (get_or ws 0 0) most ((and-eq-true_iff (leb (get_or ws 0 0) most) (blank ((most - get_or ws 0 0) * w) (drop (1 + get_or ws 0 0 * w) ws))).0 e).0
 
 -- the slots from i on are canonical exactly where all n are
 abbrev pub Left : {A : Type 0} → Codec A → ℕ → List ℕ → ℕ → ℕ → ℕ → Type 0
@@ -67,11 +68,20 @@ module _ {A : Type 0} (c : Codec A) {w : ℕ} (sized : c.width ≡ w) (ws : List
         (λ t. rw t (stopped n (omega arith) t))
 
   -- a table whose slots are tested one by one
-  pub table_answer : {r : Bool} → r ≡ table_canonical ws off most w (λ j. canonical c (drop (first + j * w) ws)) → r ≡ canonical (upto c most) (drop off ws)
-  unfolding table_canonical list_canonical
+  pub table_answer : {r : Bool} → r ≡ table_canonical (drop off ws) most w (λ j. canonical c (drop (first + j * w) ws)) → r ≡ canonical (upto c most) (drop off ws)
+  unfolding table_canonical
   table_answer q =
-      q ∙ rw (parts, slots (get_or ws off 0), next)
+      q ∙ ap (λ (n : ℕ). list_canonical (drop off ws) most w && each_below (λ j. canonical c (drop (first + j * w) ws)) n) (first_from ws off)
+      ∙ rw (list_of_slots ws off first most w next, parts, slots (get_or ws off 0))
       (let count = leb (get_or ws off 0) most in
       let rest = blank ((most - get_or ws off 0) * w) (drop (first + get_or ws off 0 * w) ws) in
       let each = each_below (λ j. canonical c (drop (first + j * w) ws)) (get_or ws off 0) in
       and_assoc count rest each ∙ ap (λ (b : Bool). count && b) (and_comm rest each) ∙ sym (and_assoc count each rest))
+
+  -- a table of a part that is lent, each slot of which is lent too
+  pub table_lent : {r : Bool} → r ≡ table_canonical (take (length ws - off) (drop off ws)) most w (λ j. canonical c (drop (first + j * w) ws)) → r ≡ canonical (upto c most) (drop off ws)
+  table_lent q = table_answer (q ∙ ap (λ (us : List ℕ). table_canonical us most w (λ j. canonical c (drop (first + j * w) ws))) (take_rest ws off))
+
+-- a slot that is lent
+pub slot_lent : {A : Type 0} (c : Codec A) (ws : List ℕ) (at : ℕ) {r : Bool} → r ≡ canonical c (take (length ws - at) (drop at ws)) → r ≡ canonical c (drop at ws)
+slot_lent c ws at q = q ∙ ap (canonical c) (take_rest ws at)

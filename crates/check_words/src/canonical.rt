@@ -1,6 +1,6 @@
 // Whether words are spelt as the layout has them: counts within their lists' room, flags 0 or 1,
 // and every word past a count or reserved 0. Each function tests one record or table, and equals
-// `canonical` of its codec. Nothing here asks whether the state is a valid one.
+// `canonical` of its codec, over words that begin where it stands. Nothing here asks whether the state is a valid one.
 ghost use Rattle.std.specs.Prelude.{◌≡◌, ℕ, Bool, ◌+◌, ◌*◌, ◌≤◌, ◌<◌, length, drop};
 ghost use Rattle.words.specs.Codec.{upto};
 ghost use Rattle.words.specs.Store.{canonical};
@@ -24,32 +24,25 @@ use store::stretch::{is_blank, word};
 
 // A list whose elements are any words: its count is at most `most`, and the slots past it, of
 // `width` words each, are 0.
-fn list_canonical(store: &[u64], at: usize, most: usize, width: usize) -> bool
-    requires { at + 1 + most * width ≤ length store.now }
-    ensures { result ≡ list_canonical store.now at most width }
+fn list_canonical(list: &[u64], most: usize, width: usize) -> bool
+    requires { 1 + most * width ≤ length list.now }
+    ensures { result ≡ list_canonical list.now most width }
 {
-    let n = word(store, at);
-    let first = at + 1;
-    n <= most && is_blank(store, first + n * width, first + most * width)
+    let n = word(list, 0);
+    n <= most && is_blank(&list[1 + n * width..], 0, (most - n) * width)
 }
 
 // A table: a list in whose slots not any words may stand. Each slot that it counts passes a test.
-fn table_canonical<F: Fn(usize) -> bool>(
-    store: &[u64],
-    at: usize,
-    most: usize,
-    width: usize,
-    slot: F,
-) -> bool
-    requires room { at + 1 + most * width ≤ length store.now }
+fn table_canonical<F: Fn(usize) -> bool>(list: &[u64], most: usize, width: usize, slot: F) -> bool
+    requires room { 1 + most * width ≤ length list.now }
     requires slots { (i : ℕ) → i < most → F.pre slot i }
     ensures { (right : ℕ → Bool) → ((i : ℕ) (r : Bool) → i < most → F.post slot i r → r ≡ right i)
-        → result ≡ table_canonical store.now at most width right }
+        → result ≡ table_canonical list.now most width right }
 {
-    if !list_canonical(store, at, most, width) {
+    if !list_canonical(list, most, width) {
         return false;
     }
-    for i in 0..word(store, at) {
+    for i in 0..word(list, 0) {
         if !slot(i) {
             return false;
         }
@@ -58,13 +51,13 @@ fn table_canonical<F: Fn(usize) -> bool>(
 }
 
 // A consumer: its kind is a flag, its nacked list is in order, the reserved word is 0.
-fn consumer_canonical(store: &[u64], at: usize) -> bool
-    requires { at + consumer_words ≤ length store.now }
-    ensures { result ≡ canonical consumer_codec (drop at store.now) }
+fn consumer_canonical(words: &[u64]) -> bool
+    requires { consumer_words ≤ length words.now }
+    ensures { result ≡ canonical consumer_codec words.now }
 {
-    store[at + KIND_IN] <= 1
-        && list_canonical(store, at + NACKED_IN, MOST_NACKED, 1)
-        && store[at + CONSUMER_RESERVED_IN] == 0
+    words[KIND_IN] <= 1
+        && list_canonical(&words[NACKED_IN..], MOST_NACKED, 1)
+        && words[CONSUMER_RESERVED_IN] == 0
 }
 
 // The table of consumers.
@@ -73,21 +66,20 @@ fn consumers_canonical(store: &[u64]) -> bool
     ensures { result ≡ canonical (upto consumer_codec 32) (drop consumer_count_at store.now) }
 {
     table_canonical(
-        store,
-        CONSUMER_COUNT_AT,
+        &store[CONSUMER_COUNT_AT..],
         MOST_CONSUMERS,
         CONSUMER_WORDS,
-        |i| consumer_canonical(store, consumer_at(i)),
+        |i| consumer_canonical(&store[consumer_at(i)..]),
     )
 }
 
 // A topic: the reserved words are 0, its messages are in order.
-fn topic_canonical(store: &[u64], e: usize, at: usize) -> bool
-    requires { at + topic_words e ≤ length store.now }
-    ensures { result ≡ canonical (topic_codec e) (drop at store.now) }
+fn topic_canonical(words: &[u64], e: usize) -> bool
+    requires { topic_words e ≤ length words.now }
+    ensures { result ≡ canonical (topic_codec e) words.now }
 {
-    is_blank(store, at + TOPIC_RESERVED_IN, at + MESSAGES_IN)
-        && list_canonical(store, at + MESSAGES_IN, e, MESSAGE_WORDS)
+    is_blank(words, TOPIC_RESERVED_IN, MESSAGES_IN)
+        && list_canonical(&words[MESSAGES_IN..], e, MESSAGE_WORDS)
 }
 
 // The table of topics.
@@ -96,44 +88,38 @@ fn topics_canonical(store: &[u64], e: usize) -> bool
     ensures { result ≡ canonical (upto (topic_codec e) 8) (drop topic_count_at store.now) }
 {
     let width = TOPIC_WORDS + TOPIC_WORDS_E * e;
-    table_canonical(store, TOPIC_COUNT_AT, MOST_TOPICS, width, |i| {
-        topic_canonical(store, e, topic_at(e, i))
+    table_canonical(&store[TOPIC_COUNT_AT..], MOST_TOPICS, width, |i| {
+        topic_canonical(&store[topic_at(e, i)..], e)
     })
 }
 
 // A dispatcher's marks: each complete word is a flag, the slots past the count are 0.
-fn marks_canonical(store: &[u64], e: usize, at: usize) -> bool
-    requires { at + 1 + e * 6 ≤ length store.now }
-    ensures { result ≡ canonical (upto mark_codec e) (drop at store.now) }
+fn marks_canonical(list: &[u64], e: usize) -> bool
+    requires { 1 + e * 6 ≤ length list.now }
+    ensures { result ≡ canonical (upto mark_codec e) list.now }
 {
-    table_canonical(
-        store,
-        at,
-        e,
-        MARK_WORDS,
-        |i| store[at + 1 + i * MARK_WORDS] <= 1,
-    )
+    table_canonical(list, e, MARK_WORDS, |i| list[1 + i * MARK_WORDS] <= 1)
 }
 
 // A dispatcher's four lists of plain words: ring, outside ids, queue, entries in flight.
-fn lists_canonical(store: &[u64], e: usize, at: usize) -> bool
-    requires { at + dispatcher_words e ≤ length store.now }
-    ensures { result ≡ lists_canonical store.now e at }
+fn lists_canonical(words: &[u64], e: usize) -> bool
+    requires { dispatcher_words e ≤ length words.now }
+    ensures { result ≡ lists_canonical words.now e }
 {
-    list_canonical(store, at + RING_IN, MOST_RING_IDS, 1)
-        && list_canonical(store, at + OUTSIDE_IN, MOST_OUTSIDE, ID_WORDS)
-        && list_canonical(store, at + QUEUE_IN, e, 1)
-        && list_canonical(store, at + (FLIGHT_IN + e), e, HELD_WORDS)
+    list_canonical(&words[RING_IN..], MOST_RING_IDS, 1)
+        && list_canonical(&words[OUTSIDE_IN..], MOST_OUTSIDE, ID_WORDS)
+        && list_canonical(&words[QUEUE_IN..], e, 1)
+        && list_canonical(&words[FLIGHT_IN + e..], e, HELD_WORDS)
 }
 
 // A dispatcher: the reserved words are 0, its lists and marks are in order.
-fn dispatcher_canonical(store: &[u64], e: usize, at: usize) -> bool
-    requires { at + dispatcher_words e ≤ length store.now }
-    ensures { result ≡ canonical (dispatcher_codec e) (drop at store.now) }
+fn dispatcher_canonical(words: &[u64], e: usize) -> bool
+    requires { dispatcher_words e ≤ length words.now }
+    ensures { result ≡ canonical (dispatcher_codec e) words.now }
 {
-    is_blank(store, at + DISPATCHER_RESERVED_IN, at + RING_IN)
-        && lists_canonical(store, e, at)
-        && marks_canonical(store, e, at + MARKS_IN + MARKS_IN_E * e)
+    is_blank(words, DISPATCHER_RESERVED_IN, RING_IN)
+        && lists_canonical(words, e)
+        && marks_canonical(&words[MARKS_IN + MARKS_IN_E * e..], e)
 }
 
 // The table of dispatchers.
@@ -143,8 +129,8 @@ fn dispatchers_canonical(store: &[u64], e: usize) -> bool
 {
     let count = DISPATCHER_COUNT_AT + DISPATCHERS_AT_E * e;
     let width = DISPATCHER_WORDS + DISPATCHER_WORDS_E * e;
-    table_canonical(store, count, MOST_DISPATCHERS, width, |i| {
-        dispatcher_canonical(store, e, dispatcher_at(e, i))
+    table_canonical(&store[count..], MOST_DISPATCHERS, width, |i| {
+        dispatcher_canonical(&store[dispatcher_at(e, i)..], e)
     })
 }
 

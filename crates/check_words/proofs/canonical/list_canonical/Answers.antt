@@ -1,21 +1,11 @@
 -- `check_words::canonical::list_canonical` meets its contract: the count is tested, then the slots past it.
 use mathlib.Core.Path.{◌∙◌}
-use Prim.Native.Nat.{◌*◌, ◌≤◌}
-use native.Mathlib.Omega.{arith}
-use borrow.Author.Rules.{rules}
 use borrow.Author.Tests.{lt-leb}
-use Rattle.store.proofs.Rooms.{room_le}
 use Rattle.check_words.proofs.Spelt.{list_over, list_within}
 use Rattle.check_words.proofs.canonical.list_canonical.Goals as goal
 
-pub is_blank-requires : goal.is_blank-requires
-is_blank-requires c =
-    let a = c.args in
-    let k : c.word-n.result * a.width ≤ a.most * a.width = room_le _ _ _ c.if-n-most.true in
-    (omega arith, search rules)
-
 pub returns-then-n-most : goal.returns-then-n-most
-returns-then-n-most c = list_within _ _ _ _ c.word-n.ensures c.if-n-most.true c.is_blank.ensures
+returns-then-n-most c = list_within _ _ _ c.word-n.ensures c.if-n-most.true c.is_blank.ensures
 
 pub returns-else-n-most : goal.returns-else-n-most
-returns-else-n-most c = lt-leb _ _ c.if-n-most.false ∙ list_over _ _ _ _ c.word-n.ensures c.if-n-most.false
+returns-else-n-most c = lt-leb _ _ c.if-n-most.false ∙ list_over _ _ _ c.word-n.ensures c.if-n-most.false

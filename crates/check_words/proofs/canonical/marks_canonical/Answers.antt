@@ -15,10 +15,10 @@ use Rattle.check_words.proofs.canonical.marks_canonical.Goals as goal
 pub returns : goal.returns
 returns c =
     let a = c.args in
-    let l : a.at < length a.store.now = omega arith in
-    table_answer mark_codec width_mark a.store.now a.at (a.at + 1) a.e refl l
-    (c.table_canonical.ensures (λ j. canonical mark_codec (drop (a.at + 1 + j * 6) a.store.now))
+    let l : 0 < length a.list.now = omega arith in
+    table_answer mark_codec width_mark a.list.now 0 1 a.e refl l
+    (c.table_canonical.ensures (λ j. canonical mark_codec (drop (1 + j * 6) a.list.now))
     (λ i r h p.
-    let k : a.at + 1 + i * 6 + 6 ≤ length a.store.now = omega arith in
-    let q : r ≡ leb (get_or a.store.now (a.at + 1 + i * 6) 0) 1 = search rules in
-    q ∙ sym (check_mark (a.at + 1 + i * 6) a.store.now k)))
+    let k : 1 + i * 6 + 6 ≤ length a.list.now = omega arith in
+    let q : r ≡ leb (get_or a.list.now (1 + i * 6) 0) 1 = search rules in
+    q ∙ sym (check_mark (1 + i * 6) a.list.now k)))

@@ -20,7 +20,7 @@ loop-i-init g c = λ right tells. refl
 pub slot-requires : goal.slot-requires
 slot-requires g c =
     let a = c.args in
-    let l = list_few a.store.now a.at a.most a.width (answered_yes c.list_canonical.ensures c.if-not-list_canonical.false) in
+    let l = list_few a.list.now a.most a.width (answered_yes c.list_canonical.ensures c.if-not-list_canonical.false) in
     let w = c.word-i-end.ensures in
     c.requires.slots c.loop-i.i (omega arith)
 
@@ -29,17 +29,17 @@ unfolding table_canonical
 returns-then-not-slot g c =
     λ right tells.
     let a = c.args in
-    let l = list_few a.store.now a.at a.most a.width (answered_yes c.list_canonical.ensures c.if-not-list_canonical.false) in
+    let l = list_few a.list.now a.most a.width (answered_yes c.list_canonical.ensures c.if-not-list_canonical.false) in
     let w = c.word-i-end.ensures in
     passes (answered_yes c.list_canonical.ensures c.if-not-list_canonical.false)
-    (each_stop right (get_or a.store.now a.at 0) c.loop-i.i (omega arith)
+    (each_stop right (get_or a.list.now 0 0) c.loop-i.i (omega arith)
     (answered_no (tells c.loop-i.i c.slot.result (omega arith) c.slot.ensures) c.if-not-slot.true))
 
 pub loop-i-preserved : goal.loop-i-preserved
 loop-i-preserved g c =
     λ right tells.
     let a = c.args in
-    let l = list_few a.store.now a.at a.most a.width (answered_yes c.list_canonical.ensures c.if-not-list_canonical.false) in
+    let l = list_few a.list.now a.most a.width (answered_yes c.list_canonical.ensures c.if-not-list_canonical.false) in
     let w = c.word-i-end.ensures in
     each_turn right c.loop-i.i (c.loop-i.invariant right tells)
     (answered_yes (tells c.loop-i.i c.slot.result (omega arith) c.slot.ensures) c.if-not-slot.false)
@@ -48,5 +48,5 @@ pub returns : goal.returns
 unfolding table_canonical
 returns g c =
     λ right tells.
-    let e : c.loop-i.i ≡ get_or c.args.store.now c.args.at 0 = omega (arith, c.word-i-end.ensures) in
+    let e : c.loop-i.i ≡ get_or c.args.list.now 0 0 = omega (arith, c.word-i-end.ensures) in
     passes (answered_yes c.list_canonical.ensures c.if-not-list_canonical.false) (sym (rw e at (c.loop-i.invariant right tells)))
