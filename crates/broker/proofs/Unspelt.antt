@@ -1,10 +1,12 @@
--- Words that spell no state: a call answers 1 and leaves them.
+-- A call on words: 1 where they spell no state, and then they stay; else what is answered by the operation.
 use mathlib.Core.Path.{◌≡◌, refl}
-use mathlib.Core.Bool.{false}
+use mathlib.Core.Bool.{Bool, true, false}
 use mathlib.Core.List.{List}
 use Prim.Native.Nat.{ℕ}
 use Rattle.rules.specs.Calls.{Call, answer_word}
 use Rattle.layout.specs.Layout.{spells}
+use Rattle.row.specs.Row.{RowLeft}
+use Rattle.row_calls.proofs.Rows.{row_unspelt}
 use Rattle.layout.specs.Calls.{outcome, words_after, answer, after, with_records, made_words, list_after}
 
 -- the answer and the words
@@ -13,6 +15,28 @@ unfolding answer after outcome words_after answer_word
 unspelt ws x e = rw e record { answer = refl; words = refl }
 
 -- and a lent list
-pub unspelt_list : (ws : List ℕ) (x : Call) (list : List ℕ) → spells ws ≡ false → list ≡ list_after list (outcome ws x)
+pub unspelt_list : (ws : List ℕ) (x : Call) {list left : List ℕ} → spells ws ≡ false → left ≡ list → left ≡ list_after list (outcome ws x)
 unfolding outcome made_words with_records list_after
-unspelt_list ws x list e = rw e
+unspelt_list ws x e stays = rw (stays, e)
+
+-- and a row
+pub unspelt_row : {ws us script answers answers_left list list_left : List ℕ} {r : ℕ}
+    → spells ws ≡ false → r ≡ 1 → us ≡ ws → answers_left ≡ answers → list_left ≡ list
+    → RowLeft ws script answers list r us answers_left list_left
+unspelt_row {ws} {script = script} {answers = answers} {list = list} e refused words each records =
+    rw (refused, words, each, records) (row_unspelt ws script answers list e)
+
+-- words spell a state or they spell none
+pub by_spells : (ws : List ℕ) {Left : Type 0} → (spells ws ≡ true → Left) → (spells ws ≡ false → Left) → Left
+by_spells ws {Left} spelt none = go (spells ws) spelt none
+  where
+    go : (t : Bool) → (t ≡ true → Left) → (t ≡ false → Left) → Left
+    go true f g = f refl
+    go false f g = g refl
+
+-- what a call answers and leaves, from both cases
+pub answered : {ws us : List ℕ} {r : ℕ} {Call_left : Type 0} (x : Call)
+    → (spells ws ≡ true → record { answer : r ≡ answer ws x; words : us ≡ after ws x })
+    → (spells ws ≡ false → (r ≡ 1) × (us ≡ ws) × Call_left)
+    → record { answer : r ≡ answer ws x; words : us ≡ after ws x }
+answered {ws} x spelt none = by_spells ws spelt (λ e. let s = none e in rw (s.0, s.1) (unspelt ws x e))

@@ -2,18 +2,22 @@
 // the store as a slice of words, in C a pointer and a length, and answers value × 256 + number, the number 0 when done. None of
 // them requires anything; the contracts are one equation for the answer and one for every lent slice. Kinds, targets and switches
 // are numbers, as C hands them over; broker_c passes them on.
-// Every call here but opening first checks that the words spell a state, and answers 1 where they do not.
+// Every call here but opening is made by `on_state`, which first checks that the words spell a state, and answers 1 where they do
+// not.
 #![tactic(auto)]
 
 pub mod commands;
 pub mod rows;
 
-ghost use Rattle.std.specs.Prelude.{◌≡◌, ◌/◌, length};
+ghost use Rattle.std.specs.Prelude.{◌≡◌, ◌/◌, length, true, false};
+ghost use Rattle.std.specs.Fn.{FnOnceTakesAtMut, CalledAtMut};
 ghost use Rattle.rules.specs.Calls.Call.{Append, Flow, Ack, Redeliver, Close, Push, Seek as Seek_call, Subscribe as Subscribe_call};
+ghost use Rattle.layout.specs.Layout.{spells};
 ghost use Rattle.layout.specs.Fields.{pair_of};
 ghost use Rattle.layout.specs.Calls.{outcome, answer, after, list_after, open_answer, open_after};
 ghost use Rattle.topic.specs.Ids.{message_of};
 ghost use Rattle.rules.specs.Calls.{target_from, kind_from};
+ghost use Rattle.refusal.specs.Words.{word_of};
 
 use ack::ack;
 use append::append;
@@ -23,11 +27,25 @@ use command_parts::{Kind, Target};
 use flow::flow;
 use push::push;
 use redeliver::redeliver;
-use refusal::{Refusal, word_of};
+use refusal::{Answer, Refusal, word_of};
 use seek::command::Seek;
 use seek::seek;
 use subscribe::command::Subscribe;
 use subscribe::subscribe;
+
+// A call on words that spell a state; 1 where they spell none, and then nothing changes. The call is lent, so that what it leaves
+// in a list that it captured is known.
+fn on_state<F: FnMut(&mut [u64]) -> Answer>(store: &mut [u64], call: &mut F) -> u64
+    requires { spells store.old ≡ true → FnOnceTakesAtMut F.FnOnce call.old store.old }
+    ensures unspelt { spells store.old ≡ false → (result ≡ 1) × (store.new ≡ store.old) × (call.new ≡ call.old) }
+    ensures spelt { spells store.old ≡ true → (told : _)
+        × CalledAtMut F.FnMut call.old store.old told call.new store.new × (result ≡ word_of told) }
+{
+    if !spells(store) {
+        return word_of(Err(Refusal::NoState));
+    }
+    word_of(call(store))
+}
 
 // Opens a store for `entries` entries per topic; the two switches are off at 0, else on.
 pub fn broker_open(store: &mut [u64], entries: u64, leak: u64, noop: u64) -> u64
@@ -49,10 +67,10 @@ pub fn broker_append(
     ensures answer { result ≡ answer store.old (Append topic (message_of ledger entry handle batch)) }
     ensures words { store.new ≡ after store.old (Append topic (message_of ledger entry handle batch)) }
 {
-    if !spells(store) {
-        return word_of(Err(Refusal::NoState));
-    }
-    word_of(append(store, topic, ledger, entry, handle, batch))
+    on_state(
+        store,
+        &mut |store| append(store, topic, ledger, entry, handle, batch),
+    )
 }
 
 // Makes a consumer of a topic's subscription, or replaces a live one: kind 0 is plain, else shared.
@@ -66,16 +84,13 @@ pub fn broker_subscribe(
     ensures answer { result ≡ answer store.old (Subscribe_call consumer (kind_from kind) (pair_of topic subscription)) }
     ensures words { store.new ≡ after store.old (Subscribe_call consumer (kind_from kind) (pair_of topic subscription)) }
 {
-    if !spells(store) {
-        return word_of(Err(Refusal::NoState));
-    }
     let command = Subscribe {
         consumer,
         kind: Kind::from(kind),
         topic,
         subscription,
     };
-    word_of(subscribe(store, command))
+    on_state(store, &mut |store| subscribe(store, command))
 }
 
 // Grants permits to a consumer. The value is its permits after, signed.
@@ -83,10 +98,7 @@ pub fn broker_flow(store: &mut [u64], consumer: u64, grant: u32) -> u64
     ensures answer { result ≡ answer store.old (Flow consumer grant) }
     ensures words { store.new ≡ after store.old (Flow consumer grant) }
 {
-    if !spells(store) {
-        return word_of(Err(Refusal::NoState));
-    }
-    word_of(flow(store, consumer, grant))
+    on_state(store, &mut |store| flow(store, consumer, grant))
 }
 
 // Acknowledges entries: a list of groups of ledger, entry, n and n words of its ack set. The value is
@@ -95,10 +107,7 @@ pub fn broker_ack(store: &mut [u64], consumer: u64, list: &[u64]) -> u64
     ensures answer { result ≡ answer store.old (Ack consumer list.now) }
     ensures words { store.new ≡ after store.old (Ack consumer list.now) }
 {
-    if !spells(store) {
-        return word_of(Err(Refusal::NoState));
-    }
-    word_of(ack(store, consumer, list))
+    on_state(store, &mut |store| ack(store, consumer, list))
 }
 
 // Moves a consumer's cursor: target 0 is the start, else the id. The value is the cursor.
@@ -106,11 +115,8 @@ pub fn broker_seek(store: &mut [u64], consumer: u64, target: u64, ledger: u64, e
     ensures answer { result ≡ answer store.old (Seek_call consumer (target_from target ledger entry)) }
     ensures words { store.new ≡ after store.old (Seek_call consumer (target_from target ledger entry)) }
 {
-    if !spells(store) {
-        return word_of(Err(Refusal::NoState));
-    }
     let target = Target::from_words(target, ledger, entry);
-    word_of(seek(store, Seek { consumer, target }))
+    on_state(store, &mut |store| seek(store, Seek { consumer, target }))
 }
 
 // Hands entries back: a list of groups of ledger, entry, n and n words, which are ignored.
@@ -118,10 +124,7 @@ pub fn broker_redeliver(store: &mut [u64], consumer: u64, list: &[u64]) -> u64
     ensures answer { result ≡ answer store.old (Redeliver consumer list.now) }
     ensures words { store.new ≡ after store.old (Redeliver consumer list.now) }
 {
-    if !spells(store) {
-        return word_of(Err(Refusal::NoState));
-    }
-    word_of(redeliver(store, consumer, list))
+    on_state(store, &mut |store| redeliver(store, consumer, list))
 }
 
 // Closes a consumer. The value is 1 if one was live, else 0.
@@ -129,10 +132,7 @@ pub fn broker_close(store: &mut [u64], consumer: u64) -> u64
     ensures answer { result ≡ answer store.old (Close consumer) }
     ensures words { store.new ≡ after store.old (Close consumer) }
 {
-    if !spells(store) {
-        return word_of(Err(Refusal::NoState));
-    }
-    word_of(close(store, consumer))
+    on_state(store, &mut |store| close(store, consumer))
 }
 
 // Hands out all that is due. The list is filled with records of 13 words; the value is how many. With 15
@@ -143,8 +143,5 @@ pub fn broker_push(store: &mut [u64], list: &mut [u64]) -> u64
     ensures records { list.new ≡ list_after list.old
         (outcome store.old (Push (length list.old / 13))) }
 {
-    if !spells(store) {
-        return word_of(Err(Refusal::NoState));
-    }
-    word_of(push(store, list))
+    on_state(store, &mut |store| push(store, list))
 }

@@ -1,22 +1,16 @@
 -- `broker::broker_push` meets its contract: the words are checked, then the command runs.
 use mathlib.Core.Path.{◌∙◌}
-use Rattle.store.proofs.Tests.{answered_no, answered_yes}
-use Rattle.broker.proofs.Unspelt.{unspelt, unspelt_list}
-use borrow.Author.Rules.{rules}
-use Rattle.broker.proofs.broker_push.Reads as reads
-use Rattle.broker.proofs.broker_push.Lts as lts
-use Rattle.push.proofs.push.Reads as push_reads
-use Rattle.check_state.proofs.spells.Reads as spells_reads
+use Rattle.std.proofs.Common.{rules}
+use Rattle.broker.proofs.Unspelt.{unspelt, unspelt_list, by_spells}
 use Rattle.broker.proofs.broker_push.Goals as goal
 
-pub returns-then-not-spells : goal.returns-then-not-spells
-returns-then-not-spells c =
-    let e = answered_no c.spells.ensures c.if-not-spells.true in
-    let r = unspelt c.args.store.now _ e in
-    record { answer = c.word_of.ensures ∙ r.answer; words = r.words; records = unspelt_list _ _ c.args.list.now e }
-
-pub push-requires : goal.push-requires
-push-requires c = answered_yes c.spells.ensures c.if-not-spells.false
-
 pub returns : goal.returns
-returns c = rw c.word_of-2.ensures c.push.ensures
+returns c = by_spells c.args.store.now
+    (λ e.
+    let s = c.on_state.ensures.spelt e in
+    let m = s.1.called.met in
+    rw (s.2, ← s.1.shows, ← s.1.leaves) record { answer = search rules; words = search rules; records = search rules })
+    (λ e.
+    let s = c.on_state.ensures.unspelt e in
+    let u = unspelt _ _ e in
+    record { answer = s.0 ∙ u.answer; words = s.1 ∙ u.words; records = unspelt_list _ _ e (search rules) })
