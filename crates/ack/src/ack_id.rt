@@ -81,6 +81,8 @@ fn acked_mark(mark: Mark, batch: u64, group: Group) -> Mark
 }
 
 // The batch size of message `k` of a topic. The topic exists, since it has that message, so no test is made.
+// The slot is looked for with each group. A topic may not exist yet, and then its ids still join the outside ids: a slot
+// that the groups share would be an `Option`, and each function from here to `ack_all` would ask whose ledger it is.
 fn batch_size_of(store: &[u64], e: usize, topic: u64, k: usize) -> u64
     requires { CanonStore e store.now × (k < length (ledger_of (decode store.now) topic)) }
     ensures { result ≡ (message_at (ledger_of (decode store.now) topic) k).batch_size }

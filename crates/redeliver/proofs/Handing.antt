@@ -3,9 +3,9 @@ use mathlib.Core.Path.{◌≡◌, refl, sym, ap, ◌∙◌, subst}
 use mathlib.Core.List.{List, [], ◌∷◌, ◌++◌}
 use Prim.Native.Nat.{ℕ, ◌+◌, ◌≤◌, ◌<◌}
 use native.Mathlib.Omega.{arith}
-use lib.ListN.{length, set, take, drop, length-append}
+use lib.ListN.{length, get_or, set, take, drop, length-append}
 use lib.Seq.{set-get_or}
-use Rattle.rules.specs.State.{Pair, StoredMessage, Dispatcher, State, topic_of, ledger_of, with_dispatchers}
+use Rattle.rules.specs.State.{Pair, StoredMessage, Topic, Dispatcher, State, topic_of, ledger_of, with_dispatchers}
 use Rattle.rules.specs.Dispatcher.{with_places, with_marks, mark_at}
 use Rattle.rules.specs.Commands.{raised, redeliver_id, redeliver_groups}
 use Rattle.rules.specs.Valid.{ValidDispatcher}
@@ -13,15 +13,15 @@ use Rattle.rules.proofs.Kept.Frame.{move_dispatcher}
 use Rattle.rules.proofs.Kept.Redeliver.{redeliver_id_valid, redeliver_id_pair}
 use Rattle.layout.specs.Layout.{decode, put}
 use Rattle.layout.specs.Whole.{ShapedDispatcher}
-use Rattle.layout.specs.Fields.{zero_dispatcher, dispatcher_nth, set_dispatcher}
-use Rattle.layout.specs.Placed.{DispatcherIn}
+use Rattle.layout.specs.Fields.{zero_dispatcher, zero_topic, dispatcher_nth, topic_nth, set_dispatcher}
+use Rattle.layout.specs.Placed.{DispatcherIn, TopicIn}
 use Rattle.layout.proofs.Store.{canon_entries, put_decode}
-use Rattle.layout.proofs.Placed.{shaped_places, shaped_set_dispatcher}
+use Rattle.layout.proofs.Placed.{shaped_places, shaped_set_dispatcher, topic_in}
 use Rattle.rules.specs.Groups.{Group}
 use Rattle.operation_laws.proofs.Frame.{decode_after, dispatcher_twice, dispatcher_set_in, dispatcher_now_is}
 use Rattle.dispatcher.proofs.Returning.{length_without}
 use Rattle.redeliver.specs.Back.{handed}
-use Rattle.redeliver.proofs.Holds.{valid_fits}
+use Rattle.redeliver.proofs.Holds.{valid_fits, redeliver_absent}
 
 -- ---- one entry
 
@@ -102,6 +102,7 @@ pub record Handing (e : ℕ) (ws us : List ℕ) (d topic i : ℕ) (all ahead : L
   pub here : DispatcherIn e us d
   pub good : ValidDispatcher (decode us) (dispatcher_nth (decode us) d)
   pub of_topic : (dispatcher_nth (decode us) d).pair.topic ≡ topic
+  pub topics : (decode us).topics ≡ (decode ws).topics
   pub ledger : ledger_of (decode us) topic ≡ ledger_of (decode ws) topic
   pub words : us ≡ put ws (set_dispatcher (decode ws) d (dispatcher_nth (decode us) d))
   pub same : redeliver_groups (ledger_of (decode ws) topic) i (dispatcher_nth (decode us) d) ahead
@@ -111,7 +112,7 @@ module _ {e : ℕ} {ws : List ℕ} (d topic i : ℕ) (all : List Group) (h : Dis
   -- at the start
   pub handing_start : ValidDispatcher (decode ws) (dispatcher_nth (decode ws) d) → (dispatcher_nth (decode ws) d).pair.topic ≡ topic
       → Handing e ws ws d topic i all all
-  handing_start v t = record { here = h; good = v; of_topic = t; ledger = refl; words = stays d (dispatcher_nth (decode ws) d) h refl; same = refl }
+  handing_start v t = record { here = h; good = v; of_topic = t; topics = refl; ledger = refl; words = stays d (dispatcher_nth (decode ws) d) h refl; same = refl }
 
   module _ {us : List ℕ} (gs : List Group) (r : Handing e ws us d topic i all gs) where
     -- at the end
@@ -120,6 +121,14 @@ module _ {e : ℕ} {ws : List ℕ} (d topic i : ℕ) (all : List Group) (h : Dis
     handing_end l =
         let n : redeliver_groups (ledger_of (decode ws) topic) i (dispatcher_nth (decode us) d) gs ≡ dispatcher_nth (decode us) d = rw l in
         r.words ∙ ap (λ (y : Dispatcher). put ws (set_dispatcher (decode ws) d y)) (sym n ∙ r.same)
+
+    -- the topic's slot in the words now
+    pub handing_slot : (t : ℕ) → (ledger_of (decode ws) topic ≡ (topic_nth (decode ws) t).messages) × (t < length (decode ws).topics)
+        → TopicIn e us t × (ledger_of (decode us) (dispatcher_nth (decode us) d).pair.topic ≡ (topic_nth (decode us) t).messages)
+    handing_slot t q = (
+      topic_in r.here.canon t (rw r.topics q.1),
+      rw r.of_topic (r.ledger ∙ q.0 ∙ ap (λ (l : List Topic). (get_or l t zero_topic).messages) (sym r.topics)),
+    )
 
     -- the dispatcher after a turn
     abbrev turned : Group → Dispatcher
@@ -143,6 +152,10 @@ module _ {e : ℕ} {ws : List ℕ} (d topic i : ℕ) (all : List Group) (h : Dis
       same_ledger : (t : ℕ) → ledger_of (decode vs) t ≡ ledger_of (decode us) t
       unfolding ledger_of topic_of set_dispatcher with_dispatchers
       same_ledger t = ap (λ (s : State). ledger_of s t) (decode_after us _ (shaped_set_dispatcher (decode us) r.here.canon.shaped d (turned g) (turned_fits g)) w)
+
+      same_topics : (decode vs).topics ≡ (decode us).topics
+      unfolding set_dispatcher with_dispatchers
+      same_topics = ap (λ (s : State). s.topics) (decode_after us _ (shaped_set_dispatcher (decode us) r.here.canon.shaped d (turned g) (turned_fits g)) w)
 
       turn_words : vs ≡ put ws (set_dispatcher (decode ws) d (dispatcher_nth (decode vs) d))
       turn_words =
@@ -171,7 +184,17 @@ module _ {e : ℕ} {ws : List ℕ} (d topic i : ℕ) (all : List Group) (h : Dis
             here = dispatcher_set_in us (decode us) d (turned g) r.here.canon.shaped (canon_entries r.here.canon) (turned_fits g) w r.here.there;
             good = turn_valid;
             of_topic = rw now_turned (ap (λ (x : Pair). x.topic) (redeliver_id_pair (ledger_of (decode us) topic) i (dispatcher_nth (decode us) d) g.id) ∙ r.of_topic);
+            topics = same_topics ∙ r.topics;
             ledger = same_ledger topic ∙ r.ledger;
             words = turn_words;
             same = turn_same rest k;
           }
+
+-- no id is in a ledger of none: the dispatcher stays
+pub handed_nowhere : (s : State) (i topic : ℕ) (d : Dispatcher) (gs : List Group) → ValidDispatcher s d → d.pair.topic ≡ topic → ledger_of s topic ≡ []
+    → redeliver_groups (ledger_of s topic) i d gs ≡ d
+unfolding redeliver_groups
+handed_nowhere s i topic d [] v t e = refl
+handed_nowhere s i topic d (g ∷ gs) v t e =
+    let n = ap (λ (l : List StoredMessage). length l) e in
+    rw (redeliver_absent s i topic d g.id v t (omega arith)) (handed_nowhere s i topic d gs v t e)

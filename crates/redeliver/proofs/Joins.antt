@@ -1,20 +1,20 @@
 -- The nacked positions of a consumer while found ones join them: what was written and what is ahead make up the whole.
 use mathlib.Core.Path.{◌≡◌, refl, sym, ap, ◌∙◌}
 use mathlib.Core.List.{List, [], ◌∷◌, ◌++◌, append-nil, append_assoc}
-use Prim.Native.Nat.{ℕ, ◌+◌, ◌≤◌}
+use Prim.Native.Nat.{ℕ, ◌+◌, ◌≤◌, ◌<◌}
 use native.Mathlib.Omega.{arith}
-use lib.ListN.{length, length-append}
+use lib.ListN.{length, get_or, length-append}
 use lib.Seq.{set-get_or, get_or-set_same}
-use Rattle.rules.specs.State.{Consumer, State, StoredMessage, ledger_of, topic_of, with_consumers}
+use Rattle.rules.specs.State.{Consumer, State, Topic, StoredMessage, ledger_of, topic_of, with_consumers}
 use Rattle.rules.specs.Groups.{Group}
 use Rattle.redeliver.proofs.Finds.{found_first, found_first_count}
 use Rattle.operation_laws.proofs.Frame.{decode_after, consumer_twice, consumer_still_in}
-use Rattle.layout.proofs.Placed.{shaped_set_consumer, shaped_reading}
+use Rattle.layout.proofs.Placed.{shaped_set_consumer, shaped_reading, topic_in}
 use Rattle.rules.specs.Commands.{with_reading, found_positions}
 use Rattle.layout.specs.Layout.{decode, put, entries_in}
 use Rattle.layout.specs.Canon.{CanonStore}
-use Rattle.layout.specs.Fields.{zero_consumer, consumer_nth, set_consumer}
-use Rattle.layout.specs.Placed.{ConsumerIn}
+use Rattle.layout.specs.Fields.{zero_consumer, zero_topic, consumer_nth, topic_nth, set_consumer}
+use Rattle.layout.specs.Placed.{ConsumerIn, TopicIn}
 use Rattle.layout.proofs.Store.{put_decode}
 
 -- words that stay are those of a consumer that nothing joined
@@ -59,6 +59,18 @@ module _ {e : ℕ} {ws us : List ℕ} (i topic : ℕ) (all gs : List Group) (h :
   -- the consumer is there
   pub joining_in : ConsumerIn e us i
   joining_in = let q = entries_here h.canon in consumer_still_in ws (decode ws) i _ h.canon.shaped q (shaped_reading (consumer_nth (decode ws) i) (consumer_nth (decode ws) i).cursor (consumer_nth (decode us) i).nacked (omega (arith, fit))) j.written h.there
+
+  -- and so is each topic, by its slot
+  same_topics : (decode us).topics ≡ (decode ws).topics
+  unfolding set_consumer with_consumers
+  same_topics = ap (λ (s : State). s.topics) state_now
+
+  pub joining_slot : (t : ℕ) → (ledger_of (decode ws) topic ≡ (topic_nth (decode ws) t).messages) × (t < length (decode ws).topics)
+      → TopicIn e us t × (ledger_of (decode us) topic ≡ (topic_nth (decode us) t).messages)
+  joining_slot t q = (
+    topic_in joining_in.canon t (rw same_topics q.1),
+    same_ledger ∙ q.0 ∙ ap (λ (l : List Topic). (get_or l t zero_topic).messages) (sym same_topics),
+  )
 
   -- at the end
   pub joining_end : gs ≡ [] → us ≡ put ws (set_consumer (decode ws) i (with_reading (consumer_nth (decode ws) i) (consumer_nth (decode ws) i).cursor ((consumer_nth (decode ws) i).nacked ++ found_positions (ledger_of (decode ws) topic) all)))

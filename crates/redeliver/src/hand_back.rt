@@ -1,12 +1,13 @@
 // What a shared consumer hands back goes to the end of its dispatcher's queue, and its redelivery
-// count rises. An id that the consumer does not hold changes nothing.
+// count rises. An id that the consumer does not hold changes nothing. The slot of the topic is looked for once for a list:
+// what is written moves no topic.
 ghost use Rattle.std.specs.Prelude.{◌≡◌, ◌<◌, length};
 ghost use Rattle.rules.specs.State.{ledger_of};
 ghost use Rattle.rules.specs.Commands.{redeliver_id, redeliver_groups};
 ghost use Rattle.rules.specs.Valid.{ValidDispatcher};
 ghost use Rattle.layout.specs.Layout.{decode};
-ghost use Rattle.layout.specs.Fields.{dispatcher_now, dispatcher_changed};
-ghost use Rattle.layout.specs.Placed.{DispatcherIn};
+ghost use Rattle.layout.specs.Fields.{dispatcher_now, topic_now, dispatcher_changed};
+ghost use Rattle.layout.specs.Placed.{DispatcherIn, TopicIn};
 ghost use Rattle.groups.specs.Lent.{group_of, groups_in};
 ghost use Rattle.redeliver.specs.Back.{handed};
 
@@ -16,7 +17,8 @@ use dispatcher::numbers::topic;
 use dispatcher::queue::append_queue;
 use groups::group::Group;
 use groups::list::Groups;
-use topic::position::position_in;
+use topic::find::position_of;
+use topic::table::existing_topic;
 
 // Entry `j` in flight of dispatcher `d`, which is on position `k`, is handed back. Not inlined, since the search for `j`
 // would then carry the places of all that is done here from turn to turn: 64 ids that are held, handed back, take 184,735
@@ -32,13 +34,14 @@ fn hand_back_held(store: &mut [u64], e: usize, d: usize, j: usize, k: usize)
     raise_count(store, e, d, k);
 }
 
-// The id of a group is handed back if `id` holds it.
-fn hand_back(store: &mut [u64], e: usize, d: usize, id: u64, group: Group)
-    requires { DispatcherIn e store.old d × ValidDispatcher (decode store.old) (dispatcher_now store.old d) }
+// The id of a group, sought in the ledger of topic `t`, the dispatcher's, is handed back if `id` holds it.
+fn hand_back(store: &mut [u64], e: usize, d: usize, t: usize, id: u64, group: Group)
+    requires { DispatcherIn e store.old d × ValidDispatcher (decode store.old) (dispatcher_now store.old d) × TopicIn e store.old t
+        × (ledger_of (decode store.old) (dispatcher_now store.old d).pair.topic ≡ (topic_now store.old t).messages) }
     ensures { store.new ≡ dispatcher_changed store.old d
         (λ x. redeliver_id (ledger_of (decode store.old) x.pair.topic) id x (group_of group.entry).id) }
 {
-    let Some(k) = position_in(store, e, topic(store, e, d), group) else {
+    let Some(k) = position_of(store, e, t, group.id()) else {
         return;
     };
     if let Some(j) = find_hold(store, e, d, id, k) {
@@ -52,7 +55,10 @@ pub(crate) fn hand_back_all(store: &mut [u64], e: usize, d: usize, id: u64, grou
     ensures { store.new ≡ dispatcher_changed store.old d
         (λ x. redeliver_groups (ledger_of (decode store.old) x.pair.topic) id x (groups_in groups.entry)) }
 {
+    let Some(t) = existing_topic(store, e, topic(store, e, d)) else {
+        return;
+    };
     for group in groups {
-        hand_back(store, e, d, id, group);
+        hand_back(store, e, d, t, id, group);
     }
 }
