@@ -10,8 +10,8 @@ use lib.Dec.{eqb, leb, ltb}
 use lib.ListN.{get_or}
 use lib.Pow.{le_ones, lt_of_le_ones}
 use borrow.Author.Tests.{ltb-true, ltb-false, leb-true, leb-false, lt-ltb, le-ltb, le-leb, lt-leb}
-use Rattle.bits.specs.Bits.{bits_empty, bits_below, fresh_unacked_bits}
-use Rattle.bits.specs.Four.{words, four}
+use Rattle.bits.specs.Bits.{bits_empty, bits_below}
+use Rattle.bits.specs.Four.{words}
 use Rattle.bits.specs.declared.UnackedBits.{UnackedBits}
 use Rattle.bits.proofs.Word.{or_empty}
 use Rattle.rules.proofs.Table.{by_test}
@@ -90,9 +90,9 @@ module _ (ws : List ℕ) (at : ℕ) (b : UnackedBits) where
       (and_swap (ltb count (2 ^ 32)) (ltb more (2 ^ 32)) (bits_empty (words b)) (bits_empty (bits_at ws at))))
 
 -- no count and no bits fit any batch size
-pub fits_none : (bits : UnackedBits) (batch : ℕ) → bits ≡ four (fresh_unacked_bits 4 0) → mark_fits 0 (words bits) batch ≡ true
-unfolding fresh_unacked_bits bits_empty
-fits_none bits batch e = rw e (sym (bits_clear batch (0 ∷ 0 ∷ 0 ∷ 0 ∷ []) refl))
+pub fits_none : (bits : UnackedBits) (batch : ℕ) → (bits.w0 ≡ 0) × ((bits.w1 ≡ 0) × ((bits.w2 ≡ 0) × (bits.w3 ≡ 0))) → mark_fits 0 (words bits) batch ≡ true
+unfolding bits_empty
+fits_none bits batch e = rw (e.0, e.1.0, e.1.1.0, e.1.1.1) (sym (bits_clear batch (0 ∷ 0 ∷ 0 ∷ 0 ∷ []) refl))
 
 -- ---- a turn of the loop
 

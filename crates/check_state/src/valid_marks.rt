@@ -81,7 +81,7 @@ impl DispatcherAt<'_> {
         let first = self.at + MARK_IN + MARKS_IN_E * self.e;
         let mut batch = 0;
         let mut count = 0;
-        let mut bits = UnackedBits::fresh_unacked_bits(0);
+        let mut bits = UnackedBits::default();
         for i in 0..n {
             let next = self.store[ledger + i * MESSAGE_WORDS + BATCH_IN];
             if next != batch {
@@ -90,7 +90,7 @@ impl DispatcherAt<'_> {
                 }
                 batch = next;
                 count = 0;
-                bits = UnackedBits::fresh_unacked_bits(0);
+                bits = UnackedBits::default();
             }
             let at = first + i * MARK_WORDS;
             count |= self.store[at + REDELIVERY_COUNT_IN];

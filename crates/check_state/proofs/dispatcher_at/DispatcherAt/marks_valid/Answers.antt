@@ -19,7 +19,7 @@ returns-then-n-self c = rw (← c.word-n.ensures) (fails _ (ne_eqb _ _ c.if-n-se
 
 pub loop-i-init : goal.loop-i-init
 unfolding each_below
-loop-i-init c = fits_none c.fresh_unacked_bits-bits.result 0 c.fresh_unacked_bits-bits.ensures
+loop-i-init c = fits_none c.default-bits.result 0 c.default-bits.ensures
 
 pub returns-then-not-mark_fits : goal.returns-then-not-mark_fits
 unfolding marks_right
@@ -42,7 +42,7 @@ loop-i-preserved c =
     elim now.branch [
       | then-next-batch+else-not-mark_fits w ↦ (
         rw (w.count-is, w.bits-is)
-            (fits_none w.fresh_unacked_bits-bits-then-next-batch.result now.batch w.fresh_unacked_bits-bits-then-next-batch.ensures
+            (fits_none w.default-bits-then-next-batch.result now.batch w.default-bits-then-next-batch.ensures
             ∙ sym (sym c.loop-i.invariant ∙ answered_yes w.mark_fits.ensures w.if-not-mark_fits.false)),
         w.batch-is,
       )
