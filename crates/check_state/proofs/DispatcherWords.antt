@@ -14,7 +14,7 @@ use Rattle.rules.specs.State.{Held, Dispatcher}
 use Rattle.rules.specs.Valid.{is_byte, is_word, valid_ring, valid_places}
 use Rattle.layout.specs.Layout.{decode}
 use Rattle.layout.specs.Canon.{CanonStore}
-use Rattle.layout.specs.Offsets.{dispatcher_at, flight_in}
+use Rattle.layout.specs.Offsets.{dispatcher_at, flight_in, held_in}
 use Rattle.layout.specs.Fields.{zero_held, dispatcher_nth}
 use Rattle.layout.proofs.GetsDispatcher.{dispatcher_short, read_dispatcher_topic, read_dispatcher_subscription, read_next, read_cursor, read_mark_delete, read_total, read_ring_count, read_outside_count, read_queue_count, read_flight_count, read_ring, read_queue, read_holder, read_position}
 use Rattle.check_rows.specs.Rows.{row, among}
@@ -96,7 +96,7 @@ module _ {e : ℕ} {ws : List ℕ} (h : CanonStore e ws) (d : ℕ) (k : d < leng
   positions = map (λ (x : Held). x.position) the.in_flight
 
   -- each stands second in its row
-  position_spell : Spell ws (here + 176 + e) 2 positions
+  position_spell : Spell ws (here + held_in e 0 + 1) 2 positions
   position_spell j l =
       let m : j < length the.in_flight = rw (length-map the.in_flight (λ (x : Held). x.position)) at l in
       by_place ws (omega arith) (read_position h d k j m) ∙ sym (get_or-map (λ (x : Held). x.position) the.in_flight j zero_held)
@@ -106,14 +106,14 @@ module _ {e : ℕ} {ws : List ℕ} (h : CanonStore e ws) (d : ℕ) (k : d < leng
   queue_spell j l = by_place ws (omega arith) (read_queue h d k j l)
 
   -- the holders' test
-  holders_reads : holders_right ws (here + 12) (length the.attached) (here + 175 + e) (length the.in_flight)
+  holders_reads : holders_right ws (here + 12) (length the.attached) (here + held_in e 0) (length the.in_flight)
       ≡ all (λ (x : Held). member x.holder the.attached) the.in_flight
   unfolding holders_right
   holders_reads =
-      each_same (held_right ws (here + 12) (length the.attached) (here + 175 + e)) (λ j. member (get_or the.in_flight j zero_held).holder the.attached)
+      each_same (held_right ws (here + 12) (length the.attached) (here + held_in e 0)) (λ j. member (get_or the.in_flight j zero_held).holder the.attached)
       (length the.in_flight)
       (λ j l.
-      among_list ws (here + 12) 1 the.attached ring_spell (row ws (here + 175 + e) 2 j)
+      among_list ws (here + 12) 1 the.attached ring_spell (row ws (here + held_in e 0) 2 j)
       ∙ ap (λ (v : ℕ). member v the.attached) (by_place ws (omega arith) (read_holder h d k j l)))
       ∙ sym (all_each (λ (x : Held). member x.holder the.attached) the.in_flight zero_held)
 
@@ -123,10 +123,10 @@ module _ {e : ℕ} {ws : List ℕ} (h : CanonStore e ws) (d : ℕ) (k : d < leng
   places_reads =
       rw (read_ring_count h d k, flight_count, read_queue_count h d k, read_cursor h d k)
       (ap₂ ◌&&◌ holders_reads
-      (subst (λ (n : ℕ). (fresh_places ws (here + 176 + e) 2 n the.cursor (λ p. false) && fresh_places ws (here + 174) 1 (length the.redelivery) the.cursor
-      (λ p. among ws (here + 176 + e) 2 n p))
+      (subst (λ (n : ℕ). (fresh_places ws (here + held_in e 0 + 1) 2 n the.cursor (λ p. false) && fresh_places ws (here + 174) 1 (length the.redelivery) the.cursor
+      (λ p. among ws (here + held_in e 0 + 1) 2 n p))
       ≡ (distinct eqb (positions ++ the.redelivery) && all (λ (p : ℕ). ltb p the.cursor) (positions ++ the.redelivery)))
       (length-map the.in_flight (λ (x : Held). x.position))
-      (fresh_lists ws (here + 176 + e) 2 (here + 174) 1 the.cursor positions the.redelivery position_spell queue_spell))
+      (fresh_lists ws (here + held_in e 0 + 1) 2 (here + 174) 1 the.cursor positions the.redelivery position_spell queue_spell))
       ∙ sym (and_assoc (all (λ (x : Held). member x.holder the.attached) the.in_flight) (distinct eqb (positions ++ the.redelivery))
       (all (λ (p : ℕ). ltb p the.cursor) (positions ++ the.redelivery))))

@@ -54,10 +54,10 @@ module _ {e : ℕ} {ws : List ℕ} (h : CanonStore e ws) (d : ℕ) (k : d < leng
   module _ (ledger_here : ℕ) (spelt : LedgerSpelt ws ledger_here ledger) where
     -- a mark and its entry
     mark_reads : (j : ℕ) → j < length the.marks → j < length ledger
-        → mark_suits ws ledger_here (here + 176 + 3 * e) j ≡ valid_mark (get_or ledger j no_message) (get_or the.marks j new_mark)
+        → mark_suits ws ledger_here (here + mark_in e 0) j ≡ valid_mark (get_or ledger j no_message) (get_or the.marks j new_mark)
     unfolding mark_right valid_mark
     mark_reads j l m =
-        let p : here + 176 + 3 * e + j * 6 ≡ here + mark_in e j = omega arith in
+        let p : here + mark_in e 0 + j * 6 ≡ here + mark_in e j = omega arith in
         rw (
           p,
           read_redelivery_count h d k j l,
@@ -69,7 +69,7 @@ module _ {e : ℕ} {ws : List ℕ} (h : CanonStore e ws) (d : ℕ) (k : d < leng
         )
 
     -- the marks' test
-    marks_reads : marks_right ws ledger_here (length ledger) (here + 176 + 3 * e) (get_or ws (here + marks_in e) 0) ≡ valid_marks ledger the.marks
+    marks_reads : marks_right ws ledger_here (length ledger) (here + mark_in e 0) (get_or ws (here + marks_in e) 0) ≡ valid_marks ledger the.marks
     unfolding marks_right
     marks_reads =
         let n : get_or ws (here + marks_in e) 0 ≡ length the.marks = by_place ws (omega arith) (read_mark_count h d k) in
@@ -77,7 +77,7 @@ module _ {e : ℕ} {ws : List ℕ} (h : CanonStore e ws) (d : ℕ) (k : d < leng
         (by_test (eqb (length the.marks) (length ledger))
         (λ t. let s = eqb-true (length the.marks) (length ledger) t in
         ap (λ (b : Bool). eqb (length the.marks) (length ledger) && b)
-        (each_same (mark_suits ws ledger_here (here + 176 + 3 * e)) (λ j. valid_mark (get_or ledger j no_message) (get_or the.marks j new_mark)) (length the.marks)
+        (each_same (mark_suits ws ledger_here (here + mark_in e 0)) (λ j. valid_mark (get_or ledger j no_message) (get_or the.marks j new_mark)) (length the.marks)
         (λ j l. mark_reads j l (omega arith))))
         (λ t. rw t))
 

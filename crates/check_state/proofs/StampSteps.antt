@@ -10,7 +10,7 @@ use lib.ListN.{length, get_or, set}
 use lib.Seq.{get_or-set_same, get_or-set_other}
 use borrow.Author.Tests.{eqb-true, eqb-false, eq-eqb, ne_eqb, ltb-true}
 use Rattle.rules.proofs.Table.{by_test}
-use Rattle.layout.specs.Offsets.{flight_in}
+use Rattle.layout.specs.Offsets.{flight_in, held_in}
 use Rattle.check_rows.specs.Below.{each_below, some_below}
 use Rattle.check_rows.specs.Rows.{row, among}
 use Rattle.check_state.specs.Stamps.{stamped, Under}
@@ -145,34 +145,31 @@ not_stamped stamps stamp p u = ne_eqb (get_or stamps p 0) stamp (λ e. let h = u
 
 -- the places of a dispatcher, its counts read before, tested with a stamp that is not carried yet
 module _ (ws : List ℕ) (e at : ℕ) {count n m cursor : ℕ} (ring : count ≡ get_or ws (at + 11) 0) (flight : n ≡ get_or ws (at + flight_in e) 0)
-    (queue : m ≡ get_or ws (at + 173) 0) (top : cursor ≡ get_or ws (at + 3) 0) where
+    (queue : m ≡ get_or ws (at + 173) 0) (top : cursor ≡ get_or ws (at + 3) 0)
+    {start : ℕ} (starts : start ≡ at + held_in e 0) where
   -- its parts
   parts : places_right ws e at
-      ≡ (holders_right ws (at + 12) count (at + 175 + e) n
-      && (fresh_places ws (at + 176 + e) 2 n cursor (λ p. false) && fresh_places ws (at + 174) 1 m cursor (λ p. among ws (at + 176 + e) 2 n p)))
+      ≡ (holders_right ws (at + 12) count start n
+      && (fresh_places ws (start + 1) 2 n cursor (λ p. false) && fresh_places ws (at + 174) 1 m cursor (λ p. among ws (start + 1) 2 n p)))
   unfolding places_right
-  parts = rw (ring, flight, queue, top)
+  parts = rw (ring, flight, queue, top, starts)
 
   module _ {before mid : Stamps} (unused : Unused before) {r : Bool}
-      (first : Flown ws (at + 12) count (at + 175 + e) n cursor before mid r) where
-    -- where the positions in flight stand
-    place : at + 175 + e + 1 ≡ at + 176 + e
-    place = omega arith
-
+      (first : Flown ws (at + 12) count start n cursor before mid r) where
     -- whether they are fresh, and their holders in the ring
-    flight_answer : r ≡ (holders_right ws (at + 12) count (at + 175 + e) n && fresh_places ws (at + 176 + e) 2 n cursor (λ p. false))
+    flight_answer : r ≡ (holders_right ws (at + 12) count start n && fresh_places ws (start + 1) 2 n cursor (λ p. false))
     flight_answer =
         first.answer
-        ∙ ap (λ (b : Bool). holders_right ws (at + 12) count (at + 175 + e) n && b)
-        (rw place (fresh_seen ws (at + 176 + e) 2 n cursor (stamped before.list before.stamp) (λ p. false) (λ p h. not_stamped before.list before.stamp p unused)))
+        ∙ ap (λ (b : Bool). holders_right ws (at + 12) count start n && b)
+        (fresh_seen ws (start + 1) 2 n cursor (stamped before.list before.stamp) (λ p. false) (λ p h. not_stamped before.list before.stamp p unused))
 
     -- the two tests, and that of those queued
     grouped : places_right ws e at
-        ≡ (holders_right ws (at + 12) count (at + 175 + e) n && fresh_places ws (at + 176 + e) 2 n cursor (λ p. false)
-        && fresh_places ws (at + 174) 1 m cursor (λ p. among ws (at + 176 + e) 2 n p))
+        ≡ (holders_right ws (at + 12) count start n && fresh_places ws (start + 1) 2 n cursor (λ p. false)
+        && fresh_places ws (at + 174) 1 m cursor (λ p. among ws (start + 1) 2 n p))
     grouped =
-        parts ∙ sym (and_assoc (holders_right ws (at + 12) count (at + 175 + e) n) (fresh_places ws (at + 176 + e) 2 n cursor (λ p. false))
-        (fresh_places ws (at + 174) 1 m cursor (λ p. among ws (at + 176 + e) 2 n p)))
+        parts ∙ sym (and_assoc (holders_right ws (at + 12) count start n) (fresh_places ws (start + 1) 2 n cursor (λ p. false))
+        (fresh_places ws (at + 174) 1 m cursor (λ p. among ws (start + 1) 2 n p)))
 
     -- one of the two fails
     pub flight_wrong : r ≡ false → false ≡ places_right ws e at
@@ -183,6 +180,6 @@ module _ (ws : List ℕ) (e at : ℕ) {count n m cursor : ℕ} (ring : count ≡
     queue_decides room t second =
         passes (sym flight_answer ∙ t)
         (second.answer
-        ∙ fresh_seen ws (at + 174) 1 m cursor (stamped mid.list mid.stamp) (λ p. among ws (at + 176 + e) 2 n p)
-        (λ p h. (rw place at ((first.placed t).seen refl p (omega arith))) ∙ ap (λ (b : Bool). b || among ws (at + 176 + e) 2 n p) (not_stamped before.list before.stamp p unused)))
+        ∙ fresh_seen ws (at + 174) 1 m cursor (stamped mid.list mid.stamp) (λ p. among ws (start + 1) 2 n p)
+        (λ p h. (first.placed t).seen refl p (omega arith) ∙ ap (λ (b : Bool). b || among ws (start + 1) 2 n p) (not_stamped before.list before.stamp p unused)))
         ∙ sym grouped

@@ -1,10 +1,10 @@
 -- A dispatcher tested over words, part by part, and the room that its words take.
-use Rattle.std.specs.Prelude.{ℕ, ◌+◌, ◌*◌, ◌≤◌, ◌≡◌, Bool, ◌&&◌, ◌||◌, List, map, eqb, leb, ltb, length, get_or}
+use Rattle.std.specs.Prelude.{ℕ, ◌+◌, ◌≤◌, ◌≡◌, Bool, ◌&&◌, ◌||◌, List, map, eqb, leb, ltb, length, get_or}
 use Rattle.rules.specs.Permits.{least_total, most_total}
 use Rattle.rules.specs.Table.{all, distinct}
 use Rattle.rules.specs.State.{Dispatcher, State, same_pair}
 use Rattle.rules.specs.Valid.{is_byte, valid_dispatcher}
-use Rattle.layout.specs.Offsets.{dispatcher_words, ring_in, outside_in, queue_in, flight_in, marks_in}
+use Rattle.layout.specs.Offsets.{dispatcher_words, ring_in, outside_in, queue_in, flight_in, marks_in, mark_in}
 use Rattle.check_rows.specs.Rows.{rows_distinct}
 use Rattle.check_rows.specs.declared.PairRows.{PairRows}
 use Rattle.check_state.specs.Places.{places_right}
@@ -50,7 +50,7 @@ front_right ws e at entries = head_right ws at entries && (ring_right ws at && p
 -- what does: marks and outside ids
 unfoldable pub rest_right : List ℕ → ℕ → ℕ → ℕ → ℕ → Bool
 rest_right ws e at ledger entries =
-    marks_right ws ledger entries (at + 176 + 3 * e) (get_or ws (at + marks_in e) 0) && outside_right ws at ledger entries
+    marks_right ws ledger entries (at + mark_in e 0) (get_or ws (at + marks_in e) 0) && outside_right ws at ledger entries
 
 -- the dispatchers of a state: pairs distinct, each valid
 abbrev pub dispatchers_right : State → Bool

@@ -1,7 +1,7 @@
 -- The places of a dispatcher, tested over words: positions in flight and queued, told apart by the stamps that a pass puts
 -- on them.
 use Rattle.std.specs.Prelude.{ℕ, ◌+◌, ◌<◌, ◌≡◌, Bool, true, false, not, ◌&&◌, ◌||◌, List, ltb, get_or, set}
-use Rattle.layout.specs.Offsets.{ring_in, queue_in, flight_in}
+use Rattle.layout.specs.Offsets.{ring_in, queue_in, flight_in, held_in}
 use Rattle.check_rows.specs.Below.{each_below}
 use Rattle.check_rows.specs.Rows.{row, among}
 use Rattle.check_state.specs.Stamps.{stamped, Under}
@@ -60,10 +60,10 @@ FlownRows ring flight cursor before after r =
 -- the places of the dispatcher at an offset: holders in the ring, positions in flight and then queued fresh
 unfoldable pub places_right : List ℕ → ℕ → ℕ → Bool
 places_right ws e at =
-    holders_right ws (at + (ring_in + 1)) (get_or ws (at + ring_in) 0) (at + 175 + e) (get_or ws (at + flight_in e) 0)
-    && (fresh_places ws (at + 176 + e) 2 (get_or ws (at + flight_in e) 0) (get_or ws (at + 3) 0) (λ p. false)
+    holders_right ws (at + (ring_in + 1)) (get_or ws (at + ring_in) 0) (at + held_in e 0) (get_or ws (at + flight_in e) 0)
+    && (fresh_places ws (at + held_in e 0 + 1) 2 (get_or ws (at + flight_in e) 0) (get_or ws (at + 3) 0) (λ p. false)
     && fresh_places ws (at + (queue_in + 1)) 1 (get_or ws (at + queue_in) 0) (get_or ws (at + 3) 0)
-    (λ p. among ws (at + 176 + e) 2 (get_or ws (at + flight_in e) 0) p))
+    (λ p. among ws (at + held_in e 0 + 1) 2 (get_or ws (at + flight_in e) 0) p))
 
 -- what a test that stamps positions answers, and that it keeps to its stamp
 pub record Tested (before after : Stamps) (r right : Bool) : Type 0 where

@@ -5,7 +5,7 @@ ghost use Rattle.bits.specs.Four.{words};
 ghost use Rattle.check_rows.specs.Values.{pairs_ascend};
 ghost use Rattle.check_state.specs.Marks.{mark_fits, joined, marks_right, absent, outside_right};
 ghost use Rattle.check_state.specs.Dispatchers.{rest_right};
-ghost use Rattle.layout.specs.Offsets.{marks_in};
+ghost use Rattle.layout.specs.Offsets.{marks_in, mark_in};
 
 use super::dispatcher_at::DispatcherAt;
 use bits::UnackedBits;
@@ -71,14 +71,14 @@ impl DispatcherAt<'_> {
     // and no bit too high, unless one mark's is.
     fn marks_valid(&self) -> bool
         ensures { result ≡ marks_right self.now.store.now self.now.ledger.rows.first self.now.ledger.rows.count
-            (self.now.at + 176 + 3 * self.now.e) (get_or self.now.store.now (self.now.at + marks_in self.now.e) 0) }
+            (self.now.at + mark_in self.now.e 0) (get_or self.now.store.now (self.now.at + marks_in self.now.e) 0) }
     {
         let ledger = self.ledger.rows.first;
         let n = word(self.store, self.at + (MARKS_IN + MARKS_IN_E * self.e));
         if n != self.ledger.rows.count {
             return false;
         }
-        let first = self.at + MARK_IN + MARKS_IN_E * self.e;
+        let first = self.at + (MARK_IN + MARKS_IN_E * self.e);
         let mut batch = 0;
         let mut count = 0;
         let mut bits = UnackedBits::default();

@@ -74,7 +74,7 @@ impl DispatcherAt<'_> {
         };
         let held = Rows {
             store: self.store,
-            first: self.at + HELD_IN + self.e,
+            first: self.at + (HELD_IN + self.e),
             width: HELD_WORDS,
             count: word(self.store, self.at + (FLIGHT_IN + self.e)),
         };

@@ -5,6 +5,7 @@ use Prim.Native.Nat.{◌+◌, ◌*◌}
 use native.Mathlib.Omega.{arith}
 use lib.ListN.{get_or}
 use borrow.Author.Tests.{eq-eqb, ne_eqb}
+use Rattle.layout.specs.Offsets.{mark_in}
 use Rattle.bits.specs.Four.{words}
 use Rattle.check_rows.specs.Below.{each_below}
 use Rattle.check_state.specs.Marks.{mark_fits, mark_suits, marks_right}
@@ -25,8 +26,9 @@ pub returns-then-not-mark_fits : goal.returns-then-not-mark_fits
 unfolding marks_right
 returns-then-not-mark_fits c =
     let s = c.args.self.now in
-    let first = s.at + 176 + 3 * s.e in
-    rw (← c.word-n.ensures)
+    let first = s.at + (176 + 3 * s.e) in
+    let start : s.at + mark_in s.e 0 ≡ first = omega arith in
+    rw (start, ← c.word-n.ensures)
     (passes (eq-eqb c.word-n.result s.ledger.rows.count c.if-n-self.false)
     (run_stop s.store.now s.ledger.rows.first first c.word-n.result c.loop-i.i (omega arith)
     (answered_no c.mark_fits.ensures c.if-not-mark_fits.true) c.loop-i.invariant))
@@ -34,7 +36,7 @@ returns-then-not-mark_fits c =
 pub loop-i-preserved : goal.loop-i-preserved
 loop-i-preserved c =
     let s = c.args.self.now in
-    let first = s.at + 176 + 3 * s.e in
+    let first = s.at + (176 + 3 * s.e) in
     let now = c.if-next-batch in
     -- the run, after the batch size of the next entry was looked at: it is the entry's
     let run : (mark_fits now.count (words now.bits) now.batch ≡ each_below (mark_suits s.store.now s.ledger.rows.first first) c.loop-i.i)
@@ -54,6 +56,6 @@ pub returns : goal.returns
 unfolding marks_right
 returns c =
     let s = c.args.self.now in
-    let first = s.at + 176 + 3 * s.e in
+    let start : s.at + mark_in s.e 0 ≡ s.at + (176 + 3 * s.e) = omega arith in
     let e : c.loop-i.i ≡ c.word-n.result = omega arith in
-    rw (← c.word-n.ensures) (passes (eq-eqb c.word-n.result s.ledger.rows.count c.if-n-self.false) (c.mark_fits-2.ensures ∙ (rw e at c.loop-i.invariant)))
+    rw (start, ← c.word-n.ensures) (passes (eq-eqb c.word-n.result s.ledger.rows.count c.if-n-self.false) (c.mark_fits-2.ensures ∙ (rw e at c.loop-i.invariant)))
