@@ -31,7 +31,7 @@ rows_distinct ws first w n = none_alike (same_word ws first w) n
 abbrev pub row_second : List ℕ → ℕ → ℕ → ℕ → ℕ
 row_second ws first w j = get_or ws (first + j * w + 1) 0
 
--- whether one of n rows starts with two words
+-- whether one of n rows starts with two words; it shares `some_below` with `among`, and the tests of a row are all that differs
 unfoldable pub two_among : List ℕ → ℕ → ℕ → ℕ → ℕ → ℕ → Bool
 two_among ws first w n a b = some_below (λ j. eqb a (row ws first w j) && eqb b (row_second ws first w j)) n
 

@@ -98,7 +98,8 @@ impl Rows<'_> {
 impl PairRows<'_> {
     ghost use Rattle.check_rows.specs.Values.{second_of, pair_among, pairs_distinct, pairs_ascend, past_last};
 
-    // The second word of row i.
+    // The second word of row i. One function for both words would have one argument more at each of its 32 calls, and a bound
+    // of it in its contract.
     pub fn second(&self, i: usize) -> u64
         requires { i < self.now.rows.count }
         ensures { result ≡ second_of self.now i }

@@ -1,13 +1,15 @@
 -- The marks of a run of entries with one batch size, or-ed together: they fit exactly where each of them does. These are the
 -- steps of the loop of `marks_valid`.
-use mathlib.Core.Path.{◌≡◌, refl, sym, ap₂, ◌∙◌}
+use mathlib.Core.Path.{◌≡◌, refl, sym, ap, ap₂, ◌∙◌}
 use mathlib.Core.Bool.{Bool, true, false, ◌&&◌}
 use mathlib.Core.List.{List, [], ◌∷◌, map}
 use Prim.Native.Nat.{ℕ, ◌+◌, ◌-◌, ◌*◌, ◌^◌, ◌≤◌, min}
 use native.Mathlib.Omega.{arith}
 use lib.Bits.{bit_or, or_lt, or_add_and, and_le_l, and_le_r}
 use lib.Dec.{eqb, leb, ltb}
-use lib.ListN.{get_or}
+use lib.ListN.{length, get_or, take, drop}
+use lib.Seq.{get_or-drop}
+use Rattle.std.proofs.lemmas.List.{take_rest}
 use lib.Pow.{le_ones, lt_of_le_ones}
 use borrow.Author.Tests.{ltb-true, ltb-false, leb-true, leb-false, lt-ltb, le-ltb, le-leb, lt-leb}
 use Rattle.bits.specs.Bits.{bits_empty, bits_below}
@@ -112,3 +114,8 @@ module _ (ws : List ℕ) (ledger first : ℕ) where
   pub run_stop : (n i : ℕ) {t : Bool} → i ≤ n → t ≡ false → t ≡ each_below (mark_suits ws ledger first) i
       → false ≡ each_below (mark_suits ws ledger first) n
   run_stop n i l f e = sym (each_less (mark_suits ws ledger first) n i l (sym e ∙ f))
+
+-- bits joined with a mark that is lent
+pub joined_lent : (b : UnackedBits) (ws : List ℕ) (at : ℕ) {r : UnackedBits} → r ≡ joined b (take (length ws - at) (drop at ws)) 0 → r ≡ joined b ws at
+joined_lent b ws at q =
+    q ∙ ap (λ (us : List ℕ). joined b us 0) (take_rest ws at) ∙ rw (get_or-drop at ws 2 0, get_or-drop at ws 3 0, get_or-drop at ws 4 0, get_or-drop at ws 5 0)

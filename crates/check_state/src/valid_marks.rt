@@ -34,16 +34,16 @@ fn mark_fits(count: u64, bits: UnackedBits, batch: u64) -> bool
     bits.bits_below(batch)
 }
 
-// The bits together with those of the mark at `at`.
-fn joined(bits: UnackedBits, store: &[u64], at: usize) -> UnackedBits
-    requires { at + 6 ≤ length store.now }
-    ensures { result ≡ joined bits store.now at }
+// The bits together with those of the mark that words begin with.
+fn joined(bits: UnackedBits, mark: &[u64]) -> UnackedBits
+    requires { 6 ≤ length mark.now }
+    ensures { result ≡ joined bits mark.now 0 }
 {
     UnackedBits {
-        w0: bits.w0 | store[at + BITS_IN],
-        w1: bits.w1 | store[at + BITS_1_IN],
-        w2: bits.w2 | store[at + BITS_2_IN],
-        w3: bits.w3 | store[at + BITS_3_IN],
+        w0: bits.w0 | mark[BITS_IN],
+        w1: bits.w1 | mark[BITS_1_IN],
+        w2: bits.w2 | mark[BITS_2_IN],
+        w3: bits.w3 | mark[BITS_3_IN],
     }
 }
 
@@ -94,7 +94,7 @@ impl DispatcherAt<'_> {
             }
             let at = first + i * MARK_WORDS;
             count |= self.store[at + REDELIVERY_COUNT_IN];
-            bits = joined(bits, self.store, at);
+            bits = joined(bits, &self.store[at..]);
         }
         mark_fits(count, bits, batch)
     }

@@ -10,7 +10,7 @@ use Rattle.bits.specs.Four.{words}
 use Rattle.check_rows.specs.Below.{each_below}
 use Rattle.check_state.specs.Marks.{mark_fits, mark_suits, marks_right}
 use Rattle.store.proofs.Tests.{fails, passes, answered_no, answered_yes}
-use Rattle.check_state.proofs.MarkRuns.{fits_none, run_turn, run_stop}
+use Rattle.check_state.proofs.MarkRuns.{joined_lent, fits_none, run_turn, run_stop}
 use Rattle.check_state.proofs.dispatcher_at.DispatcherAt.marks_valid.Goals as goal
 use Rattle.check_state.proofs.dispatcher_at.DispatcherAt.marks_valid.Goals.{then-next-batch+else-not-mark_fits, else-next-batch}
 
@@ -50,7 +50,8 @@ loop-i-preserved c =
       )
       | else-next-batch w ↦ (rw (w.batch-is, w.count-is, w.bits-is) c.loop-i.invariant, w.batch-is ∙ sym w.if-next-batch.false)
     ] in
-    run_turn s.store.now s.ledger.rows.first first c.loop-i.i now.count now.batch now.bits c.joined-bits.result run.0 run.1 c.joined-bits.ensures
+    run_turn s.store.now s.ledger.rows.first first c.loop-i.i now.count now.batch now.bits c.joined-bits.result run.0 run.1
+    (joined_lent now.bits s.store.now (first + c.loop-i.i * 6) c.joined-bits.ensures)
 
 pub returns : goal.returns
 unfolding marks_right
