@@ -1,12 +1,21 @@
--- A line's row: the answers and the list that are lent are the first words of arrays of zeros, as many as the line says.
+-- A line's row: the answers and the list that are lent are the first words of arrays of zeros, as many as the line says; and each record
+-- of the script of a row that is done is a call.
+use Rattle.std.specs.Prelude.{cond}
 use Prim.Native.Nat.{ℕ, zero, suc, ◌-◌, ◌*◌, ◌≤◌, ◌<◌, min}
 use mathlib.Core.Path.{◌≡◌, refl, ap, ap₂, ◌∙◌}
+use mathlib.Core.Bool.{Bool, true, false}
 use mathlib.Core.List.{List, ◌∷◌}
+use mathlib.Core.Option.{Option, none, some}
 use native.Mathlib.Omega.{arith}
 use lib.ListN.{length, get_or, take, drop, replicate}
 use borrow.Author.Tests.{lt-ltb, le-ltb}
 use Rattle.std.proofs.lemmas.List.{take_rest}
-use Rattle.row.specs.Row.{words_left, RowLeft}
+use Rattle.rules.specs.Table.{is_some}
+use Rattle.rules.specs.Calls.{Call, number_in}
+use Rattle.layout.specs.Layout.{spells}
+use Rattle.row.specs.Script.{script_calls}
+use Rattle.row.specs.Row.{words_left, RowLeft, row, row_of, row_answer}
+use Rattle.row.specs.Row.Row.{refused_row}
 use Rattle.cases_rows.specs.Line.{row_line_after}
 
 -- the first of some zeros are zeros
@@ -21,6 +30,17 @@ pub with_zeros : {ws script us answers list : List ℕ} {a room r : ℕ} → (a 
     → us ≡ words_left ws script (replicate a 0) (replicate room 0)
 with_zeros {ws} {script} {a = a} {room = room} h e =
     e.words ∙ ap₂ (λ (answers list : List ℕ). words_left ws script answers list) (first_zeros a 64 h.0) (first_zeros room 832 h.1)
+
+-- each record of the script of a row that is done is a call
+pub done_has_calls : {ws script us answers list answers_left list_left : List ℕ} {r n : ℕ}
+    → RowLeft ws script answers list r us answers_left list_left → n ≡ number_in r → n ≡ 0 → is_some (script_calls script) ≡ true
+unfolding row row_of row_answer number_in is_some
+done_has_calls {ws} {script} {answers = answers} {r = r} {n = n} e number done = go (spells ws) (script_calls script) e.answer
+  where
+    go : (t : Bool) (o : Option (List Call)) → r ≡ row_answer (cond t (row_of (length answers) o) (refused_row 1 0)) → is_some o ≡ true
+    go t (some calls) h = refl
+    go true none h = absurd (omega (arith, h, number, done))
+    go false none h = absurd (omega (arith, h, number, done))
 
 module _ (ws line : List ℕ) where
   -- without the two numbers the words stay

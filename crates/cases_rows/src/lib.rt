@@ -4,17 +4,20 @@
 // is that of a write.
 #![tactic(auto)]
 
-ghost use Rattle.std.specs.Prelude.{◌≡◌, ◌*◌, ◌≤◌, min, length, replicate};
+ghost use Rattle.std.specs.Prelude.{◌≡◌, ◌*◌, ◌≤◌, min, replicate, true};
+ghost use Rattle.rules.specs.Table.{is_some};
+ghost use Rattle.row.specs.Script.{script_calls};
 ghost use Rattle.row.specs.Row.{words_left};
 ghost use Rattle.cases_rows.specs.Line.{row_line_after};
 
 use broker::rows::broker_calls;
 use cases_line::name::Name;
-use cases_line::word_or_zero;
 use cases_show::{show_outcome, show_records};
 use record::RECORD_WORDS;
+use row_script::calls::Calls;
 use std::io;
 use told::{number_in, value_in};
+use trace_form::command_of;
 use trace_kind::Command;
 
 // Makes the row of a line and prints what it gave; without the two numbers no row is made.
@@ -53,52 +56,39 @@ fn replay_script(
     let answer = broker_calls(store, script, &mut answers[..a], &mut list[..room]);
     show_outcome(rt, Some(Name::Row), Some(answer))?;
     if number_in(answer) == 0 {
-        return show_calls(rt, script, &answers, &list, value_in(answer));
+        return show_calls(rt, script, &answers, &list);
     }
     Ok(())
 }
 
-// The calls of a script, numbered from 1, of which there are `count`. The records of its pushes stand in
-// the list one push after the other.
-fn show_calls(
-    rt: &impl Print,
-    script: &[u64],
-    answers: &[u64],
-    list: &[u64],
-    count: u64,
-) -> io::Result<()> {
-    let mut at = 0;
+// The calls of a script, each a call, numbered from 1. The records of its pushes stand in the list one push after the other.
+fn show_calls(rt: &impl Print, script: &[u64], answers: &[u64], list: &[u64]) -> io::Result<()>
+    requires { is_some (script_calls script.now) ≡ true }
+{
     let mut rest = list;
-    for call in 0..count.min(64) as usize {
-        let command = Command::try_from(word_or_zero(script, at)).ok();
-        let answer = word_or_zero(answers, call);
-        show_call(rt, call + 1, command, answer)?;
-        rest = show_pushed(rt, command, answer, rest)?;
-        at = next_record(script, at);
+    for (i, (call, answer)) in (Calls { script }).zip(answers).enumerate() {
+        let command = command_of(call);
+        show_call(rt, i + 1, command, *answer)?;
+        rest = show_pushed(rt, command, *answer, rest)?;
     }
     Ok(())
 }
 
 // A line: a call's number, and what it gave.
-fn show_call(
-    rt: &impl Print,
-    number: usize,
-    command: Option<Command>,
-    answer: u64,
-) -> io::Result<()> {
+fn show_call(rt: &impl Print, number: usize, command: Command, answer: u64) -> io::Result<()> {
     print!(rt; "  {number}: ")?;
-    show_outcome(rt, command.map(|command| Name::Call(command)), Some(answer))
+    show_outcome(rt, Some(Name::Call(command)), Some(answer))
 }
 
 // The records of a call, which stand at the start of a list if it is a push that was done; answers what stands
 // behind them.
 fn show_pushed<'a>(
     rt: &impl Print,
-    command: Option<Command>,
+    command: Command,
     answer: u64,
     list: &'a [u64],
 ) -> io::Result<&'a [u64]> {
-    if command != Some(Command::Push) || number_in(answer) != 0 {
+    if command != Command::Push || number_in(answer) != 0 {
         return Ok(list);
     }
     let made = value_in(answer);
@@ -107,21 +97,4 @@ fn show_pushed<'a>(
         list.split_at((made as usize * RECORD_WORDS).min(list.len()))
             .1,
     )
-}
-
-// Where the record after the one at a place begins: behind a kind, a count and as many words. The
-// script's end where there is no such place.
-fn next_record(script: &[u64], at: usize) -> usize
-    requires { at ≤ length script.now }
-    ensures { result ≤ length script.now }
-{
-    let left = script.len() - at;
-    if left < 2 {
-        return script.len();
-    }
-    let count = script[at + 1];
-    if count > (left - 2) as u64 {
-        return script.len();
-    }
-    at + 2 + count as usize
 }

@@ -2,8 +2,9 @@
 // function here is that of a write.
 #![tactic(auto)]
 
+use bits::UnackedBits;
 use cases_line::name::Name;
-use record::{RECORD_WORDS, signed};
+use record::{Dispatch, RECORD_WORDS, read_record, signed};
 use std::io;
 use told::{number_in, value_in};
 use trace_kind::Command;
@@ -73,38 +74,39 @@ pub fn show_twin(rt: &impl Print, same: bool) -> io::Result<()> {
 pub fn show_records(rt: &impl Print, list: &[u64], count: u64) -> io::Result<()> {
     let (records, _) = list.as_chunks::<RECORD_WORDS>();
     for record in records.iter().take(count as usize) {
-        show_record(rt, record)?;
+        show_dispatch(rt, read_record(record))?;
     }
     Ok(())
 }
 
-// A record, as its words.
-fn show_record(rt: &impl Print, record: &[u64; RECORD_WORDS]) -> io::Result<()> {
-    show_message(rt, record)?;
-    show_ack_set(rt, record)?;
-    show_field(rt, "] redelivery_count ", record[10])?;
-    show_field(rt, " cost ", record[11])?;
-    println!(rt; " permits {}", record[12].cast_signed())
+// A dispatch, in the order of its record.
+fn show_dispatch(rt: &impl Print, dispatch: Dispatch) -> io::Result<()> {
+    show_message(rt, dispatch)?;
+    show_ack_set(rt, dispatch)?;
+    show_field(rt, "] redelivery_count ", dispatch.redelivery_count)?;
+    show_field(rt, " cost ", dispatch.cost)?;
+    println!(rt; " permits {}", dispatch.permits.cast_signed())
 }
 
 // Who is sent what.
-fn show_message(rt: &impl Print, record: &[u64; RECORD_WORDS]) -> io::Result<()> {
-    show_field(rt, "  + ", record[0])?;
-    show_field(rt, ": id (", record[1])?;
-    show_field(rt, ",", record[2])?;
-    show_field(rt, ") handle ", record[3])?;
-    show_field(rt, " batch ", record[4])
+fn show_message(rt: &impl Print, dispatch: Dispatch) -> io::Result<()> {
+    show_field(rt, "  + ", dispatch.consumer)?;
+    show_field(rt, ": id (", dispatch.ledger)?;
+    show_field(rt, ",", dispatch.entry)?;
+    show_field(rt, ") handle ", dispatch.handle)?;
+    show_field(rt, " batch ", dispatch.batch_size)
 }
 
 // As many of the four ack set words as count.
-fn show_ack_set(rt: &impl Print, record: &[u64; RECORD_WORDS]) -> io::Result<()> {
+fn show_ack_set(rt: &impl Print, dispatch: Dispatch) -> io::Result<()> {
     print!(rt; " ack_set [")?;
-    let count = record[5].min(4) as usize;
-    for i in 0..count {
+    let UnackedBits { w0, w1, w2, w3 } = dispatch.ack_set;
+    let words = [w0, w1, w2, w3];
+    for i in 0..dispatch.ack_set_words.min(4) as usize {
         if i > 0 {
             print!(rt; ", ")?;
         }
-        print!(rt; "{}", record[6 + i])?;
+        print!(rt; "{}", words[i])?;
     }
     Ok(())
 }
