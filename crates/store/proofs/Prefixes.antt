@@ -60,15 +60,6 @@ all_steps {A} p = record { none = refl; more = more }
     more [] a = and-true (p a)
     more (b ∷ l) a = ap (λ (x : Bool). p b && x) (more l a) ∙ sym (and_assoc (p b) (all p l) (p a))
 
--- no element passes
-pub none_steps : {A : Type 0} (q : A → Bool) → Stepwise (λ l. not (any q l)) (λ l a. not (q a))
-unfolding any
-none_steps {A} q = record { none = refl; more = more }
-  where
-    more : (l : List A) (a : A) → not (any q (l ++ a ∷ [])) ≡ (not (any q l) && not (q a))
-    more [] a = by_test (q a) (λ t. rw t) (λ t. rw t)
-    more (b ∷ l) a = by_test (q b) (λ t. rw t) (λ t. rw t (more l a))
-
 -- both of two tests pass
 pub both_steps : {A : Type 0} {T U : List A → Bool} {S R : List A → A → Bool} → Stepwise T S → Stepwise U R
     → Stepwise (λ l. T l && U l) (λ l a. S l a && R l a)
