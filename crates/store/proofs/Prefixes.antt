@@ -1,14 +1,13 @@
 -- Tests of a list that go element by element, as a loop makes them: where the elements before a place pass, the test of
 -- the next one decides whether those up to it pass, and one that fails decides for the whole list.
 use mathlib.Core.Path.{◌≡◌, refl, sym, ap, ap₂, ◌∙◌}
-use mathlib.Core.Bool.{Bool, true, false, not, ◌&&◌, and_assoc, and-true}
+use mathlib.Core.Bool.{Bool, true, false, ◌&&◌, and_assoc, and-true}
 use mathlib.Core.List.{List, [], ◌∷◌, ◌++◌, map, append-nil}
 use Prim.Native.Nat.{ℕ, suc, ◌+◌, ◌≤◌, ◌<◌}
 use native.Mathlib.Numerals.{add-one}
 use lib.ListN.{length, get_or, take, drop}
 use lib.Seq.{take-suc, take_all, append_snoc, split_at}
-use Rattle.rules.specs.Table.{all, any}
-use Rattle.rules.proofs.Table.{by_test}
+use Rattle.rules.specs.Table.{all}
 
 -- a test of lists by a test of each element, which may look at those before it
 pub record Stepwise {A : Type 0} (T : List A → Bool) (S : List A → A → Bool) : Type 0 where
