@@ -9,8 +9,9 @@ ghost use Rattle.bits.specs.Bits.{fresh_unacked_bits, and_into, bits_empty, bits
 ghost use Rattle.bits.specs.Four.{four, words};
 ghost use Rattle.bits.specs.Masks.{mask};
 
-// Four fields and no array: in clauses an array is a list of any length, and each fact about a mark or a record would have
-// to add that it is four; four fields say it by themselves. The default is the empty set.
+// Four fields and no array: the rules' own state holds this type (`Acked` in rules/specs/State.antt), so its form is part of
+// what is promised; and an array, in clauses a list of any length, would need a ghost field that says four. The default is
+// the empty set.
 #[derive(Clone, Copy, Default)]
 pub struct UnackedBits {
     pub w0: u64,

@@ -118,10 +118,7 @@ pub fn topics_valid(store: &[u64], e: usize) -> Option<ValidTopics<'_>>
         if find_topic(store, e, store[topic_at(e, t)]) < t {
             return None;
         }
-        let Some(known) = topic_order(store, e, t) else {
-            return None;
-        };
-        ascend[t] = known;
+        ascend[t] = topic_order(store, e, t)?;
     }
     Some(ValidTopics { store, e, ascend })
 }

@@ -8,7 +8,9 @@ use store::offsets::{MESSAGE_IN, MESSAGE_WORDS, MESSAGES_IN, topic_at};
 use store::stretch::word;
 use topic::table::existing_topic;
 
-// Topics that are valid, and of each whether its ids are known to ascend.
+// Topics that are valid, and of each slot whether its ids are known to ascend: one beside each, as the words of a topic have no
+// place for it. That the store is spelt as it should be is asked where it is used and is no ghost field: its definition goes by
+// recursion (`All`), so it is not found to be a proposition.
 #[derive(Clone, Copy)]
 pub struct ValidTopics<'a> {
     pub store: &'a [u64],

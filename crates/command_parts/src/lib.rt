@@ -40,7 +40,8 @@ impl From<u64> for Kind {
     }
 }
 
-// Where a seek goes: the start, or the id of a message by ledger and entry: two numbers, as words and bytes have it.
+// Where a seek goes: the start, or the id of a message by ledger and entry: two numbers, since three of the four users read them
+// from words or bytes or write them as words, and only a seek makes an id of them.
 #[derive(Clone, Copy, Debug, PartialEq, Eq)]
 pub enum Target {
     Start,

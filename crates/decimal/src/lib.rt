@@ -1,6 +1,7 @@
 // Numbers as text, written into a lent buffer of bytes: decimal digits in ASCII, a minus before a negative number. Each
 // writer lays its bytes from a place on and answers the place after them. The digits are counted first, and then laid from
-// the last to the first. Not by `Display`, which writes to a text of its own that would be copied into the buffer.
+// the last to the first. Not by `Display`: its writer would be a struct that holds the lent
+// buffer, whose cost the next lines tell, and each number written would answer an error that cannot come.
 // Each writer takes the whole buffer and a place in it: over the rest of the buffer alone each call would lend a part and add what
 // it answers to the place, and a struct that holds the buffer costs each contract a clause that it still holds the same one.
 #![tactic(auto)]

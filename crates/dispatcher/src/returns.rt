@@ -26,8 +26,9 @@ fn return_or_keep(store: &mut [u64], e: usize, d: usize, id: u64, j: usize, kept
 }
 
 // What `id` holds of dispatcher `d` goes to the end of the queue, in the order in which it was dispatched; the
-// others move to the front in theirs. Not one function with `drop_complete` and a test as a closure: this pass writes
-// the queue between two entries, so a closure would need the store that the pass writes.
+// others move to the front in theirs. Not one function with `drop_complete` and a step as a closure: this pass writes the
+// queue between two entries, so the step would be lent the store and the pass need a clause on what any such step makes of it
+// (the entries to come kept, the queue grown): more than the loop of three lines that it would spare.
 pub fn return_held(store: &mut [u64], e: usize, d: usize, id: u64)
     requires { DispatcherIn e store.old d
         × (length (dispatcher_now store.old d).redelivery + length (dispatcher_now store.old d).in_flight ≤ e) }

@@ -19,14 +19,12 @@ use row_script::count_calls;
 use told::dispatches;
 use trace_call::answer_call;
 use trace_form::{Call, command_of};
-use trace_kind::Command;
 
 // How many words of its list a call filled, by its answer.
 fn words_filled(call: Call, answer: Answer) -> usize
     ensures { result ≡ words_filled (kind_of (as_call 0 call.entry)) (word_of answer) }
 {
-    let command: Command = command_of(call);
-    dispatches(u64::from(command), answer) as usize * RECORD_WORDS
+    dispatches(command_of(call), answer) as usize * RECORD_WORDS
 }
 
 // Makes the calls of a script and writes their answers; each push is given what is left of the list.

@@ -92,9 +92,6 @@ pub const NACKED_IN: usize = 6;
 // The nacked positions.
 pub const NACKED_LIST_IN: usize = 7;
 
-// Those of consumer 0, from the first word of the store.
-pub const NACKED_LISTS_AT: usize = CONSUMERS_AT + NACKED_LIST_IN;
-
 // The reserved word.
 pub const CONSUMER_RESERVED_IN: usize = 71;
 
@@ -108,9 +105,6 @@ pub const MESSAGES_IN: usize = 3;
 
 // Message 0 (message-in).
 pub const MESSAGE_IN: usize = 4;
-
-// That of topic 0, from the first word of the store.
-pub const MESSAGES_AT: usize = TOPICS_AT + MESSAGE_IN;
 
 // The words of a message: ledger, entry, handle, batch size.
 pub const MESSAGE_WORDS: usize = 4;

@@ -3,6 +3,7 @@
 
 ghost use Rattle.std.specs.Prelude.{◌≡◌};
 ghost use Rattle.rules.specs.Calls.{number_in, value_in};
+ghost use Rattle.trace_kind.specs.Commands.{number_of};
 ghost use Rattle.refusal.specs.Words.{word_of};
 ghost use Rattle.told.specs.Told.{made_told, dispatches_told};
 
@@ -48,8 +49,8 @@ pub fn dispatches_in(kind: u64, word: u64) -> u64
 }
 
 // How many dispatches an answer tells of. Its word is asked, since the value is told modulo 2^56, a limit that `refusal` keeps to itself.
-pub fn dispatches(kind: u64, answer: Answer) -> u64
-    ensures { result ≡ dispatches_told kind (word_of answer) }
+pub fn dispatches(command: Command, answer: Answer) -> u64
+    ensures { result ≡ dispatches_told (number_of command) (word_of answer) }
 {
-    dispatches_in(kind, word_of(answer))
+    dispatches_in(u64::from(command), word_of(answer))
 }

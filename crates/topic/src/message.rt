@@ -9,7 +9,8 @@ use store::offsets::{
     BATCH_IN, ENTRY_IN, FIRST_BATCH_IN, HANDLE_IN, MESSAGE_IN, MESSAGE_WORDS, topic_at,
 };
 
-// A message by the words of its record. Its id stands as two of them, as it does in the record that a push writes.
+// A message by the words of its record. Its id stands as two of them: both readers of a message write these into the record of
+// a push, and only an append, which is given two numbers, makes an id of them.
 #[derive(Clone, Copy)]
 pub struct StoredMessage {
     pub ledger: u64,

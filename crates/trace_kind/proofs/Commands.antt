@@ -1,11 +1,10 @@
 -- A number that is read as a command is that command's, and no call has another number.
-use Rattle.std.proofs.Common.{◌≡◌, ℕ, Bool, true, false, List, Result, Ok, Err, IsOk, refl, sym, ap, ◌∙◌}
+use Rattle.std.proofs.Common.{◌≡◌, ℕ, Bool, true, false, List, Result, Ok, Err, refl, sym, ap, ◌∙◌}
 use mathlib.Core.Bool.{cond}
 use mathlib.Core.Option.{Option, none, bind}
 use lib.Dec.{eqb}
 use borrow.Author.Tests.{eqb-true}
 use Rattle.refusal.specs.declared.Refusal.{Refusal}
-use Rattle.rules.specs.Table.{is_some}
 use Rattle.rules.specs.Calls.{Call}
 use Rattle.trace.specs.Calls as trace
 use Rattle.trace.specs.Calls.{call_from, call_of, that_fits}
@@ -57,9 +56,3 @@ no_call {r} {e} room n ws is h =
     (one_kind (eqb n trace.REDELIVER) Redeliver e _ _ _
     (one_kind (eqb n trace.CLOSE) Close e _ _ _
     (one_kind (eqb n trace.PUSH) Push e _ _ none (λ k. refl)))))))) (sym is ∙ h))
-
--- so the number of a call is a command's
-pub is_command : {r : Result Command Refusal} (room n : ℕ) (ws : List ℕ) → r ≡ command_of n → is_some (call_of room n ws) ≡ true → IsOk r
-unfolding is_some
-is_command {r = Ok c} room n ws e h = refl
-is_command {r = Err f} room n ws e h = absurd (let none_there = no_call room n ws e refl in let z : false ≡ true = sym (ap is_some none_there) ∙ h in cc)

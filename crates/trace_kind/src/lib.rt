@@ -1,4 +1,4 @@
-// The kinds of a call in a trace or a script, as `trace/specs/Calls.antt` numbers them, and the widths of its fields.
+// The kinds of a call in a trace or a script, as `trace/specs/Calls.antt` numbers them.
 #![tactic(auto)]
 
 ghost use Rattle.std.specs.Prelude.{◌≡◌};
@@ -55,8 +55,3 @@ impl TryFrom<u64> for Command {
         }
     }
 }
-
-// The largest numbers of a field of 8 and of 32 bits.
-pub const MOST_8: u64 = 255;
-
-pub const MOST_32: u64 = 4_294_967_295;
