@@ -18,14 +18,6 @@ pub record Wanted : Type 0 where
 abbrev pub wanted_of : ℕ → Wanted
 wanted_of tag = record { number = tag / 8; wire = tag % 8 }
 
--- a number that is read as a varint
-abbrev pub varint_of : ℕ → Wanted
-varint_of n = record { number = n; wire = 0 }
-
--- a number that is read as a part
-abbrev pub part_of : ℕ → Wanted
-part_of n = record { number = n; wire = 2 }
-
 -- nothing was seen yet
 abbrev pub nothing_seen : Seen
 nothing_seen = record { count = 0; content = 0; next = 0 }

@@ -1,15 +1,15 @@
 // One walk over all fields of a message that keeps what stands under some numbers. A number is asked for by the tag that its field
 // has, number × 8 + wire type.
 ghost use Rattle.std.specs.Prelude.{◌≡◌};
-ghost use Rattle.wire_fields.specs.Picked.{wanted_of, nothing_seen, content_of, seen_field, all_seen, picked};
+ghost use Rattle.wire_fields.specs.Picked.{wanted_of, content_of, seen_field, all_seen, picked};
 
 use super::field::{Field, VARINT, WIRE_TYPES};
 use super::fields::Fields;
 
 // What was seen under a number: how many fields, MANY where one had another wire type; and of the last its number or where its
 // bytes begin, and where it ends. A field of another wire type counts as too many fields, since every reader refuses both
-// alike.
-#[derive(Clone, Copy)]
+// alike. Its default is that nothing was seen yet.
+#[derive(Clone, Copy, Default)]
 pub struct Seen {
     pub count: u64,
     pub content: u64,
@@ -31,17 +31,6 @@ fn content_of(f: Field) -> u64
 }
 
 impl Seen {
-    // Nothing was seen yet.
-    fn nothing() -> Seen
-        ensures { result ≡ nothing_seen }
-    {
-        Seen {
-            count: 0,
-            content: 0,
-            next: 0,
-        }
-    }
-
     // One field more.
     #[tactic(auto, unfolding(crate::specs::Picked::seen_field, crate::specs::Picked::seen_with))]
     fn with(self, wanted: u64, f: Field) -> Seen
@@ -83,7 +72,7 @@ fn all_with<const N: usize>(seen: [Seen; N], tags: [u64; N], f: Field) -> [Seen;
 pub fn pick<const N: usize>(m: &[u8], tags: [u64; N]) -> Option<[Seen; N]>
     ensures { result ≡ picked m.now tags.entry }
 {
-    let mut seen = [Seen::nothing(); N];
+    let mut seen = [Seen::default(); N];
     for field in Fields::of(m) {
         seen = all_with(seen, tags, field?);
     }

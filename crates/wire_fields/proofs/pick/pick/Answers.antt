@@ -1,5 +1,6 @@
 -- `wire_fields::pick::pick` meets its contract: what was seen so far and the fields that are left are what is picked (`Partly`).
-use Rattle.std.proofs.Common.{◌≡◌, length, rules}
+use Rattle.std.proofs.Common.{◌≡◌, length, rules, refl}
+use Rattle.wire_fields.specs.Picked.{nothing_seen}
 use Rattle.wire_fields.proofs.Walks.{at_start, on, off, ended, partly_start, partly_end, partly_bad, partly_on}
 use Rattle.wire_fields.proofs.pick.pick.Goals as goal
 
@@ -8,7 +9,9 @@ loop-field-init g c =
     let a = c.args in
     let s = c.of-field-items.ensures in
     let n : g.row.N ≡ length a.tags = search rules in
-    rw (c.into_iter-field-iterator.ensures.into_iter_gives, c.nothing-seen.ensures, n)
+    let d = c.default-seen.ensures in
+    let none : c.default-seen.result ≡ nothing_seen = rw (d.0, d.1.0, d.1.1) refl in
+    rw (c.into_iter-field-iterator.ensures.into_iter_gives, none, n)
     (at_start s, rw s.1 (partly_start a.m.now a.tags))
 
 pub returns-in_err-field : goal.returns-in_err-field
