@@ -1,12 +1,14 @@
 -- Lines written: numbers with a character after them, a dispatch's line, and lines one after the other.
 use Rattle.std.proofs.Common.{◌≡◌, ℕ, suc, ◌+◌, ◌-◌, ◌*◌, ◌%◌, ◌^◌, ◌<◌, ◌≤◌, List, ◌++◌, get_or, drop, set, length}
-use Rattle.std.proofs.Common.{refl, ap, ◌∙◌, add-zero, arith, get_or-drop, drop-drop}
+use Rattle.std.proofs.Common.{refl, ap, ◌∙◌, add-zero, arith, drop-drop}
 use lib.Seq.{drop-cons}
 use lib.ListN.{drop_of_length-le}
 use lib.IntN.{sub_ℕ}
 use Rattle.words.specs.Wrote.{Wrote}
 use Rattle.words.proofs.Writers.{wrote_byte, wrote_within, and_then, Left, left_start, left_on, left_end}
 use Rattle.rules.specs.Permits.{reading, zero_permits}
+use Rattle.record.specs.declared.Dispatch as declared
+use Rattle.record.specs.Flat.{record_at}
 use Rattle.rules.specs.Push.{record_read, records_read}
 use Rattle.rules.specs.Calls.{number_in}
 use Rattle.decimal.specs.Decimal.{decimal, integer}
@@ -48,14 +50,19 @@ text_end {at = at} text e l =
 
 -- ---- the line of a dispatch
 
--- its five parts, from the words of a list
-pub dispatch_wrote : {a b c d e f : List ℕ} {at p q r s end : ℕ} (list : List ℕ) (from : ℕ)
-    → Wrote 2 a at PLUS_AND_BLANK b p → Wrote 21 b p (number_and (get_or list from 0) BLANK) c q
-    → Wrote 21 c q (number_and (get_or list (from + 1) 0) BLANK) d r → Wrote 21 d r (number_and (get_or list (from + 2) 0) BLANK) e s
-    → Wrote 22 e s (permits_text (get_or list (from + 12) 0)) f end → Wrote 87 a at (dispatch_line (record_read (drop from list))) f end
-unfolding dispatch_line record_read permits_text
-dispatch_wrote list from v w x y z =
-    rw (get_or-drop from list 0 0, get_or-drop from list 1 0, get_or-drop from list 2 0, get_or-drop from list 12 0, add-zero from)
+-- its five parts, from the fields of the record that its words spell
+pub dispatch_wrote : {a b c d e f : List ℕ} {at p q r s end : ℕ} {x : declared.Dispatch} (ws : List ℕ) → x ≡ record_at ws 0
+    → Wrote 2 a at PLUS_AND_BLANK b p → Wrote 21 b p (number_and x.consumer BLANK) c q
+    → Wrote 21 c q (number_and x.ledger BLANK) d r → Wrote 21 d r (number_and x.entry BLANK) e s
+    → Wrote 22 e s (permits_text x.permits) f end → Wrote 87 a at (dispatch_line (record_read ws)) f end
+unfolding dispatch_line record_read permits_text record_at
+dispatch_wrote ws read v w x y z =
+    rw (
+      ← ap (λ (t : declared.Dispatch). t.consumer) read,
+      ← ap (λ (t : declared.Dispatch). t.ledger) read,
+      ← ap (λ (t : declared.Dispatch). t.entry) read,
+      ← ap (λ (t : declared.Dispatch). t.permits) read,
+    )
     (and_then (and_then (and_then (and_then v w) x) y) z)
 
 -- ---- lines one after the other

@@ -14,7 +14,7 @@ ghost use Rattle.told.specs.Told.{dispatches_told};
 ghost use Rattle.trace_lines.specs.Told.{lines_bytes, permits_text, text_told};
 
 use decimal::{write_decimal, write_difference};
-use record::RECORD_WORDS;
+use record::{RECORD_WORDS, read_record};
 use std::num::wrapping_add_u64;
 use store::permits::ZERO_PERMITS;
 use told::{dispatches_in, number_in};
@@ -33,13 +33,6 @@ const LINE_BYTES: usize = 84;
 const DISPATCH_BYTES: usize = 87;
 
 pub const LINES_BYTES: usize = LINE_BYTES + 32 * DISPATCH_BYTES;
-
-// The places of what is printed of a dispatch's record, behind the consumer.
-const LEDGER: usize = 1;
-
-const ENTRY: usize = 2;
-
-const PERMITS: usize = 12;
 
 // Writes a number and a character after it.
 fn write_number(buffer: &mut [u8], at: usize, number: u64, mark: u8) -> usize
@@ -89,11 +82,12 @@ fn write_dispatch(buffer: &mut [u8], at: usize, list: &[u64], from: usize) -> us
     requires { (at + 87 ≤ length buffer.old) × (from + 13 ≤ length list.now) }
     ensures { Wrote 87 buffer.old at (dispatch_line (record_read (drop from list.now))) buffer.new result }
 {
+    let dispatch = read_record(&list[from..]);
     let after_plus = write_text(buffer, at, &[PLUS, BLANK]);
-    let after_consumer = write_number(buffer, after_plus, list[from], BLANK);
-    let after_ledger = write_number(buffer, after_consumer, list[from + LEDGER], BLANK);
-    let after_entry = write_number(buffer, after_ledger, list[from + ENTRY], BLANK);
-    write_permits(buffer, after_entry, list[from + PERMITS])
+    let after_consumer = write_number(buffer, after_plus, dispatch.consumer, BLANK);
+    let after_ledger = write_number(buffer, after_consumer, dispatch.ledger, BLANK);
+    let after_entry = write_number(buffer, after_ledger, dispatch.entry, BLANK);
+    write_permits(buffer, after_entry, dispatch.permits)
 }
 
 // Writes the lines of the first records of a list.

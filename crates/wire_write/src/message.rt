@@ -57,7 +57,8 @@ fn write_id(buffer: &mut [u8], at: usize, ledger: u64, entry: u64, batch_size: u
     end
 }
 
-// Writes the content of a record's Message: consumer, id, redelivery count, ack words.
+// Writes the content of a record's Message: consumer, id, redelivery count, ack words. The record is read by word numbers: its ack
+// words are lent as they stand there, and a `Dispatch` has four fields for them, which would have to become words again.
 fn write_content(buffer: &mut [u8], at: usize, record: &[u64; 13]) -> usize
     requires { (get_or «record».now 5 0 ≤ 4) × (at + 123 ≤ length buffer.old) }
     ensures { Wrote 123 buffer.old at (content_bytes (message_from «record».now)) buffer.new result }
