@@ -14,7 +14,7 @@ pub is_shared-requires : goal.is_shared-requires
 is_shared-requires c = live_in c.requires
 
 pub ack_shared-requires : goal.ack_shared-requires
-ack_shared-requires c = (c.requires, flag_shared _ (sym c.is_shared.ensures ∙ c.if-is_shared.true))
+ack_shared-requires c = record { live = c.requires; kind = flag_shared _ (sym c.is_shared.ensures ∙ c.if-is_shared.true) }
 
 pub returns : goal.returns
 returns c =
