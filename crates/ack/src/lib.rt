@@ -18,7 +18,7 @@ ghost use Rattle.layout.specs.Fields.{consumer_now, dispatcher_now, dispatcher_c
 ghost use Rattle.refusal.specs.Words.{word_of};
 ghost use Rattle.groups.specs.Lent.{groups_in};
 ghost use Rattle.dispatcher.specs.Completion.{Marked};
-ghost use Rattle.consumer.specs.Live.{Live};
+ghost use Rattle.consumer.specs.Live.{Live, LiveShared};
 ghost use Rattle.ack.specs.Ackable.{Ackable, OutsideFits};
 
 use ack_id::ack_all;
@@ -63,7 +63,7 @@ fn ack_live(store: &mut [u64], e: usize, i: usize, groups: Groups) -> Answer
 
 // An ack of the live shared consumer `i`.
 fn ack_shared(store: &mut [u64], e: usize, i: usize, groups: Groups) -> Answer
-    requires { Live e store.old i × ((consumer_now store.old i).kind ≡ shared) }
+    requires { LiveShared e store.old i }
     ensures answer { word_of result ≡ answer store.old (Ack (consumer_now store.old i).id groups.entry.list.now) }
     ensures words { store.new ≡ after store.old (Ack (consumer_now store.old i).id groups.entry.list.now) }
 {

@@ -118,7 +118,8 @@ pub fn topics_valid(store: &[u64], e: usize) -> Option<ValidTopics<'_>>
         if find_topic(store, e, store[topic_at(e, t)]) < t {
             return None;
         }
-        ascend[t] = topic_order(store, e, t)?;
+        let known = topic_order(store, e, t)?;
+        ascend[t] = known;
     }
     Some(ValidTopics { store, e, ascend })
 }

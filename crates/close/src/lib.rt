@@ -16,7 +16,7 @@ ghost use Rattle.layout.specs.Fields.{consumer_now, dispatcher_now};
 ghost use Rattle.layout.specs.Placed.{DispatcherIn};
 ghost use Rattle.refusal.specs.Words.{word_of};
 ghost use Rattle.store.specs.Find.{slot};
-ghost use Rattle.consumer.specs.Live.{Live};
+ghost use Rattle.consumer.specs.Live.{Live, LiveShared};
 
 use command_parts::Kind;
 use consumer::fields::{consumer_id, kind, permits, shared_dispatcher};
@@ -65,7 +65,7 @@ fn total_without(store: &[u64], e: usize, i: usize, d: usize) -> u64
 
 // The close of the live shared consumer `i`.
 fn close_shared(store: &mut [u64], e: usize, i: usize) -> Answer
-    requires { Live e store.old i × ((consumer_now store.old i).kind ≡ shared) }
+    requires { LiveShared e store.old i }
     ensures answer { word_of result ≡ answer store.old (Close (consumer_now store.old i).id) }
     ensures words { store.new ≡ after store.old (Close (consumer_now store.old i).id) }
 {

@@ -1,7 +1,6 @@
 // A live consumer in a store, by its slot: what operations read and write of it.
 ghost use Rattle.std.specs.Prelude.{◌≡◌, ◌<◌, length};
 ghost use Rattle.rules.specs.State.{by_pair};
-ghost use Rattle.rules.specs.State.Kind.{shared};
 ghost use Rattle.rules.specs.Commands.{with_permits, with_reading};
 ghost use Rattle.layout.specs.Records.{flag_of};
 ghost use Rattle.layout.specs.Layout.{decode};
@@ -11,7 +10,7 @@ ghost use Rattle.store.specs.Find.{slot};
 ghost use Rattle.store.specs.Found.{found};
 ghost use Rattle.command_parts.specs.Parts.{kind_of};
 ghost use Rattle.dispatcher.specs.Pairs.{pair_in};
-ghost use Rattle.consumer.specs.Live.{Live};
+ghost use Rattle.consumer.specs.Live.{LiveShared};
 
 use command_parts::Kind;
 use dispatcher::table::{Pair, find_dispatcher};
@@ -89,7 +88,7 @@ pub fn dispatcher_of(store: &[u64], e: usize, i: usize) -> Option<usize>
 
 // The slot of the dispatcher of the live shared consumer `i`, which has one.
 pub fn shared_dispatcher(store: &[u64], e: usize, i: usize) -> usize
-    requires { Live e store.now i × ((consumer_now store.now i).kind ≡ shared) }
+    requires { LiveShared e store.now i }
     ensures { (result ≡ slot by_pair (consumer_now store.now i).pair (decode store.now).dispatchers)
         × (result < length (decode store.now).dispatchers) }
 {

@@ -9,7 +9,7 @@ ghost use Rattle.layout.specs.Layout.{spells};
 ghost use Rattle.layout.specs.Calls.{answer, after};
 ghost use Rattle.layout.specs.Fields.{consumer_now};
 ghost use Rattle.refusal.specs.Words.{word_of};
-ghost use Rattle.consumer.specs.Live.{Live};
+ghost use Rattle.consumer.specs.Live.{Live, LiveShared};
 
 use command_parts::Kind;
 use consumer::fields::{kind, permits, set_permits, shared_dispatcher};
@@ -54,7 +54,7 @@ fn flow_live(store: &mut [u64], e: usize, i: usize, grant: u64) -> Answer
 
 // A flow of the live shared consumer `i`, which would have the permits `granted`.
 fn flow_shared(store: &mut [u64], e: usize, i: usize, grant: u64, granted: u64) -> Answer
-    requires { Live e store.old i × (grant < 2 ^ 32) × ((consumer_now store.old i).kind ≡ shared)
+    requires { LiveShared e store.old i × (grant < 2 ^ 32)
         × (granted ≡ (consumer_now store.old i).permits + grant) × (granted ≤ most_permits) }
     ensures answer { word_of result ≡ answer store.old (Flow (consumer_now store.old i).id grant) }
     ensures words { store.new ≡ after store.old (Flow (consumer_now store.old i).id grant) }

@@ -12,7 +12,7 @@ ghost use Rattle.layout.specs.Layout.{spells};
 ghost use Rattle.layout.specs.Calls.{answer, after};
 ghost use Rattle.layout.specs.Fields.{consumer_now};
 ghost use Rattle.refusal.specs.Words.{word_of};
-ghost use Rattle.consumer.specs.Live.{Live};
+ghost use Rattle.consumer.specs.Live.{Live, LiveShared};
 
 use command_parts::Kind;
 use consumer::fields::{consumer_id, kind, shared_dispatcher};
@@ -69,7 +69,7 @@ fn redeliver_plain(store: &mut [u64], e: usize, i: usize, groups: Groups) -> Ans
 
 // A redeliver of the live shared consumer `i`.
 fn redeliver_shared(store: &mut [u64], e: usize, i: usize, groups: Groups) -> Answer
-    requires { Live e store.old i × ((consumer_now store.old i).kind ≡ shared) }
+    requires { LiveShared e store.old i }
     ensures answer { word_of result ≡ answer store.old (Redeliver (consumer_now store.old i).id groups.entry.list.now) }
     ensures words { store.new ≡ after store.old (Redeliver (consumer_now store.old i).id groups.entry.list.now) }
 {

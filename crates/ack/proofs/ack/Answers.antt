@@ -9,6 +9,7 @@ use Rattle.operation_laws.proofs.Frame.{canon_of, refused_with, consumer_found_i
 use Rattle.ack.proofs.Outcomes.{ack_dead, ack_formless}
 use Rattle.rules.specs.State.{by_id}
 use Rattle.store.proofs.Founds.{found_some, found_none}
+use Rattle.consumer.proofs.Found.{found_live}
 use Rattle.ack.proofs.ack.Goals as goal
 
 pub find_consumer-requires : goal.find_consumer-requires
@@ -29,17 +30,13 @@ returns-in_default-of c =
     refused_with a.store.now _ c.requires (ack_formless s c.in-Some.i a.consumer a.list.now f.0 f.1 c.in_default-of.ensures)
 
 pub ack_live-requires : goal.ack_live-requires
-ack_live-requires c =
-    let a = c.args in
-    let f = found_some by_id a.consumer (decode a.store.now).consumers (sym c.in-Some.is ∙ c.find_consumer.ensures.slot) in
-    record { opened = record { spelt = c.requires; E = c.entries-e.ensures }; there = f.1 }
+ack_live-requires c = (found_live c.requires c.entries-e.ensures (sym c.in-Some.is ∙ c.find_consumer.ensures.slot)).0
 
 pub returns : goal.returns
 returns c =
     let a = c.args in
     let ws = a.store.now in
-    let f = found_some by_id a.consumer (decode ws).consumers (sym c.in-Some.is ∙ c.find_consumer.ensures.slot) in
-    let q = consumer_found_id (decode ws) c.in-Some.i a.consumer f.0 f.1 in
+    let q = (found_live c.requires c.entries-e.ensures (sym c.in-Some.is ∙ c.find_consumer.ensures.slot)).1 in
     record {
       answer = c.ack_live.ensures.answer ∙ ap₂ (λ (j : ℕ) (list : List ℕ). answer ws (Ack j list)) q c.in-Some-of.ensures;
       words = c.ack_live.ensures.words ∙ ap₂ (λ (j : ℕ) (list : List ℕ). after ws (Ack j list)) q c.in-Some-of.ensures;

@@ -14,7 +14,7 @@ pub kind-requires : goal.kind-requires
 kind-requires c = live_in c.requires
 
 pub ack_shared-requires : goal.ack_shared-requires
-ack_shared-requires c = (c.requires, told_shared c.in-Shared.is c.kind.ensures)
+ack_shared-requires c = record { live = c.requires; kind = told_shared c.in-Shared.is c.kind.ensures }
 
 pub returns-in-Plain : goal.returns-in-Plain
 returns-in-Plain c =

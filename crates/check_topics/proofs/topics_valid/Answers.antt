@@ -92,21 +92,21 @@ bounds-ascend-t c =
     let l = c.loop-t.invariant.1 in
     omega arith
 
-pub returns-in_default : goal.returns-in_default
-returns-in_default c =
+pub returns-in_err-known : goal.returns-in_err-known
+returns-in_err-known c =
     let a = c.args in
     let l = c.loop-t in
-    sym
+    rw c.from_residual.ensures (sym
     (passed_stop (topic_steps a.e) (decode a.store.now).topics l.t zero_topic (here c.requires c.word-n.ensures l.t c.loop-t-test.true) l.invariant.0
     (sym (passes (new c.requires c.word-n.ensures l.t c.loop-t-test.true c.topic_at.ensures c.find_topic.ensures c.if-find_topic-t.false)
-    (sym (order_none a.e a.store.now l.t (sym c.in_default.is ∙ c.topic_order.ensures))))))
+    (sym (order_none a.e a.store.now l.t c.in_err-known.ensures))))))
 
 pub loop-t-preserved : goal.loop-t-preserved
 loop-t-preserved c =
     let a = c.args in
     let l = c.loop-t in
-    let b = c.in-Some.known in
-    let told = sym c.in-Some.is ∙ c.topic_order.ensures in
+    let b = c.in_ok-known.known in
+    let told = c.in_ok-known.ensures in
     let k = few c.requires c.word-n.ensures l.t c.loop-t-test.true in
     let n = l.invariant.1 in (
       passed_turn (topic_steps a.e) (decode a.store.now).topics l.t zero_topic (here c.requires c.word-n.ensures l.t c.loop-t-test.true) l.invariant.0

@@ -9,6 +9,7 @@ use Rattle.operation_laws.proofs.Frame.{canon_of, done_with, consumer_found_id}
 use Rattle.close.proofs.Closes.{value_not_closed, close_missing}
 use Rattle.rules.specs.State.{by_id}
 use Rattle.store.proofs.Founds.{found_some, found_none}
+use Rattle.consumer.proofs.Found.{found_live}
 use Rattle.close.proofs.close.Goals as goal
 
 pub find_consumer-requires : goal.find_consumer-requires
@@ -23,16 +24,13 @@ returns-in_default c =
     value_not_closed refl (sym (put_decode (canon_of c.entries-e.result ws c.requires c.entries-e.ensures)))
 
 pub close_live-requires : goal.close_live-requires
-close_live-requires c =
-    let f = found_some by_id c.args.consumer (decode c.args.store.now).consumers (sym c.in-Some.is ∙ c.find_consumer.ensures.slot) in
-    record { opened = record { spelt = c.requires; E = c.entries-e.ensures }; there = f.1 }
+close_live-requires c = (found_live c.requires c.entries-e.ensures (sym c.in-Some.is ∙ c.find_consumer.ensures.slot)).0
 
 pub returns : goal.returns
 returns c =
     let ws = c.args.store.now in
     let id = c.args.consumer in
-    let f = found_some by_id id (decode ws).consumers (sym c.in-Some.is ∙ c.find_consumer.ensures.slot) in
-    let q = consumer_found_id (decode ws) c.in-Some.i id f.0 f.1 in
+    let q = (found_live c.requires c.entries-e.ensures (sym c.in-Some.is ∙ c.find_consumer.ensures.slot)).1 in
     record {
       answer = c.close_live.ensures.answer ∙ ap (λ (j : ℕ). answer ws (Close j)) q;
       words = c.close_live.ensures.words ∙ ap (λ (j : ℕ). after ws (Close j)) q;

@@ -11,7 +11,7 @@ pub kind-requires : goal.kind-requires
 kind-requires c = live_in c.requires
 
 pub close_shared-requires : goal.close_shared-requires
-close_shared-requires c = (c.requires, told_shared c.in-Shared.is c.kind.ensures)
+close_shared-requires c = record { live = c.requires; kind = told_shared c.in-Shared.is c.kind.ensures }
 
 pub remove_consumer-requires : goal.remove_consumer-requires
 remove_consumer-requires c = live_in c.requires

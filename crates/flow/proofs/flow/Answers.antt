@@ -9,6 +9,7 @@ use Rattle.operation_laws.proofs.Frame.{canon_of, refused_with, consumer_found_i
 use Rattle.flow.proofs.Grants.{flow_missing}
 use Rattle.rules.specs.State.{by_id}
 use Rattle.store.proofs.Founds.{found_some, found_none}
+use Rattle.consumer.proofs.Found.{found_live}
 use Rattle.flow.proofs.flow.Goals as goal
 
 pub find_consumer-requires : goal.find_consumer-requires
@@ -21,10 +22,7 @@ returns-in_default c =
     refused_with ws _ c.requires (flow_missing (decode ws) id c.args.grant (found_none by_id id (decode ws).consumers (sym c.in_default.is ∙ c.find_consumer.ensures.slot)))
 
 pub flow_live-requires : goal.flow_live-requires
-flow_live-requires c =
-    let ws = c.args.store.now in
-    let f = found_some by_id c.args.consumer (decode ws).consumers (sym c.in-Some.is ∙ c.find_consumer.ensures.slot) in
-    (record { opened = record { spelt = c.requires; E = c.entries-e.ensures }; there = f.1 }, omega arith)
+flow_live-requires c = ((found_live c.requires c.entries-e.ensures (sym c.in-Some.is ∙ c.find_consumer.ensures.slot)).0, omega arith)
 
 pub returns : goal.returns
 returns c =
@@ -32,6 +30,5 @@ returns c =
     let id = c.args.consumer in
     let i = c.in-Some.i in
     let grant = c.args.grant in
-    let f = found_some by_id id (decode ws).consumers (sym c.in-Some.is ∙ c.find_consumer.ensures.slot) in
-    let q = consumer_found_id (decode ws) i id f.0 f.1 in
+    let q = (found_live c.requires c.entries-e.ensures (sym c.in-Some.is ∙ c.find_consumer.ensures.slot)).1 in
     record { answer = c.flow_live.ensures.answer ∙ ap (λ (j : ℕ). answer ws (Flow j grant)) q; words = c.flow_live.ensures.words ∙ ap (λ (j : ℕ). after ws (Flow j grant)) q }

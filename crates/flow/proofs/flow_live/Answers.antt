@@ -37,7 +37,7 @@ flow_shared-requires c =
     let h = c.requires.0 in
     let p = c.permits.ensures in
     let left = c.if-granted-gt-MOST_PERMITS.false in
-    (h, c.requires.1, told_shared c.in-Shared.is c.kind.ensures, omega arith, omega arith)
+    (record { live = h; kind = told_shared c.in-Shared.is c.kind.ensures }, c.requires.1, omega arith, omega arith)
 
 pub set_permits-requires : goal.set_permits-requires
 set_permits-requires c = live_in c.requires.0

@@ -9,6 +9,7 @@ use Rattle.operation_laws.proofs.Frame.{canon_of, refused_with, consumer_found_i
 use Rattle.redeliver.proofs.Refusals.{redeliver_missing, redeliver_ill}
 use Rattle.rules.specs.State.{by_id}
 use Rattle.store.proofs.Founds.{found_some, found_none}
+use Rattle.consumer.proofs.Found.{found_live}
 use Rattle.redeliver.proofs.redeliver.Goals as goal
 
 pub find_consumer-requires : goal.find_consumer-requires
@@ -28,17 +29,13 @@ returns-in_default-of c =
     refused_with a.store.now _ c.requires (redeliver_ill s c.in-Some.i a.consumer a.list.now f.0 f.1 c.in_default-of.ensures)
 
 pub redeliver_live-requires : goal.redeliver_live-requires
-redeliver_live-requires c =
-    let a = c.args in
-    let f = found_some by_id a.consumer (decode a.store.now).consumers (sym c.in-Some.is ∙ c.find_consumer.ensures.slot) in
-    record { opened = record { spelt = c.requires; E = c.entries-e.ensures }; there = f.1 }
+redeliver_live-requires c = (found_live c.requires c.entries-e.ensures (sym c.in-Some.is ∙ c.find_consumer.ensures.slot)).0
 
 pub returns : goal.returns
 returns c =
     let a = c.args in
     let s = decode a.store.now in
-    let f = found_some by_id a.consumer s.consumers (sym c.in-Some.is ∙ c.find_consumer.ensures.slot) in
-    let q = consumer_found_id s c.in-Some.i a.consumer f.0 f.1 in
+    let q = (found_live c.requires c.entries-e.ensures (sym c.in-Some.is ∙ c.find_consumer.ensures.slot)).1 in
     let r = c.redeliver_live.ensures in
     let list : c.in-Some-of.groups.list.now ≡ a.list.now = search (rules, c.in-Some-of.ensures) in
     record {

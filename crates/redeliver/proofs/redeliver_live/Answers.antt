@@ -7,7 +7,7 @@ pub kind-requires : goal.kind-requires
 kind-requires c = live_in c.requires
 
 pub redeliver_shared-requires : goal.redeliver_shared-requires
-redeliver_shared-requires c = (c.requires, told_shared c.in-Shared.is c.kind.ensures)
+redeliver_shared-requires c = record { live = c.requires; kind = told_shared c.in-Shared.is c.kind.ensures }
 
 pub redeliver_plain-requires : goal.redeliver_plain-requires
 redeliver_plain-requires c = (c.requires, told_plain c.in-Plain.is c.kind.ensures)

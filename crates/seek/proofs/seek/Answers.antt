@@ -9,6 +9,7 @@ use Rattle.operation_laws.proofs.Frame.{canon_of, refused_with, consumer_found_i
 use Rattle.seek.proofs.Seeks.{seek_missing}
 use Rattle.rules.specs.State.{by_id}
 use Rattle.store.proofs.Founds.{found_some, found_none}
+use Rattle.consumer.proofs.Found.{found_live}
 use Rattle.seek.proofs.seek.Goals as goal
 
 pub find_consumer-requires : goal.find_consumer-requires
@@ -22,10 +23,7 @@ returns-in_default c =
     (seek_missing (decode ws) id (target_of c.args.command.target) (found_none by_id id (decode ws).consumers (sym c.in_default.is ∙ c.find_consumer.ensures.slot)))
 
 pub seek_live-requires : goal.seek_live-requires
-seek_live-requires c =
-    let ws = c.args.store.now in
-    let f = found_some by_id c.args.command.consumer (decode ws).consumers (sym c.in-Some.is ∙ c.find_consumer.ensures.slot) in
-    record { opened = record { spelt = c.requires; E = c.entries-e.ensures }; there = f.1 }
+seek_live-requires c = (found_live c.requires c.entries-e.ensures (sym c.in-Some.is ∙ c.find_consumer.ensures.slot)).0
 
 pub returns : goal.returns
 returns c =
@@ -33,6 +31,5 @@ returns c =
     let id = c.args.command.consumer in
     let i = c.in-Some.i in
     let target = c.args.command.target in
-    let f = found_some by_id id (decode ws).consumers (sym c.in-Some.is ∙ c.find_consumer.ensures.slot) in
-    let q = consumer_found_id (decode ws) i id f.0 f.1 in
+    let q = (found_live c.requires c.entries-e.ensures (sym c.in-Some.is ∙ c.find_consumer.ensures.slot)).1 in
     record { answer = c.seek_live.ensures.answer ∙ ap (λ (j : ℕ). answer ws (seek_to j target)) q; words = c.seek_live.ensures.words ∙ ap (λ (j : ℕ). after ws (seek_to j target)) q }

@@ -15,7 +15,7 @@ use Rattle.consumer.proofs.Found.{live_in, live_consumer}
 use Rattle.consumer.proofs.fields.shared_dispatcher.Goals as goal
 
 pub dispatcher_of-requires : goal.dispatcher_of-requires
-dispatcher_of-requires c = live_in c.requires.0
+dispatcher_of-requires c = live_in c.requires.live
 
 pub unwrap-requires : goal.unwrap-requires
 unwrap-requires c =
@@ -24,7 +24,7 @@ unwrap-requires c =
     ap (λ (o : Option ℕ). is_some o) c.dispatcher_of.ensures
     ∙ found_is by_pair p s.dispatchers
     ∙ lt-ltb (slot by_pair p s.dispatchers) (length s.dispatchers)
-    (shared_found s (slot by_pair p s.dispatchers) _ refl (consumer_nth s c.args.i) (live_consumer c.requires.0) c.requires.1 refl)
+    (shared_found s (slot by_pair p s.dispatchers) _ refl (consumer_nth s c.args.i) (live_consumer c.requires.live) c.requires.kind refl)
 
 pub returns : goal.returns
 returns c =
