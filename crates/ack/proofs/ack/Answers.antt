@@ -5,7 +5,7 @@ use Prim.Native.Nat.{ℕ}
 use Rattle.rules.specs.Calls.Call.{Ack}
 use Rattle.layout.specs.Layout.{decode}
 use Rattle.layout.specs.Calls.{answer, after}
-use Rattle.operation_laws.proofs.Frame.{canon_of, refused_with, consumer_found_id}
+use Rattle.operation_laws.proofs.Frame.{canon_of, refused_with}
 use Rattle.ack.proofs.Outcomes.{ack_dead, ack_formless}
 use Rattle.rules.specs.State.{by_id}
 use Rattle.store.proofs.Founds.{found_some, found_none}

@@ -5,10 +5,10 @@ use Rattle.rules.specs.Calls.Call.{Close}
 use Rattle.layout.specs.Calls.{answer, after}
 use Rattle.layout.specs.Layout.{decode}
 use Rattle.layout.proofs.Store.{put_decode}
-use Rattle.operation_laws.proofs.Frame.{canon_of, done_with, consumer_found_id}
+use Rattle.operation_laws.proofs.Frame.{canon_of, done_with}
 use Rattle.close.proofs.Closes.{value_not_closed, close_missing}
 use Rattle.rules.specs.State.{by_id}
-use Rattle.store.proofs.Founds.{found_some, found_none}
+use Rattle.store.proofs.Founds.{found_none}
 use Rattle.consumer.proofs.Found.{found_live}
 use Rattle.close.proofs.close.Goals as goal
 

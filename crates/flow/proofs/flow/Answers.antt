@@ -5,10 +5,10 @@ use native.Mathlib.Omega.{arith}
 use Rattle.layout.specs.Layout.{decode}
 use Rattle.rules.specs.Calls.Call.{Flow}
 use Rattle.layout.specs.Calls.{answer, after}
-use Rattle.operation_laws.proofs.Frame.{canon_of, refused_with, consumer_found_id}
+use Rattle.operation_laws.proofs.Frame.{canon_of, refused_with}
 use Rattle.flow.proofs.Grants.{flow_missing}
 use Rattle.rules.specs.State.{by_id}
-use Rattle.store.proofs.Founds.{found_some, found_none}
+use Rattle.store.proofs.Founds.{found_none}
 use Rattle.consumer.proofs.Found.{found_live}
 use Rattle.flow.proofs.flow.Goals as goal
 

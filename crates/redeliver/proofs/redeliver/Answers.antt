@@ -5,7 +5,7 @@ use mathlib.Core.Path.{◌≡◌, sym, ap₂, ◌∙◌}
 use Rattle.rules.specs.Calls.Call.{Redeliver}
 use Rattle.layout.specs.Calls.{answer, after}
 use Rattle.layout.specs.Layout.{decode}
-use Rattle.operation_laws.proofs.Frame.{canon_of, refused_with, consumer_found_id}
+use Rattle.operation_laws.proofs.Frame.{canon_of, refused_with}
 use Rattle.redeliver.proofs.Refusals.{redeliver_missing, redeliver_ill}
 use Rattle.rules.specs.State.{by_id}
 use Rattle.store.proofs.Founds.{found_some, found_none}

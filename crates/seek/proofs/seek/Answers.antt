@@ -5,10 +5,10 @@ use Rattle.layout.specs.Layout.{decode}
 use Rattle.layout.specs.Calls.{answer, after}
 use Rattle.command_parts.specs.Parts.{target_of}
 use Rattle.seek.specs.Targets.{seek_to}
-use Rattle.operation_laws.proofs.Frame.{canon_of, refused_with, consumer_found_id}
+use Rattle.operation_laws.proofs.Frame.{canon_of, refused_with}
 use Rattle.seek.proofs.Seeks.{seek_missing}
 use Rattle.rules.specs.State.{by_id}
-use Rattle.store.proofs.Founds.{found_some, found_none}
+use Rattle.store.proofs.Founds.{found_none}
 use Rattle.consumer.proofs.Found.{found_live}
 use Rattle.seek.proofs.seek.Goals as goal
 
