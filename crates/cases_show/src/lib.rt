@@ -37,7 +37,7 @@ fn show_value(rt: &impl Print, name: Option<Name>, value: u64) -> io::Result<()>
         }
         Some(Name::Call(Command::Ack)) => {
             show_field(rt, ", mark_delete ", value / 2)?;
-            show_moved(rt, value % 2)
+            show_moved(rt, value % 2 == 1)
         }
         Some(Name::Call(Command::Seek)) => show_field(rt, ", cursor ", value),
         Some(Name::Call(Command::Close)) => show_field(rt, ", closed ", value),
@@ -48,8 +48,8 @@ fn show_value(rt: &impl Print, name: Option<Name>, value: u64) -> io::Result<()>
 }
 
 // Whether mark-delete moved.
-fn show_moved(rt: &impl Print, moved: u64) -> io::Result<()> {
-    if moved == 1 {
+fn show_moved(rt: &impl Print, moved: bool) -> io::Result<()> {
+    if moved {
         print!(rt; " moved")
     } else {
         print!(rt; " not moved")

@@ -10,7 +10,8 @@ use topic::table::{find_topic, ledger_length};
 
 // Where it is: E, its slot, the slot of its topic, and how many entries its ledger has. The slot of the topic is used
 // only where the ledger has entries, and then the topic is there. What holds of these places is a fact of them and of
-// the words that they were found in, so it is no invariant of the struct alone.
+// the words that they were found in, so it is no invariant of the struct alone. So is what its turns know of the ring, which is
+// lent beside it: an array of the caller's.
 #[derive(Clone, Copy)]
 pub struct Served {
     pub e: usize,

@@ -20,7 +20,7 @@ pub struct Step {
     pub permits: u64,
 }
 
-// The place after one in a ring of `n`, going round. `(place + 1) % n` would divide where a test does.
+// The place after one in a ring of `n`, going round: a test, as `slot_after` of the rules has it.
 fn place_after(place: usize, n: usize) -> usize
     requires { place < n }
     ensures { result ≡ cond (eqb (suc place) n) 0 (suc place) }

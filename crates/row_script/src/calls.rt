@@ -22,9 +22,7 @@ pub(crate) fn split_call(script: &[u64]) -> Option<(Call, &[u64])>
         return None;
     }
     let (words, after) = rest.split_at(count);
-    let Some(call) = call_of(*kind, words) else {
-        return None;
-    };
+    let call = call_of(*kind, words)?;
     Some((call, after))
 }
 

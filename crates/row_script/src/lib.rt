@@ -11,7 +11,8 @@ ghost use Rattle.row_script.specs.Counted.{counted};
 use crate::calls::split_call;
 use refusal::Refusal;
 
-// How many calls a script has, if every record of it is one.
+// How many calls a script has, if every record of it is one. A loop and no `count` of `Calls`, whose ghost field says that every
+// record is a call, which is asked here.
 pub fn count_calls(script: &[u64]) -> Result<usize, Refusal>
     ensures { result ≡ counted 0 (script_calls script.now) }
 {

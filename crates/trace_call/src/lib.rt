@@ -1,5 +1,6 @@
 // A call of a trace or of a script, made. What fits no kind or has a word too wide for its field is no call, and changes nothing.
-// The store is not checked: the caller knows that it spells a state, and every call leaves it so.
+// The store is not checked: the caller knows that it spells a state, and every call leaves it so. That it does is asked by each
+// function and is no type's fact: every call writes the store, so a value that holds the fact would be made anew after each.
 #![tactic(auto)]
 
 ghost use Rattle.std.specs.Prelude.{◌≡◌, true, ◌/◌, length};
@@ -31,9 +32,7 @@ pub fn make_call(store: &mut [u64], kind: u64, words: &[u64], list: &mut [u64]) 
     ensures records { list.new ≡ list_made store.old list.old
         (call_of (length list.old / 13) kind words.now) }
 {
-    let Some(call) = call_of(kind, words) else {
-        return None;
-    };
+    let call = call_of(kind, words)?;
     Some(answer_call(store, call, list))
 }
 

@@ -1,6 +1,6 @@
 -- Words read as a call of a kind: every word of a slice has 64 bits, so only the number of words, and a field that is narrower
 -- or has only some values, is tested.
-use Prim.Native.Nat.{ℕ, ◌^◌, ◌≤◌, ◌<◌}
+use Prim.Native.Nat.{ℕ, suc, ◌^◌, ◌≤◌, ◌<◌}
 use mathlib.Core.Path.{◌≡◌, refl, sym, ap, ◌∙◌}
 use mathlib.Core.Bool.{Bool, true, false, ◌&&◌, ◌||◌}
 use mathlib.Core.List.{List}
@@ -20,7 +20,8 @@ use Rattle.trace.specs.Calls.{push_from, that_fits, call_of}
 use Rattle.trace_kind.specs.Commands.{number_of, command_of}
 use Rattle.trace_kind.specs.declared.Command.{Command}
 use Rattle.trace_kind.proofs.Commands.{read_as}
-use Rattle.std.proofs.Common.{Result, Ok}
+use Rattle.std.proofs.Common.{Result, Ok, Err, Some, None}
+use Rattle.std.specs.Result.{result_ok, OkIff}
 use Rattle.refusal.specs.declared.Refusal.{Refusal}
 use Rattle.trace.proofs.Calls.{not_passed, too_wide, is_call}
 use Rattle.trace.proofs.Widths.{append_fits, append_wide, subscribe_fits, topic_wide, subscription_wide, flow_fits, grant_wide, start_fits, id_fits, list_fits}
@@ -150,3 +151,29 @@ a_push ws l = sym (is_call {x = Push 0} (eq-eqb (length ws) 0 l) (word 0 (omega 
 pub of_command : {r : Result Command Refusal} {c : Command} {o : Option Call} (kind : ℕ) (ws : List ℕ) (d : Command)
     → r ≡ command_of kind → r ≡ Ok c → c ≡ d → o ≡ call_of 0 (number_of d) ws → o ≡ call_of 0 kind ws
 of_command kind ws d e is same o = o ∙ ap (λ (n : ℕ). call_of 0 n ws) (sym (read_as kind d e is same))
+
+-- ---- a reading whose refusal is dropped
+
+-- it was read
+pub ok_some : {T E : Type 0} {r : Result T E} {x : T} → Some x ≡ result_ok r → r ≡ Ok x
+ok_some {r = Ok y} {x = x} h = let same : x ≡ y = cc in ap Ok (sym same)
+ok_some {r = Err e} h = absurd cc
+
+-- it was refused
+pub record Refused {T E : Type 0} (r : Result T E) : Type 0 where
+  pub why : E
+  pub is : r ≡ Err why
+
+pub ok_none : {T E : Type 0} {r : Result T E} → None ≡ result_ok r → Refused r
+ok_none {r = Ok y} h = absurd cc
+ok_none {r = Err e} h = record { why = e; is = refl }
+
+-- a word that was read into a narrower field fits it
+pub some_fits : {E : Type 0} {n x : ℕ} (most : ℕ) (r : Result ℕ E) → OkIff r (n < suc most) n → Some x ≡ result_ok r → (n ≤ most) × (x ≡ n)
+some_fits {x = x} most (Ok y) f h = let same : x ≡ y = cc in (omega (arith, f.0), same ∙ f.1)
+some_fits most (Err e) f h = absurd cc
+
+-- one that was not is wider
+pub none_wide : {E : Type 0} {n : ℕ} (most : ℕ) (r : Result ℕ E) → OkIff r (n < suc most) n → None ≡ result_ok r → most < n
+none_wide most (Ok y) f h = absurd cc
+none_wide most (Err e) f h = omega (arith, f)

@@ -5,9 +5,8 @@
 ghost use Rattle.std.specs.Prelude.{◌≡◌, ℕ, true};
 ghost use Rattle.std.proofs.Math.Option.{bind};
 ghost use Rattle.rules.specs.Valid.{is_word};
-ghost use Rattle.trace.specs.Calls.{that_fits, call_of, kind_of, append_from, subscribe_from, flow_from, ack_from, seek_from};
+ghost use Rattle.trace.specs.Calls.{that_fits, call_of, append_from, subscribe_from, flow_from, ack_from, seek_from};
 ghost use Rattle.trace.specs.Calls.{redeliver_from, close_from, push_from};
-ghost use Rattle.trace_kind.specs.Commands.{number_of};
 ghost use Rattle.trace_form.specs.Calls.{as_call, as_read};
 
 use command_parts::{Kind, Target};
@@ -51,22 +50,6 @@ pub enum Call<'a> {
     Push,
 }
 
-// What a call asks for.
-pub fn command_of(call: Call) -> Command
-    ensures { number_of result ≡ kind_of (as_call 0 call.entry) }
-{
-    match call {
-        Call::Append { .. } => Command::Append,
-        Call::Subscribe { .. } => Command::Subscribe,
-        Call::Flow { .. } => Command::Flow,
-        Call::Ack { .. } => Command::Ack,
-        Call::Seek { .. } => Command::Seek,
-        Call::Redeliver { .. } => Command::Redeliver,
-        Call::Close { .. } => Command::Close,
-        Call::Push => Command::Push,
-    }
-}
-
 // An append: topic, ledger, entry, handle, batch size.
 fn append_of(words: &[u64]) -> Option<Call>
     ensures { as_read 0 result ≡ bind (append_from words.now) that_fits }
@@ -74,9 +57,7 @@ fn append_of(words: &[u64]) -> Option<Call>
     if words.len() != 5 {
         return None;
     }
-    let Ok(topic) = u8::try_from(words[0]) else {
-        return None;
-    };
+    let topic = u8::try_from(words[0]).ok()?;
     Some(Call::Append {
         topic,
         ledger: words[1],
@@ -99,12 +80,8 @@ fn subscribe_of(words: &[u64]) -> Option<Call>
     if SHARED < words[1] {
         return None;
     }
-    let Ok(topic) = u8::try_from(words[2]) else {
-        return None;
-    };
-    let Ok(subscription) = u8::try_from(words[3]) else {
-        return None;
-    };
+    let topic = u8::try_from(words[2]).ok()?;
+    let subscription = u8::try_from(words[3]).ok()?;
     Some(Call::Subscribe {
         consumer: words[0],
         kind: Kind::from(words[1]),
@@ -120,9 +97,7 @@ fn flow_of(words: &[u64]) -> Option<Call>
     if words.len() != 2 {
         return None;
     }
-    let Ok(grant) = u32::try_from(words[1]) else {
-        return None;
-    };
+    let grant = u32::try_from(words[1]).ok()?;
     Some(Call::Flow {
         consumer: words[0],
         grant,
@@ -206,10 +181,7 @@ fn push_of(words: &[u64]) -> Option<Call>
 pub fn call_of(kind: u64, words: &[u64]) -> Option<Call>
     ensures { as_read 0 result ≡ call_of 0 kind words.now }
 {
-    let Ok(command) = Command::try_from(kind) else {
-        return None;
-    };
-    match command {
+    match Command::try_from(kind).ok()? {
         Command::Append => append_of(words),
         Command::Subscribe => subscribe_of(words),
         Command::Flow => flow_of(words),

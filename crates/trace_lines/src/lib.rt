@@ -1,8 +1,9 @@
 // The lines that a player prints, written into a lent buffer: of a call's answer with the records that a push left in its
 // list, and of what is bad. Each writer lays its bytes from a place on and answers the place after them; room is asked for by
-// constants. Written by hand and not by `write!`, which goes to a text of its own that would be copied into the buffer.
-// Each writer takes the whole buffer and a place in it: over the rest of the buffer alone each call would lend a part and add what
-// it answers to the place, and a struct that holds the buffer costs each contract a clause that it still holds the same one.
+// constants. By hand and not by `write!`: each line would have to be shown by `write_str_gives` of a writer over the buffer, where
+// `Wrote` says of the buffer at once what was laid.
+// Each writer takes the whole buffer and a place in it, not the rest of the buffer, as push does with its list: a writer of a line
+// or of a message lends several parts and not one, and each would add its answer to the place.
 #![tactic(auto)]
 
 ghost use Rattle.std.specs.Prelude.{◌≡◌, ◌+◌, ◌*◌, ◌≤◌, length, drop};

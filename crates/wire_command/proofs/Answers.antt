@@ -19,7 +19,8 @@ use Rattle.wire.specs.Commands.Reading.{refused}
 use Rattle.wire.specs.Answers.{LIST_WORDS, read_command, kind_word, target_words, command_words}
 use Rattle.wire.specs.Answers.{command_answer, command_after, ids_after}
 use Rattle.wire_fields.proofs.Bases.{Placed, base_untyped, base_other, base_no_message, base_message}
-use Rattle.std.specs.Prelude.{None, Result, Ok, Err}
+use Rattle.std.specs.Prelude.{None, Some, Result, Ok, Err}
+use Rattle.std.specs.Result.{result_ok}
 use Rattle.wire_fields.specs.Found.{answered}
 use Rattle.wire_fields.specs.declared.unread.Unread.{Unread}
 use Rattle.wire_fields.specs.Unread.{unread_number, unread_word}
@@ -194,3 +195,12 @@ no_command n at m e =
   where
     never : {P : Type 0} → true ≡ false → P
     never z = absurd (true≢false z)
+
+-- a number that is read as a type, or as none, where its refusal is dropped
+pub a_type : (n : ℕ) {kind : CommandType} {r : Result CommandType Unread} → r ≡ type_from n → Some kind ≡ result_ok r → Ok kind ≡ type_from n
+a_type n {kind = kind} {r = Ok k} e h = let same : kind ≡ k = cc in ap Ok same ∙ e
+a_type n {r = Err why} e h = absurd cc
+
+pub no_type : (n : ℕ) {r : Result CommandType Unread} → r ≡ type_from n → None ≡ result_ok r → takes_command n ≡ false
+no_type n {r = Ok k} e h = absurd cc
+no_type n {r = Err why} e h = (untyped_number n why e).0

@@ -34,8 +34,5 @@ pub fn content(m: &[u8], kind: u64, at: usize) -> Option<Command>
     requires { at + length m.now < 2 ^ 64 }
     ensures { result ≡ answered as_command (command_of kind at m.now) }
 {
-    match CommandType::try_from(kind) {
-        Ok(kind) => content_of(m, kind, at),
-        Err(_) => None,
-    }
+    content_of(m, CommandType::try_from(kind).ok()?, at)
 }

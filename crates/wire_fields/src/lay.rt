@@ -1,4 +1,5 @@
-// The numbers of a message's fields of one number, laid into a lent list in order.
+// The numbers of a message's fields of one number, laid into a lent list in order. The list goes with a place in it: `Laid` says
+// at once what the whole list is then, which over the rest of it each caller would put together.
 ghost use Rattle.std.specs.Prelude.{◌≡◌, ◌+◌, ◌≤◌, length};
 ghost use Rattle.words.specs.Act.{lay};
 ghost use Rattle.wire_fields.specs.Values.{one_value, values_of, Ready, Laid};

@@ -25,7 +25,7 @@ const MOST_WORDS: u64 = 16;
 
 // How many ledgers, entries and words there were. Each number stops where it is too many, and a field of another wire type
 // takes it there, since `id_words` refuses both alike.
-#[derive(Clone, Copy)]
+#[derive(Clone, Copy, Default)]
 pub struct Parts {
     pub ledgers: u64,
     pub entries: u64,
@@ -71,11 +71,7 @@ impl Parts {
 pub fn id_words(m: &[u8]) -> Option<u64>
     ensures { result ≡ answered words_in (group_of m.now) }
 {
-    let mut p = Parts {
-        ledgers: 0,
-        entries: 0,
-        words: 0,
-    };
+    let mut p = Parts::default();
     for field in Fields::of(m) {
         let f = field?;
         p = p.with(f.number, f.wire);

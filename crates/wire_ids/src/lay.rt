@@ -1,5 +1,6 @@
 // The second pass: the ids are laid into a lent list as groups of ledger, entry, how many words, and the words. Each is laid in
-// one walk over its fields, which were tested before.
+// one walk over its fields, which were tested before. The list goes with a place in it: `Laid` says at once what the
+// whole list is then.
 ghost use Rattle.std.specs.Prelude.{◌≡◌, ◌+◌, ◌≤◌, length};
 ghost use Rattle.words.specs.Act.{lay};
 ghost use Rattle.wire.specs.Ids.{list_words};

@@ -1,6 +1,5 @@
 -- `trace_form::append_of` meets its contract: five words, of which the first is a byte, are an append.
-use Rattle.std.proofs.Common.{arith}
-use Rattle.trace_form.proofs.Tested.{no_append, append_too_wide, an_append}
+use Rattle.trace_form.proofs.Tested.{no_append, append_too_wide, an_append, some_fits, none_wide}
 use Rattle.trace_form.specs.Calls.{as_call, as_read}
 use Rattle.trace_form.proofs.append_of.Goals as goal
 
@@ -8,12 +7,12 @@ pub returns-then-words-ne5 : goal.returns-then-words-ne5
 unfolding as_read
 returns-then-words-ne5 c = no_append _ c.if-words-ne5.true
 
-pub returns-in_default : goal.returns-in_default
+pub returns-in_err-topic : goal.returns-in_err-topic
 unfolding as_read
-returns-in_default c = append_too_wide _ (let over = c.in_default.ensures in omega (arith, over))
+returns-in_err-topic c = rw c.from_residual.ensures (append_too_wide _ (none_wide 255 c.try_from.result c.try_from.ensures c.in_err-topic.ensures.value))
 
 pub returns : goal.returns
 unfolding as_read as_call
 returns c =
-    let is = c.in-Ok.ensures in
-    rw is.1 (an_append _ (λ k. (c.type_inv.words k).fits) c.if-words-ne5.false (omega (arith, is.0)))
+    let is = some_fits 255 c.try_from.result c.try_from.ensures c.in_ok-topic.ensures.value in
+    rw is.1 (an_append _ (λ k. (c.type_inv.words k).fits) c.if-words-ne5.false is.0)

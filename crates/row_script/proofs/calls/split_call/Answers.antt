@@ -14,16 +14,17 @@ pub returns-then-rest-count : goal.returns-then-rest-count
 returns-then-rest-count c =
     no_words c.args.script.now c.in-len2-up.len_at_least c.if-count-gt-MOST_WORDS.false c.if-rest-count.true
 
-pub returns-in_default-call_of : goal.returns-in_default-call_of
+pub returns-in_err-call : goal.returns-in_err-call
 unfolding as_read
-returns-in_default-call_of c =
-    let read = sym (ap (as_read 0) c.in_default-call_of.is) ∙ c.call_of.ensures in
-    no_call c.args.script.now c.in-len2-up.len_at_least c.if-count-gt-MOST_WORDS.false c.if-rest-count.false
-    (rw c.split_at.ensures.front at read)
+returns-in_err-call c =
+    let read = sym (ap (as_read 0) c.in_err-call.was) ∙ c.call_of.ensures in
+    rw c.from_residual.ensures
+    (no_call c.args.script.now c.in-len2-up.len_at_least c.if-count-gt-MOST_WORDS.false c.if-rest-count.false
+    (rw c.split_at.ensures.front at read))
 
 pub returns : goal.returns
 unfolding as_read
 returns c =
-    let read = sym (ap (as_read 0) c.in-Some.is) ∙ c.call_of.ensures in
+    let read = sym (ap (as_read 0) c.in_ok-call.was) ∙ c.call_of.ensures in
     a_call c.args.script.now c.in-len2-up.len_at_least c.if-count-gt-MOST_WORDS.false c.if-rest-count.false
-    c.in-Some.call (rw c.split_at.ensures.front at read) c.split_at.ensures.back
+    _ (rw c.split_at.ensures.front at read) c.split_at.ensures.back

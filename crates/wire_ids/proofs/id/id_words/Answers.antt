@@ -1,4 +1,5 @@
 -- `wire_ids::id::id_words` meets its contract: what was counted so far and the fields that are left tell the words.
+use Rattle.std.proofs.Common.{◌≡◌, refl}
 use Rattle.wire_fields.proofs.Walks.{at_start, on, off, ended}
 use Rattle.wire_ids.proofs.Parts.{partly_start, partly_bad, partly_on, no_ledger, no_entry, many_words, few_words}
 use Rattle.wire_ids.proofs.id.id_words.Goals as goal
@@ -6,7 +7,9 @@ use Rattle.wire_ids.proofs.id.id_words.Goals as goal
 pub loop-field-init : goal.loop-field-init
 loop-field-init c =
     let s = c.of-field-items.ensures in
-    rw c.into_iter-field-iterator.ensures.into_iter_gives (at_start s, rw s.1 (partly_start _))
+    let d = c.default-p.ensures in
+    let none : c.default-p.result ≡ record { ledgers = 0; entries = 0; words = 0 } = rw (d.0, d.1.0, d.1.1) refl in
+    rw (c.into_iter-field-iterator.ensures.into_iter_gives, none) (at_start s, rw s.1 (partly_start _))
 
 pub returns-in_err-f : goal.returns-in_err-f
 returns-in_err-f c =
