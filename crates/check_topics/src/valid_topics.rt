@@ -10,7 +10,7 @@ use topic::table::existing_topic;
 
 // Topics that are valid, and of each slot whether its ids are known to ascend: one beside each, as the words of a topic have no
 // place for it. That the store is spelt as it should be is asked where it is used and is no ghost field: its definition goes by
-// recursion (`All`), so it is not found to be a proposition.
+// recursion (`All`), so that it has one proof at most, which a ghost field asks, would have to be shown by hand.
 #[derive(Clone, Copy)]
 pub struct ValidTopics<'a> {
     pub store: &'a [u64],
