@@ -5,8 +5,9 @@
 ghost use Rattle.std.specs.Prelude.{◌≡◌, ℕ, true};
 ghost use Rattle.std.proofs.Math.Option.{bind};
 ghost use Rattle.rules.specs.Valid.{is_word};
-ghost use Rattle.trace.specs.Calls.{that_fits, call_of, append_from, subscribe_from, flow_from, ack_from, seek_from};
+ghost use Rattle.trace.specs.Calls.{that_fits, call_of, kind_of, append_from, subscribe_from, flow_from, ack_from, seek_from};
 ghost use Rattle.trace.specs.Calls.{redeliver_from, close_from, push_from};
+ghost use Rattle.trace_kind.specs.Commands.{number_of};
 ghost use Rattle.trace_form.specs.Calls.{as_call, as_read};
 
 use command_parts::{Kind, Target};
@@ -48,6 +49,22 @@ pub enum Call<'a> {
         consumer: u64,
     },
     Push,
+}
+
+// What a call asks for.
+pub fn command_of(call: Call) -> Command
+    ensures { number_of result ≡ kind_of (as_call 0 call.entry) }
+{
+    match call {
+        Call::Append { .. } => Command::Append,
+        Call::Subscribe { .. } => Command::Subscribe,
+        Call::Flow { .. } => Command::Flow,
+        Call::Ack { .. } => Command::Ack,
+        Call::Seek { .. } => Command::Seek,
+        Call::Redeliver { .. } => Command::Redeliver,
+        Call::Close { .. } => Command::Close,
+        Call::Push => Command::Push,
+    }
 }
 
 // An append: topic, ledger, entry, handle, batch size.
