@@ -8,6 +8,7 @@ use trace_form::{Call, call_of};
 use trace_read::MOST_WORDS;
 
 // The first call of a script and the words after it; none where no whole call of at most 1,217 words stands there.
+#[inline(always)]
 pub(crate) fn split_call(script: &[u64]) -> Option<(Call, &[u64])>
     ensures { SplitsCall script.now result }
 {
@@ -44,6 +45,7 @@ impl<'a> Iterator for Calls<'a> {
 
     ghost remaining = { item_count calls_in };
 
+    #[inline(always)]
     fn next(&mut self) -> Option<Call<'a>> {
         let (call, rest) = split_call(self.script)?;
         self.script = rest;

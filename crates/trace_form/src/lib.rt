@@ -68,6 +68,7 @@ pub fn command_of(call: Call) -> Command
 }
 
 // An append: topic, ledger, entry, handle, batch size.
+#[inline(always)]
 fn append_of(words: &[u64]) -> Option<Call>
     ensures { as_read 0 result ≡ bind (append_from words.now) that_fits }
 {
@@ -88,6 +89,7 @@ fn append_of(words: &[u64]) -> Option<Call>
 const SHARED: u64 = 1;
 
 // A subscribe: consumer, 0 plain or 1 shared, topic, subscription.
+#[inline(always)]
 fn subscribe_of(words: &[u64]) -> Option<Call>
     ensures { as_read 0 result ≡ bind (subscribe_from words.now) that_fits }
 {
@@ -108,6 +110,7 @@ fn subscribe_of(words: &[u64]) -> Option<Call>
 }
 
 // A flow: consumer, grant.
+#[inline(always)]
 fn flow_of(words: &[u64]) -> Option<Call>
     ensures { as_read 0 result ≡ bind (flow_from words.now) that_fits }
 {
@@ -122,6 +125,7 @@ fn flow_of(words: &[u64]) -> Option<Call>
 }
 
 // An ack: consumer, list.
+#[inline(always)]
 fn ack_of(words: &[u64]) -> Option<Call>
     ensures { as_read 0 result ≡ bind (ack_from words.now) that_fits }
 {
@@ -140,6 +144,7 @@ const TO_START: u64 = 0;
 const TO_AN_ID: u64 = 1;
 
 // A seek: consumer, then 0, or 1, ledger, entry.
+#[inline(always)]
 fn seek_of(words: &[u64]) -> Option<Call>
     ensures { as_read 0 result ≡ bind (seek_from words.now) that_fits }
 {
@@ -165,6 +170,7 @@ fn seek_of(words: &[u64]) -> Option<Call>
 }
 
 // A redeliver: consumer, list.
+#[inline(always)]
 fn redeliver_of(words: &[u64]) -> Option<Call>
     ensures { as_read 0 result ≡ bind (redeliver_from words.now) that_fits }
 {
@@ -178,6 +184,7 @@ fn redeliver_of(words: &[u64]) -> Option<Call>
 }
 
 // A close: consumer.
+#[inline(always)]
 fn close_of(words: &[u64]) -> Option<Call>
     ensures { as_read 0 result ≡ bind (close_from words.now) that_fits }
 {
@@ -188,13 +195,16 @@ fn close_of(words: &[u64]) -> Option<Call>
 }
 
 // A push: no words.
+#[inline(always)]
 fn push_of(words: &[u64]) -> Option<Call>
     ensures { as_read 0 result ≡ bind (push_from 0 words.now) that_fits }
 {
     words.is_empty().then_some(Call::Push)
 }
 
-// The call that a kind and its words are, if they are one.
+// The call that a kind and its words are, if they are one. Inlined with what reads each kind: called, it took a call of a row
+// 185 instructions beside the check, where it takes 77.
+#[inline(always)]
 pub fn call_of(kind: u64, words: &[u64]) -> Option<Call>
     ensures { as_read 0 result ≡ call_of 0 kind words.now }
 {
