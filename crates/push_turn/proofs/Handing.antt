@@ -45,11 +45,13 @@ module _ (f : Fixed) (l : Local) (next c : ℕ) where
   entry_waiting cursor h k e =
       rw (le-ltb l.taken (length f.queue) h, lt-ltb l.cursor (length f.ledger) k, e)
 
-  -- there is none
+  -- there is none, and nothing is paid
   pub entry_none : length f.queue ≤ l.taken → length f.ledger ≤ l.cursor
-      → stop (record { permits = l.permits; next = next; cursor = l.cursor; total = l.total; taken = l.taken }) ≡ take_entry f l next c
+      → stop (record { permits = l.permits; next = next; cursor = l.cursor; total = l.total - 0; taken = l.taken }) ≡ take_entry f l next c
   unfolding take_entry
-  entry_none h k = rw (le-ltb l.taken (length f.queue) h, le-ltb l.cursor (length f.ledger) k)
+  entry_none h k =
+      let nothing : l.total - 0 ≡ l.total = omega arith in
+      rw (nothing, le-ltb l.taken (length f.queue) h, le-ltb l.cursor (length f.ledger) k)
 
 -- a list with elements is not empty
 not_empty : (l : List ℕ) → 0 < length l → is_empty l ≡ false
