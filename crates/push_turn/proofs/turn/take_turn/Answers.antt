@@ -1,11 +1,10 @@
 -- `push_turn::turn::take_turn` meets its contract: the total allows none, no place is ready, or the turn of the place that was chosen.
-use mathlib.Core.Path.{refl, ap, ◌∙◌}
-use Prim.Native.Nat.{ℕ}
-use lib.ListN.{get_or}
+use mathlib.Core.Path.{refl, ◌∙◌}
+use native.Mathlib.Omega.{arith}
 use Rattle.rules.specs.Push.{slot_after}
 use Rattle.layout.specs.Layout.{decode}
 use Rattle.layout.specs.Fields.{dispatcher_nth}
-use Rattle.push_laws.specs.Local.{fixed_of, take_entry}
+use Rattle.push_laws.specs.Local.{fixed_of}
 use Rattle.push_turn.specs.Turns.{turn_of, local_from}
 use Rattle.push_turn.proofs.Handing.{turn_spent, no_place, at_place, place_ready}
 use Rattle.push_turn.proofs.turn.take_turn.Goals as goal
@@ -45,9 +44,9 @@ returns c =
     let l = local_from a.permits.now a.numbers.now in
     let r = c.in_ok-place.place in
     let p = c.in_ok-place.ensures in
+    let n = c.place_after-next.ensures in
     record {
       turn = c.take_entry.ensures.turn
-          ∙ ap (λ (n : ℕ). take_entry f l n (get_or a.ring.now r 0)) c.place_after-next.ensures
-          ∙ at_place f l a.ring.now c.requires.1 r p.place c.if-numbers-le-ZERO_PERMITS.false p.within;
+          ∙ at_place f l a.ring.now c.requires.1 r p.place (omega arith) c.if-numbers-le-ZERO_PERMITS.false p.within;
       mark_delete = c.take_entry.ensures.mark_delete;
     }
