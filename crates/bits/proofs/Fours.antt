@@ -9,9 +9,9 @@ use native.Mathlib.Omega.{arith}
 use lib.Bits.{bit_or}
 use lib.Dec.{eqb, leb}
 use lib.ListN.{length, get_or}
-use Rattle.bits.specs.Bits.{count_ones, bits_empty, bits_cardinality, bits_below}
+use Rattle.bits.specs.Bits.{count_ones, fresh_unacked_bits, and_into, bits_empty, bits_cardinality, bits_below}
 use Rattle.bits.proofs.Word.{or_empty}
-use Rattle.bits.proofs.Sets.{cardinality_cons, cardinality_nil}
+use Rattle.bits.proofs.Sets.{cardinality_cons, cardinality_nil, fresh_length, and_into_length}
 use Rattle.bits.specs.Four.{four, words}
 use Rattle.bits.specs.declared.UnackedBits.{UnackedBits}
 
@@ -27,6 +27,14 @@ words_four (a ∷ b ∷ c ∷ d ∷ f ∷ l) e = absurd (omega arith)
 -- a bit set is that of its four words
 pub four_words : (b : UnackedBits) → four (words b) ≡ b
 four_words b = refl
+
+-- the words of a fresh bit set are the fresh list
+pub words_fresh : (n : ℕ) → words (four (fresh_unacked_bits 4 n)) ≡ fresh_unacked_bits 4 n
+words_fresh n = words_four (fresh_unacked_bits 4 n) (fresh_length 4 n)
+
+-- the words of an and-ed bit set are the and-ed list
+pub words_and_into : (b : UnackedBits) (inc : List ℕ) → words (four (and_into (words b) inc)) ≡ and_into (words b) inc
+words_and_into b inc = words_four (and_into (words b) inc) (and_into_length (words b) inc)
 
 -- a bit set is that of a list when its words are the list's first four
 pub is_four : (b : UnackedBits) (l : List ℕ) → b.w0 ≡ get_or l 0 0 → b.w1 ≡ get_or l 1 0 → b.w2 ≡ get_or l 2 0 → b.w3 ≡ get_or l 3 0 → b ≡ four l

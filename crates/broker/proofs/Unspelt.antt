@@ -5,8 +5,6 @@ use mathlib.Core.List.{List}
 use Prim.Native.Nat.{ℕ}
 use Rattle.rules.specs.Calls.{Call, answer_word}
 use Rattle.layout.specs.Layout.{spells}
-use Rattle.row.specs.Row.{RowLeft}
-use Rattle.row_calls.proofs.Rows.{row_unspelt}
 use Rattle.layout.specs.Calls.{outcome, words_after, answer, after, with_records, made_words, list_after}
 
 -- the answer and the words
@@ -18,13 +16,6 @@ unspelt ws x e = rw e record { answer = refl; words = refl }
 pub unspelt_list : (ws : List ℕ) (x : Call) {list left : List ℕ} → spells ws ≡ false → left ≡ list → left ≡ list_after list (outcome ws x)
 unfolding outcome made_words with_records list_after
 unspelt_list ws x e stays = rw (stays, e)
-
--- and a row
-pub unspelt_row : {ws us script answers answers_left list list_left : List ℕ} {r : ℕ}
-    → spells ws ≡ false → r ≡ 1 → us ≡ ws → answers_left ≡ answers → list_left ≡ list
-    → RowLeft ws script answers list r us answers_left list_left
-unspelt_row {ws} {script = script} {answers = answers} {list = list} e refused words each records =
-    rw (refused, words, each, records) (row_unspelt ws script answers list e)
 
 -- words spell a state or they spell none
 pub by_spells : (ws : List ℕ) {Left : Type 0} → (spells ws ≡ true → Left) → (spells ws ≡ false → Left) → Left

@@ -3,7 +3,7 @@
 // them requires anything; the contracts are one equation for the answer and one for every lent slice. Kinds, targets and switches
 // are numbers, as C hands them over; broker_c passes them on.
 // Every call here but opening is made by `on_state`, which first checks that the words spell a state, and answers 1 where they do
-// not.
+// not; a row makes the same test itself, since its script is a slice of words too.
 #![tactic(auto)]
 
 pub mod commands;

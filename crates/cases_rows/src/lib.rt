@@ -4,10 +4,12 @@
 // is that of a write.
 #![tactic(auto)]
 
-ghost use Rattle.std.specs.Prelude.{◌≡◌, ◌*◌, ◌≤◌, min, replicate, true};
+ghost use Rattle.std.specs.Prelude.{◌≡◌, ◌*◌, ◌/◌, ◌≤◌, min, length, drop, replicate, true, IfOk};
 ghost use Rattle.rules.specs.Table.{is_some};
 ghost use Rattle.row.specs.Script.{script_calls};
 ghost use Rattle.row.specs.Row.{words_left};
+ghost use Rattle.told.specs.Told.{dispatches_told};
+ghost use Rattle.trace_kind.specs.Commands.{number_of};
 ghost use Rattle.cases_rows.specs.Line.{row_line_after};
 
 use broker::rows::broker_calls;
@@ -16,7 +18,7 @@ use cases_show::{show_outcome, show_records};
 use record::RECORD_WORDS;
 use row_script::calls::Calls;
 use std::io;
-use told::{number_in, value_in};
+use told::{dispatches_in, number_in};
 use trace_form::command_of;
 use trace_kind::Command;
 
@@ -87,14 +89,9 @@ fn show_pushed<'a>(
     command: Command,
     answer: u64,
     list: &'a [u64],
-) -> io::Result<&'a [u64]> {
-    if command != Command::Push || number_in(answer) != 0 {
-        return Ok(list);
-    }
-    let made = value_in(answer);
-    show_records(rt, list, made)?;
-    Ok(
-        list.split_at((made as usize * RECORD_WORDS).min(list.len()))
-            .1,
-    )
+) -> io::Result<&'a [u64]>
+    ensures { IfOk result (λ rest. rest.now
+        ≡ drop (min (dispatches_told (number_of command) answer) (length list.now / 13) * 13) list.now) }
+{
+    show_records(rt, list, dispatches_in(u64::from(command), answer))
 }

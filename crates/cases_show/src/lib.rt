@@ -2,6 +2,8 @@
 // function here is that of a write.
 #![tactic(auto)]
 
+ghost use Rattle.std.specs.Prelude.{◌≡◌, ◌*◌, ◌/◌, min, length, drop, IfOk};
+
 use bits::UnackedBits;
 use cases_line::name::Name;
 use record::{Dispatch, RECORD_WORDS, read_record, signed};
@@ -70,13 +72,17 @@ pub fn show_twin(rt: &impl Print, same: bool) -> io::Result<()> {
     }
 }
 
-// The records at the start of a list, a line each.
-pub fn show_records(rt: &impl Print, list: &[u64], count: u64) -> io::Result<()> {
-    let (records, _) = list.as_chunks::<RECORD_WORDS>();
-    for record in records.iter().take(count as usize) {
+// The records at the start of a list, a line each, of which it may hold fewer than `count`; answers what stands behind them.
+pub fn show_records<'a>(rt: &impl Print, list: &'a [u64], count: u64) -> io::Result<&'a [u64]>
+    ensures { IfOk result (λ rest. rest.now ≡ drop (min count (length list.now / 13) * 13) list.now) }
+{
+    let shown = (count as usize).min(list.len() / RECORD_WORDS);
+    let (shown, rest) = list.split_at(shown * RECORD_WORDS);
+    let (records, _) = shown.as_chunks::<RECORD_WORDS>();
+    for record in records {
         show_dispatch(rt, read_record(record))?;
     }
-    Ok(())
+    Ok(rest)
 }
 
 // A dispatch, in the order of its record.

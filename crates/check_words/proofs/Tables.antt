@@ -25,6 +25,12 @@ unfolding list_canonical
 list_few ws most w e =
     leb-true (get_or ws 0 0) most ((and-eq-true_iff (leb (get_or ws 0 0) most) (blank ((most - get_or ws 0 0) * w) (drop (1 + get_or ws 0 0 * w) ws))).0 e).0
 
+-- the slots decide before the rest of the room does, which the definition has first
+pub slots_first : (ws : List ℕ) (most w : ℕ) (right : ℕ → Bool) {r : Bool} → r ≡ (each_below right (get_or ws 0 0) && list_canonical ws most w)
+    → r ≡ table_canonical ws most w right
+unfolding table_canonical
+slots_first ws most w right q = q ∙ and_comm (each_below right (get_or ws 0 0)) (list_canonical ws most w)
+
 -- the slots from i on are canonical exactly where all n are
 abbrev pub Left : {A : Type 0} → Codec A → ℕ → List ℕ → ℕ → ℕ → ℕ → Type 0
 Left c w ws first n i = canonicals c (n - i) (drop (first + i * w) ws) ≡ canonicals c n (drop first ws)

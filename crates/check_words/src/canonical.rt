@@ -32,22 +32,26 @@ fn list_canonical(list: &[u64], most: usize, width: usize) -> bool
     n <= most && is_blank(&list[1 + n * width..], 0, (most - n) * width)
 }
 
-// A table: a list in whose slots not any words may stand. Each slot that it counts passes a test.
+// A table: a list in whose slots not any words may stand. Each slot that it counts passes a test. The words past the count
+// come last, since all of the room may lie there: a wrong slot is told before they are read. How many they are is computed
+// before the loop: after it, `is_blank` took 25 instructions for 23 for sixteen words.
 fn table_canonical<F: Fn(usize) -> bool>(list: &[u64], most: usize, width: usize, slot: F) -> bool
     requires room { 1 + most * width ≤ length list.now }
     requires slots { (i : ℕ) → i < most → F.pre slot i }
     ensures { (right : ℕ → Bool) → ((i : ℕ) (r : Bool) → i < most → F.post slot i r → r ≡ right i)
         → result ≡ table_canonical list.now most width right }
 {
-    if !list_canonical(list, most, width) {
+    let n = word(list, 0);
+    if most < n {
         return false;
     }
-    for i in 0..word(list, 0) {
+    let left = (most - n) * width;
+    for i in 0..n {
         if !slot(i) {
             return false;
         }
     }
-    true
+    is_blank(&list[1 + n * width..], 0, left)
 }
 
 // A consumer: its kind is a flag, its nacked list is in order, the reserved word is 0.

@@ -60,7 +60,8 @@ pub fn advance_mark_delete(store: &mut [u64], e: usize, d: usize)
     requires { DispatcherIn e store.old d }
     ensures { store.new ≡ dispatcher_changed store.old d advance_mark_delete }
 {
-    let head = load_head(store, e, d);
+    let mut head = load_head(store, e, d);
     let k = first_incomplete(store, e, d, head.mark_delete);
-    save_head(store, e, d, head.advanced(k));
+    head.advance(k);
+    save_head(store, e, d, head);
 }

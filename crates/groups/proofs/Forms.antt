@@ -94,10 +94,11 @@ words_stand list h f s =
     sym (words_fit list 0 (length list - 3) (omega arith) f) ∙ le-leb (words_at list 0) (length list - 3) s'
 
 -- the group that stands before the words after it
-pub group_before : (list words : List ℕ) → words ≡ take (words_at list 0) (take (length list - 3) (drop 3 list))
+pub group_before : (list words : List ℕ) {n : ℕ} → words ≡ take n (take (length list - 3) (drop 3 list)) → n ≡ words_at list 0
     → record { id = record { ledger = get_or list 0 0; entry = get_or list 1 0 }; words = words } ≡ group_at list 0
-group_before list words e = rw (e, behind list)
+group_before list words e is = rw (e, is, behind list)
 
 -- those
-pub after_group : (list after : List ℕ) → after ≡ drop (words_at list 0) (take (length list - 3) (drop 3 list)) → after ≡ drop (end_at list 0) list
-after_group list after e = rw (e, behind list) (drop-drop (words_at list 0) 3 list)
+pub after_group : (list after : List ℕ) {n : ℕ} → after ≡ drop n (take (length list - 3) (drop 3 list)) → n ≡ words_at list 0
+    → after ≡ drop (end_at list 0) list
+after_group list after e is = rw (e, is, behind list) (drop-drop (words_at list 0) 3 list)

@@ -1,5 +1,6 @@
 // The four numbers of a dispatcher that move together: its next slot, cursor, mark-delete and total
-// available permits. Each move is a method by value. Nothing here knows of a store.
+// available permits. Each move is a method of the whole record, by value; a thin method makes the same
+// move on a record that is lent. Nothing here knows of a store.
 #![tactic(auto)]
 
 #[derive(Clone, Copy)]
@@ -35,5 +36,20 @@ impl Head {
             mark_delete,
             ..self
         }
+    }
+
+    // A turn of push on numbers that are lent.
+    pub fn dispatch(&mut self, next: usize, cursor: usize, cost: u64)
+        requires { cost ≤ self.old.total_available_permits }
+        ensures { self.new ≡ dispatched self.old next cursor cost }
+    {
+        *self = self.dispatched(next, cursor, cost);
+    }
+
+    // The end of an ack on numbers that are lent.
+    pub fn advance(&mut self, mark_delete: usize)
+        ensures { self.new ≡ advanced self.old mark_delete }
+    {
+        *self = self.advanced(mark_delete);
     }
 }

@@ -93,11 +93,11 @@ unfolding record_of
 record_found s f id x e = ap (λ (i : ℕ). record_to i f x) e
 
 -- its entry in flight
-pub flight_found : {us : List ℕ} (ws : List ℕ) (s : State) (d id : ℕ) (x : Step) → id ≡ (consumer_nth s x.consumer).id
+pub flight_found : {us : List ℕ} {k : ℕ} (ws : List ℕ) (s : State) (d id : ℕ) (x : Step) → id ≡ (consumer_nth s x.consumer).id → k ≡ x.position
     → us ≡ put ws (set_dispatcher s d
-    (with_places (dispatcher_nth s d) (dispatcher_nth s d).redelivery ((dispatcher_nth s d).in_flight ++ held id x.position ∷ [])))
+    (with_places (dispatcher_nth s d) (dispatcher_nth s d).redelivery ((dispatcher_nth s d).in_flight ++ held id k ∷ [])))
     → us ≡ put ws (set_dispatcher s d (with_places (dispatcher_nth s d) (dispatcher_nth s d).redelivery ((dispatcher_nth s d).in_flight ++ held_of s x ∷ [])))
 unfolding held_of
-flight_found ws s d id x e w = w
-    ∙ ap (λ (i : ℕ). put ws (set_dispatcher s d
-    (with_places (dispatcher_nth s d) (dispatcher_nth s d).redelivery ((dispatcher_nth s d).in_flight ++ held i x.position ∷ [])))) e
+flight_found ws s d id x e p w = w
+    ∙ ap₂ {A = ℕ} {B = ℕ} {C = List ℕ} (λ i j. put ws (set_dispatcher s d
+    (with_places (dispatcher_nth s d) (dispatcher_nth s d).redelivery ((dispatcher_nth s d).in_flight ++ held i j ∷ [])))) e p

@@ -17,7 +17,6 @@ use Rattle.layout.specs.Whole.{ShapedDispatcher}
 use Rattle.layout.specs.Fields.{dispatcher_nth, set_dispatcher}
 use Rattle.layout.specs.Placed.{DispatcherIn}
 use Rattle.operation_laws.proofs.Moved.{Moved, moved_start, moved_on}
-use Rattle.head.specs.declared.Head as heads
 use Rattle.push_turn.specs.declared.service.Served as places
 use Rattle.push_turn.specs.declared.service.Numbers as moved
 use Rattle.dispatcher.specs.Values.{head_of, with_head}
@@ -68,6 +67,7 @@ pub record Writing (p : places.Served) (ws ps ls us qs ks : List ℕ) (h : moved
   pub count_same : m + length (rest ws p.d (local_from qs h)).made ≡ length (whole ws p.d ps).made
   pub room : length flight + left (fixed ws p.d) (local_from qs h) ≤ p.e
   pub as_long : length ks ≡ length ls
+  pub mark_same : h.head.mark_delete ≡ (dispatcher_nth (decode ws) p.d).mark_delete
 
 module _ {p : places.Served} {ws : List ℕ} (v : ServedHere p ws) where
   abbrev e : ℕ
@@ -109,6 +109,7 @@ module _ {p : places.Served} {ws : List ℕ} (v : ServedHere p ws) where
         count_same = rw whole_rest (omega arith);
         room = rw q (omega (arith, c, l));
         as_long = refl;
+        mark_same = ap (λ (z : moved.Numbers). z.head.mark_delete) q;
       }
 
   module _ {ps ls us qs ks : List ℕ} {h : moved.Numbers} {m : ℕ} (w : Writing p ws ps ls us qs ks h m) where
@@ -127,7 +128,7 @@ module _ {p : places.Served} {ws : List ℕ} (v : ServedHere p ws) where
     ring_on q = q ∙ sym (ap (λ (f : Fixed). f.ring) fixed_same)
 
     -- next stays in the ring
-    pub next_on : {ring : List ℕ} → ring ≡ (fixed ws d).ring → h.next ≤ length ring
+    pub next_on : {ring : List ℕ} → ring ≡ (fixed ws d).ring → h.head.next ≤ length ring
     unfolding local_from
     next_on q = rw q w.ranged.next_in
 
@@ -186,10 +187,10 @@ module _ {p : places.Served} {ws : List ℕ} (v : ServedHere p ws) where
           → vs ≡ put us (set_dispatcher (decode us) d
           (with_places (dispatcher_nth (decode us) d) (dispatcher_nth (decode us) d).redelivery
           ((dispatcher_nth (decode us) d).in_flight ++ held_of (decode us) z ∷ [])))
-          → ns ≡ filled ks m (record_of (decode us) (fixed us d) z ∷ [])
+          → ns ≡ filled ks m (record_of (decode us) (fixed us d) z ∷ []) → k.head.mark_delete ≡ h.head.mark_delete
           → Writing p ws ps ls vs rs ns k (m + 1)
       unfolding with_places local_from filled
-      writing_on {vs} {ns} a b =
+      writing_on {vs} {ns} a b same_mark =
           let y : Held = held_of (decode ws) z in
           let r : Dispatch = record_of (decode ws) (fixed ws d) z in
           let g : Dispatcher → Dispatcher = λ q. with_places q q.redelivery (q.in_flight ++ y ∷ []) in
@@ -231,6 +232,7 @@ module _ {p : places.Served} {ws : List ℕ} (v : ServedHere p ws) where
             count_same = omega (arith, counted, longer);
             room = omega (arith, more, some, less);
             as_long = ap length b ∙ filled_length ks m (record_of (decode us) (fixed us d) z ∷ []) ∙ w.as_long;
+            mark_same = same_mark ∙ w.mark_same;
           }
 
     -- ---- the turn that stops
@@ -246,6 +248,11 @@ module _ {p : places.Served} {ws : List ℕ} (v : ServedHere p ws) where
       pub taken_there : k.taken ≤ length (dispatcher_nth (decode us) d).redelivery
       unfolding local_from fixed_of
       taken_there = rw queue_now (stop_in_lists (fixed ws d) l (local_from rs k) w.ranged.lists_in stopped).0
+
+      -- mark-delete is as it was
+      pub mark_there : k.head.mark_delete ≡ h.head.mark_delete → k.head.mark_delete ≡ (dispatcher_nth (decode us) d).mark_delete
+      unfolding with_places
+      mark_there q = q ∙ w.mark_same ∙ sym (ap (λ (z : Dispatcher). z.mark_delete) w.moved.now)
 
       last : local_from rs k ≡ (whole ws d ps).after
       last = sym (ap (λ (s : Steps). s.after) done) ∙ w.after_same
@@ -316,21 +323,17 @@ module _ {e d : ℕ} {ws us : List ℕ} (k : moved.Numbers) (h : DispatcherIn e 
   pub dropped_in : DispatcherIn e us d
   dropped_in = dropped.here
 
-  -- the four numbers that are stored
-  abbrev stored : ℕ → heads.Head
-  stored mark_delete = record { next = k.next; cursor = k.cursor; mark_delete = mark_delete; total_available_permits = k.total_available_permits }
-
-  -- then these stored
-  pub finished : {vs : List ℕ} {mark_delete : ℕ} → mark_delete ≡ (dispatcher_nth (decode us) d).mark_delete
-      → vs ≡ put us (set_dispatcher (decode us) d (with_head (dispatcher_nth (decode us) d) (stored mark_delete)))
+  -- then the numbers stored
+  pub finished : {vs : List ℕ} → k.head.mark_delete ≡ (dispatcher_nth (decode ws) d).mark_delete
+      → vs ≡ put us (set_dispatcher (decode us) d (with_head (dispatcher_nth (decode us) d) k.head))
       → vs ≡ put ws (set_dispatcher (decode ws) d (applied_dispatcher (dispatcher_nth (decode ws) d) (local_from [] k) []))
   unfolding with_places with_head applied_dispatcher local_from
-  finished {vs} {mark_delete} same b =
+  finished {vs} same b =
       let x = dispatcher_nth (decode ws) d in
       let f = dropped.here.lists_fit in
       let z : Dispatcher = with_places x (drop k.taken x.redelivery) x.in_flight in
       let g : ShapedDispatcher e z = rw (← dropped.now) f in
-      (moved_on h dropped (λ p. with_head p (stored mark_delete))
+      (moved_on h dropped (λ p. with_head p k.head)
       (record {
         ring_fits = g.ring_fits;
         outside_fits = g.outside_fits;
@@ -342,5 +345,5 @@ module _ {e d : ℕ} {ws us : List ℕ} (k : moved.Numbers) (h : DispatcherIn e 
       ∙ ap₂ {A = ℕ} {B = List Held} {C = List ℕ}
       (λ n i.
       put ws (set_dispatcher (decode ws) d
-      (of_parts x.pair x.attached k.next k.cursor n k.total_available_permits (drop k.taken x.redelivery) i x.marks x.outside)))
-      (same ∙ ap (λ (z : Dispatcher). z.mark_delete) dropped.now) (sym (append-nil x.in_flight))
+      (of_parts x.pair x.attached k.head.next k.head.cursor n k.head.total_available_permits (drop k.taken x.redelivery) i x.marks x.outside)))
+      same (sym (append-nil x.in_flight))

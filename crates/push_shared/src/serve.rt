@@ -9,28 +9,22 @@ ghost use Rattle.push_turn.specs.Turns.{local_from, fixed_now, served_now, Serve
 ghost use Rattle.push_shared.specs.Service.{Ready, Written};
 
 use super::deliver::deliver;
-use dispatcher::numbers::{load_head, mark_delete, save_head};
+use dispatcher::numbers::{load_head, save_head};
 use dispatcher::queue::drop_queue;
 use dispatcher::ring::ring_count;
-use head::Head;
 use push_turn::ring::ring_slots;
 use push_turn::service::{Numbers, Served, find_served};
 use push_turn::turn::take_turn;
 use record::RECORD_WORDS;
 
-// Dispatcher `d` after its turns: what was taken leaves its queue, and its numbers are stored; mark-delete stays.
+// Dispatcher `d` after its turns: what was taken leaves its queue, and its numbers are stored.
 fn finish(store: &mut [u64], e: usize, d: usize, numbers: Numbers)
-    requires { DispatcherIn e store.old d × (numbers.taken ≤ length (dispatcher_now store.old d).redelivery) }
+    requires { DispatcherIn e store.old d × (numbers.taken ≤ length (dispatcher_now store.old d).redelivery)
+        × (numbers.head.mark_delete ≡ (dispatcher_now store.old d).mark_delete) }
     ensures { store.new ≡ dispatcher_changed store.old d (λ x. applied_dispatcher x (local_from [] numbers) []) }
 {
     drop_queue(store, e, d, numbers.taken);
-    let head = Head {
-        next: numbers.next,
-        cursor: numbers.cursor,
-        mark_delete: mark_delete(store, e, d),
-        total_available_permits: numbers.total_available_permits,
-    };
-    save_head(store, e, d, head);
+    save_head(store, e, d, numbers.head);
 }
 
 // Serves a dispatcher whose ring is `ring`. The list begins with the records; the answer is how many there are. They are

@@ -45,11 +45,13 @@ module _ (f : Fixed) (l : Local) (next c : ℕ) where
   entry_waiting cursor h k e =
       rw (le-ltb l.taken (length f.queue) h, lt-ltb l.cursor (length f.ledger) k, e)
 
-  -- there is none
+  -- there is none, and nothing is paid
   pub entry_none : length f.queue ≤ l.taken → length f.ledger ≤ l.cursor
-      → stop (record { permits = l.permits; next = next; cursor = l.cursor; total = l.total; taken = l.taken }) ≡ take_entry f l next c
+      → stop (record { permits = l.permits; next = next; cursor = l.cursor; total = l.total - 0; taken = l.taken }) ≡ take_entry f l next c
   unfolding take_entry
-  entry_none h k = rw (le-ltb l.taken (length f.queue) h, le-ltb l.cursor (length f.ledger) k)
+  entry_none h k =
+      let nothing : l.total - 0 ≡ l.total = omega arith in
+      rw (nothing, le-ltb l.taken (length f.queue) h, le-ltb l.cursor (length f.ledger) k)
 
 -- a list with elements is not empty
 not_empty : (l : List ℕ) → 0 < length l → is_empty l ≡ false
@@ -84,12 +86,13 @@ module _ (f : Fixed) (l : Local) (ring : List ℕ) (same : ring ≡ f.ring) wher
   no_place e allowed = turn_idle f l allowed (sym (rw same at e))
 
   module _ (r : ℕ) (chosen : place_named ring (Some r) ≡ first_place ring l.permits l.next) where
-    -- one was
-    pub at_place : zero_permits < l.total → r < length ring → take_entry f l (slot_after r ring) (get_or ring r 0) ≡ local_turn f l
+    -- one was, and next is the one after it
+    pub at_place : {next : ℕ} → next ≡ slot_after r ring → zero_permits < l.total → r < length ring
+        → take_entry f l next (get_or ring r 0) ≡ local_turn f l
     unfolding place_named
-    at_place allowed h =
+    at_place e allowed h =
         let n = ap (λ (m : List ℕ). length m) same in
-        rw same (turn_served f l allowed (omega arith) (record { place = r; consumer = get_or f.ring r 0 }) (sym (rw same at chosen)))
+        rw (e, same) (turn_served f l allowed (omega arith) (record { place = r; consumer = get_or f.ring r 0 }) (sym (rw same at chosen)))
 
     -- its consumer has permits
     pub place_ready : zero_permits < get_or l.permits (get_or ring r 0) 0

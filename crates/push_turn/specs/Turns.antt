@@ -29,12 +29,12 @@ first_place ring permits next =
 
 -- what the turns of a dispatcher move, before the first one: its own numbers, and nothing is taken off the queue
 unfoldable pub numbers_from : heads.Head → moved.Numbers
-numbers_from h = record { next = h.next; cursor = h.cursor; total_available_permits = h.total_available_permits; taken = 0 }
+numbers_from h = record { head = h; taken = 0 }
 
 -- the local numbers of a service, from the permits and what the turns move beside them
 unfoldable pub local_from : List ℕ → moved.Numbers → Local
 local_from permits m =
-    record { permits = permits; next = m.next; cursor = m.cursor; total = m.total_available_permits; taken = m.taken }
+    record { permits = permits; next = m.head.next; cursor = m.head.cursor; total = m.head.total_available_permits; taken = m.taken }
 
 -- the step that the code's record stands for
 unfoldable pub step_of : steps.Step → Step

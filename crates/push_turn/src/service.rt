@@ -20,13 +20,11 @@ pub struct Served {
     pub n: usize,
 }
 
-// What its turns move beside the consumers' permits: next, the cursor, the total, and how many were taken off its queue.
-// Mark-delete is none of it.
+// What its turns move beside the consumers' permits: its four numbers, and how many were taken off its queue. Of the four
+// mark-delete stays.
 #[derive(Clone, Copy)]
 pub struct Numbers {
-    pub next: usize,
-    pub cursor: usize,
-    pub total_available_permits: u64,
+    pub head: Head,
     pub taken: usize,
 }
 
@@ -36,12 +34,7 @@ impl From<Head> for Numbers {
 
     #[tactic(auto, unfolding(crate::specs::Turns::numbers_from))]
     fn from(head: Head) -> Numbers {
-        Numbers {
-            next: head.next,
-            cursor: head.cursor,
-            total_available_permits: head.total_available_permits,
-            taken: 0,
-        }
+        Numbers { head, taken: 0 }
     }
 }
 

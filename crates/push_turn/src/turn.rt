@@ -28,7 +28,8 @@ fn place_after(place: usize, n: usize) -> usize
     if place + 1 == n { 0 } else { place + 1 }
 }
 
-// The entry at position `k` goes to the consumer in slot `c`, and its cost leaves the consumer's permits and the total.
+// The entry at position `k` goes to the consumer in slot `c`, and its cost leaves the consumer's permits and the total; next
+// and the cursor go where they are told.
 fn hand_over(
     store: &[u64],
     served: Served,
@@ -36,16 +37,19 @@ fn hand_over(
     c: usize,
     k: usize,
     numbers: &mut Numbers,
+    next: usize,
+    cursor: usize,
 ) -> Step
     requires { ServedHere served store.now × (k < served.n) × (zero_permits < get_or permits.old c 0)
-        × (zero_permits < numbers.old.total_available_permits) }
-    ensures { turn_of permits.new numbers.new (Some result) ≡ hand_over (fixed_now store.now served.d) permits.old numbers.old.next
-        numbers.old.cursor numbers.old.total_available_permits numbers.old.taken c k }
+        × (zero_permits < numbers.old.head.total_available_permits) }
+    ensures turn { turn_of permits.new numbers.new (Some result) ≡ hand_over (fixed_now store.now served.d) permits.old next cursor
+        numbers.old.head.total_available_permits numbers.old.taken c k }
+    ensures mark_delete { numbers.new.head.mark_delete ≡ numbers.old.head.mark_delete }
 {
     let cost = price(store, served, k);
     let left = permits[c] - cost;
     permits[c] = left;
-    numbers.total_available_permits -= cost;
+    numbers.head.dispatch(next, cursor, cost);
     Step {
         consumer: c,
         position: k,
@@ -54,35 +58,38 @@ fn hand_over(
     }
 }
 
-// The next entry goes to the consumer in slot `c`, if there is one. The queue or the cursor moves before it is handed over.
+// The next entry goes to the consumer in slot `c`, if there is one, and next moves whether there is one or not. What is taken
+// off the queue is counted before it is handed over.
 fn take_entry(
     store: &[u64],
     served: Served,
     permits: &mut [u64],
     c: usize,
     numbers: &mut Numbers,
+    next: usize,
 ) -> Option<Step>
-    requires { ServedHere served store.now × (zero_permits < get_or permits.old c 0) × (zero_permits < numbers.old.total_available_permits) }
-    ensures { turn_of permits.new numbers.new result ≡ take_entry (fixed_now store.now served.d)
-        (local_from permits.old numbers.old) numbers.old.next c }
+    requires { ServedHere served store.now × (zero_permits < get_or permits.old c 0) × (zero_permits < numbers.old.head.total_available_permits) }
+    ensures turn { turn_of permits.new numbers.new result ≡ take_entry (fixed_now store.now served.d)
+        (local_from permits.old numbers.old) next c }
+    ensures mark_delete { numbers.new.head.mark_delete ≡ numbers.old.head.mark_delete }
 {
+    let cursor = numbers.head.cursor;
     if numbers.taken < queue_count(store, served.e, served.d) {
         let k = queued(store, served.e, served.d, numbers.taken);
         numbers.taken += 1;
-        let first = hand_over(store, served, permits, c, k, numbers);
+        let first = hand_over(store, served, permits, c, k, numbers, next, cursor);
         return Some(first);
     }
-    if numbers.cursor < served.n {
-        let k = numbers.cursor;
-        numbers.cursor += 1;
-        let step = hand_over(store, served, permits, c, k, numbers);
+    if cursor < served.n {
+        let step = hand_over(store, served, permits, c, cursor, numbers, next, cursor + 1);
         return Some(step);
     }
+    numbers.head.dispatch(next, cursor, 0);
     None
 }
 
 // One turn of a dispatcher whose ring is `ring`, on the permits and its numbers: the dispatch, if one is made. Next moves
-// whether there is an entry or not.
+// whether there is an entry or not; mark-delete stays.
 pub fn take_turn(
     store: &[u64],
     served: Served,
@@ -90,14 +97,14 @@ pub fn take_turn(
     permits: &mut [u64],
     numbers: &mut Numbers,
 ) -> Option<Step>
-    requires { ServedHere served store.now × (ring.now ≡ (fixed_now store.now served.d).ring) × (numbers.old.next ≤ length ring.now) }
-    ensures { turn_of permits.new numbers.new result ≡ local_turn (fixed_now store.now served.d) (local_from permits.old numbers.old) }
+    requires { ServedHere served store.now × (ring.now ≡ (fixed_now store.now served.d).ring) × (numbers.old.head.next ≤ length ring.now) }
+    ensures turn { turn_of permits.new numbers.new result ≡ local_turn (fixed_now store.now served.d) (local_from permits.old numbers.old) }
+    ensures mark_delete { numbers.new.head.mark_delete ≡ numbers.old.head.mark_delete }
 {
-    if numbers.total_available_permits <= ZERO_PERMITS {
+    if numbers.head.total_available_permits <= ZERO_PERMITS {
         return None;
     }
-    let place = choose(ring, permits, numbers.next)?;
+    let place = choose(ring, permits, numbers.head.next)?;
     let next = place_after(place, ring.len());
-    numbers.next = next;
-    take_entry(store, served, permits, ring[place], numbers)
+    take_entry(store, served, permits, ring[place], numbers, next)
 }

@@ -235,6 +235,21 @@ module _ {every : List Call} {ws₀ answers₀ list₀ ws answers list : List �
       let answers_are : answers' ≡ set answers call (answer ws as_made) = s ∙ ap (set answers call) e' in
       rw (w', answers_are, whole, from_is) going_next
 
+  -- and with the place from which the code lends the list
+  abbrev lent : ℕ → List ℕ
+  lent start = take (length list - start) (drop start list)
+
+  abbrev lent_call : ℕ → Call
+  lent_call start = as_call (length (lent start) / 13) made
+
+  pub goes_on_from : (start : ℕ) {ws' answers' filled_part : List ℕ} {a from' : ℕ} → ws' ≡ after ws (lent_call start) → a ≡ answer ws (lent_call start)
+      → answers' ≡ set answers call a → filled_part ≡ list_after (lent start) (outcome ws (lent_call start))
+      → from' ≡ from + words_filled (kind_of (as_call 0 made)) a → start ≡ from
+      → Going every ws₀ answers₀ list₀ ws' answers' (take start list ++ (filled_part ++ drop (length list - start) (drop start list))) others (call + 1) from'
+  goes_on_from start w e s l f is =
+      rw is (goes_on (w ∙ ap (λ (k : ℕ). after ws (lent_call k)) is) (e ∙ ap (λ (k : ℕ). answer ws (lent_call k)) is) s
+      (l ∙ ap (λ (k : ℕ). list_after (lent k) (outcome ws (lent_call k))) is) f)
+
 -- ---- the end
 
 -- no call is left, so all are made

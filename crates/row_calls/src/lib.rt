@@ -16,18 +16,15 @@ use record::RECORD_WORDS;
 use refusal::{Answer, Refusal, word_of};
 use row_script::calls::Calls;
 use row_script::count_calls;
-use told::made_in;
+use told::dispatches;
 use trace_call::answer_call;
-use trace_form::Call;
+use trace_form::{Call, command_of};
 
 // How many words of its list a call filled, by its answer.
 fn words_filled(call: Call, answer: Answer) -> usize
     ensures { result ≡ words_filled (kind_of (as_call 0 call.entry)) (word_of answer) }
 {
-    match call {
-        Call::Push => made_in(word_of(answer)) as usize * RECORD_WORDS,
-        _ => 0,
-    }
+    dispatches(command_of(call), answer) as usize * RECORD_WORDS
 }
 
 // Makes the calls of a script and writes their answers; each push is given what is left of the list.

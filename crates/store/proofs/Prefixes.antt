@@ -1,13 +1,14 @@
 -- Tests of a list that go element by element, as a loop makes them: where the elements before a place pass, the test of
 -- the next one decides whether those up to it pass, and one that fails decides for the whole list.
 use mathlib.Core.Path.{◌≡◌, refl, sym, ap, ap₂, ◌∙◌}
-use mathlib.Core.Bool.{Bool, true, false, ◌&&◌, and_assoc, and-true}
+use mathlib.Core.Bool.{Bool, true, false, not, ◌&&◌, and_assoc, and-true}
 use mathlib.Core.List.{List, [], ◌∷◌, ◌++◌, map, append-nil}
 use Prim.Native.Nat.{ℕ, suc, ◌+◌, ◌≤◌, ◌<◌}
 use native.Mathlib.Numerals.{add-one}
 use lib.ListN.{length, get_or, take, drop}
 use lib.Seq.{take-suc, take_all, append_snoc, split_at}
-use Rattle.rules.specs.Table.{all}
+use Rattle.rules.specs.Table.{all, any}
+use Rattle.rules.proofs.Table.{by_test}
 
 -- a test of lists by a test of each element, which may look at those before it
 pub record Stepwise {A : Type 0} (T : List A → Bool) (S : List A → A → Bool) : Type 0 where
@@ -58,6 +59,15 @@ all_steps {A} p = record { none = refl; more = more }
     more : (l : List A) (a : A) → all p (l ++ a ∷ []) ≡ (all p l && p a)
     more [] a = and-true (p a)
     more (b ∷ l) a = ap (λ (x : Bool). p b && x) (more l a) ∙ sym (and_assoc (p b) (all p l) (p a))
+
+-- no element passes
+pub none_steps : {A : Type 0} (q : A → Bool) → Stepwise (λ l. not (any q l)) (λ l a. not (q a))
+unfolding any
+none_steps {A} q = record { none = refl; more = more }
+  where
+    more : (l : List A) (a : A) → not (any q (l ++ a ∷ [])) ≡ (not (any q l) && not (q a))
+    more [] a = by_test (q a) (λ t. rw t) (λ t. rw t)
+    more (b ∷ l) a = by_test (q b) (λ t. rw t) (λ t. rw t (more l a))
 
 -- both of two tests pass
 pub both_steps : {A : Type 0} {T U : List A → Bool} {S R : List A → A → Bool} → Stepwise T S → Stepwise U R

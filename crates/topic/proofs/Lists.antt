@@ -1,6 +1,6 @@
 -- The table of topics and the messages of each as counted lists of a store: they lie in it, and what is done to one is done
 -- to the state.
-use mathlib.Core.Path.{◌≡◌}
+use mathlib.Core.Path.{◌≡◌, ◌∙◌}
 use mathlib.Core.List.{List, [], ◌∷◌, ◌++◌}
 use Prim.Native.Nat.{ℕ, ◌+◌, ◌*◌, ◌≤◌, ◌<◌}
 use native.Mathlib.Omega.{arith}
@@ -55,3 +55,9 @@ module _ {e : ℕ} {ws : List ℕ} (t : ℕ) (h : TopicIn e ws t) where
   message_with m l =
       let to : topic_at e t + message_in 0 + size (message_list e t) ws * 4 ≡ topic_at e t + message_in (size (message_list e t) ws) = omega arith in
       rw (to, message_size) (layout.append_message h.canon t h.there m l)
+
+  -- whatever way its words came to be those
+  pub message_stands : {us : List ℕ} (m : StoredMessage) → length (topic_nth (decode ws) t).messages < e
+      → us ≡ with_last (message_list e t) (m.id.ledger ∷ m.id.entry ∷ m.handle ∷ m.batch_size ∷ []) ws
+      → us ≡ put ws (set_topic (decode ws) t (appended m (topic_nth (decode ws) t)))
+  message_stands m l s = s ∙ message_with m l

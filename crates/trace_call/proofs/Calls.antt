@@ -1,7 +1,7 @@
 -- What is made of a kind and its words on the words of a store: nothing of no call, else the call; and only a push changes the
 -- list.
 use Prim.Native.Nat.{ℕ}
-use mathlib.Core.Path.{◌≡◌, refl}
+use mathlib.Core.Path.{◌≡◌, refl, ap}
 use mathlib.Core.Bool.{true, false}
 use mathlib.Core.List.{List}
 use mathlib.Core.Option.{Option, none, some}
@@ -13,8 +13,9 @@ use Rattle.rules.proofs.Answers.{WithoutRecords, is_push, without_records}
 use Rattle.layout.specs.Layout.{decode, spells}
 use Rattle.layout.specs.Calls.{outcome, answer, after, with_records, made_words, list_after}
 use Rattle.layout.proofs.Calls.{outcome_is}
+use Rattle.std.proofs.Common as code
 use Rattle.std.proofs.Common.{None, Some}
-use Rattle.trace_call.specs.Made.{made, words_made, list_made}
+use Rattle.trace_call.specs.Made.{made, answer_of, answered, words_made, list_made}
 
 -- ---- what is made
 
@@ -30,6 +31,13 @@ module _ (ws list : List ℕ) {o : Option Call} where
       → record { answer : Some r ≡ made ws o; words : us ≡ words_made ws o; records : ls ≡ list_made ws list o }
   unfolding made words_made list_made
   is_made e h = rw (← e) (record { answer = rw h.answer refl; words = h.words; records = h.records })
+
+-- and the number of either
+pub numbered : (ws list : List ℕ) (o : Option Call) {r : code.Option ℕ} {us ls : List ℕ}
+    → record { answer : r ≡ made ws o; words : us ≡ words_made ws o; records : ls ≡ list_made ws list o }
+    → record { answer : r ≡ made ws o; number : answer_of r ≡ answered ws o; words : us ≡ words_made ws o; records : ls ≡ list_made ws list o }
+unfolding answered
+numbered ws list o h = record { answer = h.answer; number = ap answer_of h.answer; words = h.words; records = h.records }
 
 -- ---- only a push changes the list
 

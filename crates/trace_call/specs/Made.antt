@@ -6,6 +6,7 @@ use Rattle.refusal.specs.Words.{word_of}
 use Rattle.refusal.specs.declared.Refusal.{Refusal}
 use Rattle.rules.specs.Calls.{Call}
 use Rattle.layout.specs.Calls.{outcome, answer, after, list_after}
+use Rattle.trace.specs.Calls.{NO_CALL}
 
 -- an answer's word, where there is an answer
 abbrev pub words_told : Option (Result ℕ Refusal) → Option ℕ
@@ -16,6 +17,15 @@ words_told (Some a) = Some (word_of a)
 unfoldable pub made : List ℕ → Maybe Call → Option ℕ
 made ws none = None
 made ws (some x) = Some (answer ws x)
+
+-- the paper's number of each case: 18, or the call's answer
+unfoldable pub answer_of : Option ℕ → ℕ
+answer_of None = NO_CALL
+answer_of (Some a) = a
+
+-- what it answers: 18 where there is no call
+unfoldable pub answered : List ℕ → Maybe Call → ℕ
+answered ws o = answer_of (made ws o)
 
 -- the words after
 unfoldable pub words_made : List ℕ → Maybe Call → List ℕ

@@ -9,7 +9,7 @@ ghost use Rattle.layout.specs.Calls.{outcome, answer, after, list_after};
 ghost use Rattle.refusal.specs.Words.{word_of};
 ghost use Rattle.trace.specs.Calls.{call_of};
 ghost use Rattle.trace_form.specs.Calls.{as_call};
-ghost use Rattle.trace_call.specs.Made.{words_told, made, words_made, list_made};
+ghost use Rattle.trace_call.specs.Made.{words_told, made, answer_of, answered, words_made, list_made};
 
 use ack::ack;
 use append::append;
@@ -28,6 +28,7 @@ use trace_form::{Call, call_of};
 pub fn make_call(store: &mut [u64], kind: u64, words: &[u64], list: &mut [u64]) -> Option<Answer>
     requires { spells store.old ≡ true }
     ensures answer { words_told result ≡ made store.old (call_of (length list.old / 13) kind words.now) }
+    ensures number { answer_of (words_told result) ≡ answered store.old (call_of (length list.old / 13) kind words.now) }
     ensures words { store.new ≡ words_made store.old (call_of (length list.old / 13) kind words.now) }
     ensures records { list.new ≡ list_made store.old list.old
         (call_of (length list.old / 13) kind words.now) }

@@ -11,7 +11,7 @@ ghost use Rattle.trace_kind.specs.Commands.{number_of};
 ghost use Rattle.trace_form.specs.Calls.{as_call, as_read};
 
 use command_parts::{Kind, Target};
-use trace_kind::Command;
+use trace_kind::{Command, MOST_8, MOST_32};
 
 // A call, with what its export takes. What a push's list holds is known when the call is made.
 #[derive(Clone, Copy)]
@@ -75,9 +75,11 @@ fn append_of(words: &[u64]) -> Option<Call>
     if words.len() != 5 {
         return None;
     }
-    let topic = u8::try_from(words[0]).ok()?;
+    if MOST_8 < words[0] {
+        return None;
+    }
     Some(Call::Append {
-        topic,
+        topic: words[0] as u8,
         ledger: words[1],
         entry: words[2],
         handle: words[3],
@@ -99,13 +101,17 @@ fn subscribe_of(words: &[u64]) -> Option<Call>
     if SHARED < words[1] {
         return None;
     }
-    let topic = u8::try_from(words[2]).ok()?;
-    let subscription = u8::try_from(words[3]).ok()?;
+    if MOST_8 < words[2] {
+        return None;
+    }
+    if MOST_8 < words[3] {
+        return None;
+    }
     Some(Call::Subscribe {
         consumer: words[0],
         kind: Kind::from(words[1]),
-        topic,
-        subscription,
+        topic: words[2] as u8,
+        subscription: words[3] as u8,
     })
 }
 
@@ -117,10 +123,12 @@ fn flow_of(words: &[u64]) -> Option<Call>
     if words.len() != 2 {
         return None;
     }
-    let grant = u32::try_from(words[1]).ok()?;
+    if MOST_32 < words[1] {
+        return None;
+    }
     Some(Call::Flow {
         consumer: words[0],
-        grant,
+        grant: words[1] as u32,
     })
 }
 

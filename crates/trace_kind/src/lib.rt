@@ -1,10 +1,15 @@
-// The kinds of a call in a trace or a script, as `trace/specs/Calls.antt` numbers them.
+// The kinds of a call in a trace or a script, as `trace/specs/Calls.antt` numbers them, and the widths of its fields.
 #![tactic(auto)]
 
 ghost use Rattle.std.specs.Prelude.{◌≡◌};
 ghost use Rattle.trace_kind.specs.Commands.{number_of, command_of};
 
 use refusal::Refusal;
+
+// The largest numbers of a field of 8 and of 32 bits.
+pub const MOST_8: u64 = 255;
+
+pub const MOST_32: u64 = 4_294_967_295;
 
 // What a call asks for.
 #[derive(Clone, Copy, Debug, PartialEq, Eq)]

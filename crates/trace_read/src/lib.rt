@@ -41,8 +41,8 @@ fn number(bytes: &[u8]) -> u64
     ensures { result ≡ number bytes.now }
 {
     let mut n = 0;
-    for byte in bytes {
-        n = n * 256 + u64::from(*byte);
+    for i in 0..bytes.len() {
+        n = n * 256 + u64::from(bytes[i]);
     }
     n
 }

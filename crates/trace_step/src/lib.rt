@@ -10,7 +10,7 @@ ghost use Rattle.trace.specs.Format.{record_reach, record_in};
 ghost use Rattle.trace.specs.Format.Reach.{ends};
 ghost use Rattle.trace.specs.Played.{ROOM, record_call};
 ghost use Rattle.trace.specs.Steps.{reach, end_text};
-ghost use Rattle.trace_call.specs.Made.{words_told, made, words_made, list_made};
+ghost use Rattle.trace_call.specs.Made.{words_told, made, answer_of, answered, words_made, list_made};
 ghost use Rattle.trace_lines.specs.Told.{lines_bytes};
 ghost use Rattle.trace_step.specs.Stepped.{player_after, step_answer, Within, step_call, WroteBad, Stepped, HeaderStepped};
 
@@ -44,6 +44,7 @@ const LIST_WORDS: usize = 32 * RECORD_WORDS;
 fn make_record(store: &mut [u64], bytes: &[u8], list: &mut [u64]) -> Option<Answer>
     requires { (spells store.old ≡ true) × (record_reach bytes.now ≡ ends (length bytes.now)) × (length list.old ≡ ROOM * 13) }
     ensures answer { words_told result ≡ made store.old (record_call (record_in bytes.now)) }
+    ensures number { answer_of (words_told result) ≡ answered store.old (record_call (record_in bytes.now)) }
     ensures words { store.new ≡ words_made store.old (record_call (record_in bytes.now)) }
     ensures records { list.new ≡ list_made store.old list.old (record_call (record_in bytes.now)) }
 {

@@ -128,6 +128,20 @@ type_low code_type.CloseConsumer = omega arith
 type_low code_type.Redeliver = omega arith
 type_low code_type.Seek = omega arith
 
+-- the types that are taken are small numbers
+pub taken_low : (type : ℕ) → takes_command type ≡ true → type < 2 ^ 32
+unfolding takes_command
+taken_low type t =
+    by_test (eqb type SUBSCRIBE) (λ e. low SUBSCRIBE (omega arith) e)
+    (λ a. by_test (eqb type ACK) (λ e. low ACK (omega arith) e)
+    (λ b. by_test (eqb type FLOW) (λ e. low FLOW (omega arith) e)
+    (λ c. by_test (eqb type CLOSE_CONSUMER) (λ e. low CLOSE_CONSUMER (omega arith) e)
+    (λ d. by_test (eqb type REDELIVER) (λ e. low REDELIVER (omega arith) e)
+    (λ f. low SEEK (omega arith) (rw (a, b, c, d, f) at t))))))
+  where
+    low : (k : ℕ) → k < 2 ^ 32 → eqb type k ≡ true → type < 2 ^ 32
+    low k h e = let q = eqb-true type k e in omega arith
+
 -- a type that was read: its number, which is taken and small
 pub record Typed (n : ℕ) (kind : CommandType) : Type 0 where
   pub is : n ≡ type_number kind

@@ -16,6 +16,7 @@ use Rattle.wire.specs.Select.{numbered}
 use Rattle.wire.specs.Ids.{id_list, list_words}
 use Rattle.wire.specs.Commands.{Command, SUBSCRIBE, ACK, FLOW, CLOSE_CONSUMER, REDELIVER, SEEK, command_of}
 use Rattle.wire.specs.Commands.{subscribe_of, flow_of, ack_of, seek_of, redeliver_of, close_of}
+use Rattle.wire.specs.Commands.Command.{Subscribe, Flow, Ack, Seek, Redeliver, Close}
 use Rattle.wire.specs.Answers.{LIST_WORDS, command_type, command_list}
 use Rattle.wire.proofs.Options.{Gives, gives_some, gives_bind, asked}
 use Rattle.wire.proofs.Ids.{ids_listed}
@@ -29,6 +30,16 @@ pub record Chosen (m : List ℕ) (kind : ℕ) (c : Command) : Type 0 where
   pub type : command_type c ≡ kind
   pub list : command_list c ≡ ids_words kind m
   pub ready : (size : ℕ) → LIST_WORDS ≤ size → IdsReady kind m size
+
+-- no type is large
+pub type_small : (c : Command) → command_type c ≤ 28
+unfolding command_type
+type_small (Subscribe consumer request kind topic subscription) = omega arith
+type_small (Flow consumer permits) = omega arith
+type_small (Ack consumer ids) = omega arith
+type_small (Seek consumer request target) = omega arith
+type_small (Redeliver consumer ids) = omega arith
+type_small (Close consumer request) = omega arith
 
 -- of a command without ids
 without_ids : (m : List ℕ) (kind : ℕ) (c : Command) → (kind ≡ ACK → ⊥) → (kind ≡ REDELIVER → ⊥) → command_type c ≡ kind

@@ -4,3 +4,4 @@ pub mod Targets
 pub mod Sizes
 pub mod Choices
 pub mod Answers
+pub mod InNumbers

@@ -7,6 +7,7 @@ pub mod command_type;
 pub mod content;
 pub mod eight_words;
 pub mod ids;
+pub mod in_numbers;
 pub mod numbers;
 pub mod read;
 pub mod seek;

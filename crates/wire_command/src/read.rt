@@ -11,6 +11,7 @@ use super::command_type::CommandType;
 use super::content::content_of;
 use super::eight_words::write_words;
 use super::ids::{ACK_IDS, REDELIVER_IDS};
+use super::in_numbers::Command;
 use wire_fields::base::read_base;
 use wire_fields::unread::Unread;
 use wire_ids::lay::lay_ids;
@@ -49,7 +50,7 @@ fn read_content(
 {
     let c = content_of(m, kind, at).ok_or(Unread::Malformed)?;
     lay_list(m, kind, list);
-    write_words(command, c);
+    write_words(command, Command::from(c));
     Ok(kind)
 }
 

@@ -1,5 +1,6 @@
 -- What the walks over a message turn on. Other crates cite `Walks` and `Selections`.
 pub mod Answered
+pub mod Answers
 pub mod Varints
 pub mod FieldsRead
 pub mod Walks
@@ -7,3 +8,4 @@ pub mod Selections
 pub mod Laying
 pub mod Bases
 pub mod TwoBytes
+pub mod Tags

@@ -15,7 +15,7 @@ const MOST_BEFORE: usize = 9;
 const BITS: usize = 7;
 
 // A byte that another follows is this much or more.
-const MORE: u64 = 128;
+pub const MORE: u64 = 128;
 
 // The varint at a place. Most have one byte, which is read without the loop.
 #[inline(always)]

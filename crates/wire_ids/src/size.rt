@@ -3,12 +3,15 @@ ghost use Rattle.std.specs.Prelude.{◌≡◌, ◌+◌, ◌*◌, ◌≤◌, leng
 ghost use Rattle.wire_fields.specs.Found.{answered};
 ghost use Rattle.wire_ids.specs.Sizes.{size_of, ids_of, tally_id};
 
-use super::id::{HEAD_WORDS, id_words};
+use super::id::id_words;
 use wire_fields::field::DELIMITED;
 use wire_fields::fields::Fields;
 
 // The most ids of a list.
 const MOST_IDS: u64 = 64;
+
+// The words of an id beside those of its ack set, as a number of words.
+pub const HEAD_WORDS: u64 = super::id::HEAD_WORDS as u64;
 
 // How many ids may follow, and the words of those before.
 #[derive(Clone, Copy)]
@@ -32,7 +35,7 @@ fn with_id(bytes: &[u8], wire: u64, t: Tally) -> Option<Tally>
     let n = id_words(bytes)?;
     Some(Tally {
         left: t.left - 1,
-        words: t.words + (HEAD_WORDS as u64 + n),
+        words: t.words + (HEAD_WORDS + n),
     })
 }
 

@@ -3,7 +3,7 @@ use Rattle.std.proofs.Common.{◌+◌, ap, arith}
 use mathlib.Core.Path.{ap₂}
 use lib.ListN.{set}
 use Rattle.row_calls.proofs.Rows.{calls_fit}
-use Rattle.row_calls.proofs.Going.{starts_going, goes_on, all_made}
+use Rattle.row_calls.proofs.Going.{starts_going, goes_on_from, all_made}
 use Rattle.row_calls.proofs.make_calls.Goals as goal
 
 pub loop-i-init : goal.loop-i-init
@@ -17,8 +17,8 @@ overflow_add-from c =
     let s = c.in-Some.ensures.steps in
     let made = c.answer_call-answer.ensures in
     let next =
-    goes_on c.loop-i.invariant c.in-Some.call _ s.0 made.words made.answer (ap₂ (set c.loop-i.answers) s.1 c.word_of.ensures) made.records
-    (ap (λ k. c.loop-i.from + k) c.words_filled-from.ensures) in
+    goes_on_from c.loop-i.invariant c.in-Some.call _ s.0 _ made.words made.answer (ap₂ (set c.loop-i.answers) s.1 c.word_of.ensures) made.records
+    (ap (λ k. c.loop-i.from + k) c.words_filled-from.ensures) (omega arith) in
     record { fits = omega (arith, next.inside, next.short) }
 
 pub loop-i-preserved : goal.loop-i-preserved
@@ -26,8 +26,8 @@ loop-i-preserved c =
     let s = c.in-Some.ensures.steps in
     let made = c.answer_call-answer.ensures in
     rw s.2
-    (goes_on c.loop-i.invariant c.in-Some.call _ s.0 made.words made.answer (ap₂ (set c.loop-i.answers) s.1 c.word_of.ensures) made.records
-    (ap (λ k. c.loop-i.from + k) c.words_filled-from.ensures))
+    (goes_on_from c.loop-i.invariant c.in-Some.call _ s.0 _ made.words made.answer (ap₂ (set c.loop-i.answers) s.1 c.word_of.ensures) made.records
+    (ap (λ k. c.loop-i.from + k) c.words_filled-from.ensures) (omega arith))
 
 pub returns : goal.returns
 returns c = all_made c.loop-i.invariant c.in-None.ensures.steps.0.0 c.requires.1

@@ -2,5 +2,5 @@
 use Rattle.trace_read.proofs.Numbers.{Partly}
 use Rattle.trace_read.proofs.number.Given as goal
 
-abbrev pub invariant-loop-byte : goal.invariant-loop-byte
-invariant-loop-byte l = Partly l.bytes l.n l.byte-index
+abbrev pub invariant-loop-i : goal.invariant-loop-i
+invariant-loop-i l = Partly l.bytes l.n l.i

@@ -1,14 +1,10 @@
 -- `broker::rows::broker_calls` meets its contract: the words are checked once, then the row is made.
-use Rattle.std.proofs.Common.{rules}
-use Rattle.broker.proofs.Unspelt.{unspelt_row, by_spells}
+use Rattle.store.proofs.Tests.{answered_no, answered_yes}
+use Rattle.row_calls.proofs.Rows.{row_unspelt}
 use Rattle.broker.proofs.rows.broker_calls.Goals as goal
 
-pub returns : goal.returns
-returns c = by_spells c.args.store.now
-    (λ e.
-    let s = c.on_state.ensures.spelt e in
-    let m = s.1.called.met in
-    rw (s.2, ← s.1.shows, ← s.1.leaves) search rules)
-    (λ e.
-    let s = c.on_state.ensures.unspelt e in
-    unspelt_row e s.0 s.1 (search rules) (search rules))
+pub returns-then-not-spells : goal.returns-then-not-spells
+returns-then-not-spells c = rw c.word_of.ensures (row_unspelt _ _ _ _ (answered_no c.spells.ensures c.if-not-spells.true))
+
+pub make_row-requires : goal.make_row-requires
+make_row-requires c = answered_yes c.spells.ensures c.if-not-spells.false

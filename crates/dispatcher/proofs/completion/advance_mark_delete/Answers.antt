@@ -12,5 +12,5 @@ returns c =
     let d = c.args.d in
     c.save_head.ensures
     ∙ ap (λ (y : Dispatcher). put ws (set_dispatcher (decode ws) d y))
-    (advanced_there (dispatcher_nth (decode ws) d) c.load_head-head.result c.advanced.result c.first_incomplete-k.result
-    c.load_head-head.ensures c.first_incomplete-k.ensures c.advanced.ensures)
+    (advanced_there (dispatcher_nth (decode ws) d) c.load_head-head.result c.advance.new.self c.first_incomplete-k.result
+    c.load_head-head.ensures c.first_incomplete-k.ensures c.advance.ensures)

@@ -1,5 +1,6 @@
 -- `dispatcher::outside::insert_outside` meets its contract: what is done to a list.
 use mathlib.Core.Path.{ap, ◌∙◌}
+use borrow.Author.Rules.{rules}
 use native.Mathlib.Omega.{arith}
 use Rattle.layout.specs.Layout.{decode}
 use Rattle.layout.specs.Fields.{dispatcher_nth}
@@ -20,4 +21,4 @@ pub returns : goal.returns
 returns c =
     c.insert.ensures
     ∙ rw (c.outside_list.ensures, ap (λ (i : Id). i.ledger) c.id.view_is, ap (λ (i : Id). i.entry) c.id.view_is)
-    (outside_with c.args.d c.requires.0 c.place_for_outside-j.result c.args.id c.place_for_outside-j.ensures c.requires.1)
+    (outside_with c.args.d c.requires.0 _ c.args.id (search rules) c.requires.1)

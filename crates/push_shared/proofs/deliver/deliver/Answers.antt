@@ -8,6 +8,7 @@ use Rattle.push_laws.specs.Local.{fixed_of}
 use Rattle.push_laws.specs.Applied.{record_of}
 use Rattle.push_turn.specs.Turns.{step_of}
 use Rattle.push_shared.proofs.Records.{one_filled, record_found, flight_found}
+use borrow.Author.Rules.{rules}
 use Rattle.push_shared.proofs.deliver.deliver.Goals as goal
 
 pub consumer_id-id-requires : goal.consumer_id-id-requires
@@ -21,7 +22,7 @@ returns c =
     let f = fixed_of (decode ws) (dispatcher_nth (decode ws) c.args.served.d) in
     let id = c.consumer_id-id.result in
     record {
-      words = flight_found ws (decode ws) c.args.served.d id x c.consumer_id-id.ensures c.append_flight.ensures;
+      words = flight_found ws (decode ws) c.args.served.d id x c.consumer_id-id.ensures (search rules) c.append_flight.ensures;
       records = one_filled c.args.list.now (record_of (decode ws) f x)
           c.write_record.ensures (c.record_to-record.ensures ∙ ap flat (record_found (decode ws) f id x c.consumer_id-id.ensures));
     }

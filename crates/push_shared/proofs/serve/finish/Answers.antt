@@ -1,12 +1,9 @@
--- `push_shared::serve::finish` meets its contract: the queue dropped, then the numbers stored beside mark-delete.
+-- `push_shared::serve::finish` meets its contract: the queue dropped, then the numbers stored.
 use Rattle.push_shared.proofs.Writing.{dropped_in, finished}
 use Rattle.push_shared.proofs.serve.finish.Goals as goal
-
-pub mark_delete-requires : goal.mark_delete-requires
-mark_delete-requires c = dropped_in c.args.numbers c.requires.0 c.drop_queue.ensures
 
 pub save_head-requires : goal.save_head-requires
 save_head-requires c = dropped_in c.args.numbers c.requires.0 c.drop_queue.ensures
 
 pub returns : goal.returns
-returns c = finished c.args.numbers c.requires.0 c.drop_queue.ensures c.mark_delete.ensures c.save_head.ensures
+returns c = finished c.args.numbers c.requires.0 c.drop_queue.ensures c.requires.2 c.save_head.ensures

@@ -26,7 +26,7 @@ take_turn-requires c =
     let p = c.requires in
     let n = ap (λ (m : List ℕ). length m) p.1 in
     let r = c.loop-served.invariant.in_ring in
-    let h : c.loop-served.numbers.next ≤ length c.args.ring.now = omega arith in
+    let h : c.loop-served.numbers.head.next ≤ length c.args.ring.now = omega arith in
     (p.0, p.1, h)
 
 pub overflow_add-count : goal.overflow_add-count
@@ -45,19 +45,19 @@ overflow_add-count c =
 pub loop-served-smaller : goal.loop-served-smaller
 loop-served-smaller c =
     let t = turned_some c.take_turn.new.permits c.take_turn.new.numbers c.take_turn.result (sym c.is_some.ensures ∙ c.loop-served-test.true) in
-    turn_less _ _ t.0 _ (sym c.take_turn.ensures ∙ t.1)
+    turn_less _ _ t.0 _ (sym c.take_turn.ensures.turn ∙ t.1)
 
 pub loop-served-preserved : goal.loop-served-preserved
 loop-served-preserved c =
     let t = turned_some c.take_turn.new.permits c.take_turn.new.numbers c.take_turn.result (sym c.is_some.ensures ∙ c.loop-served-test.true) in
-    since_move _ _ _ c.loop-served.count c.loop-served.invariant t.0 _ (sym c.take_turn.ensures ∙ t.1)
+    since_move _ _ _ c.loop-served.count c.loop-served.invariant t.0 _ (sym c.take_turn.ensures.turn ∙ t.1)
 
 pub returns : goal.returns
 unfolding local_from
 returns c =
     let a = c.args in
     let e = turned_none c.take_turn.new.permits c.take_turn.new.numbers c.take_turn.result (sym c.is_some.ensures ∙ c.loop-served-test.false) in
-    let r = since_stop _ _ _ c.loop-served.count c.loop-served.invariant _ (sym c.take_turn.ensures ∙ e) in
+    let r = since_stop _ _ _ c.loop-served.count c.loop-served.invariant _ (sym c.take_turn.ensures.turn ∙ e) in
     let s = served_turns (decode a.store.now) (dispatcher_nth (decode a.store.now) a.served.d) a.permits.now in
     record {
       count = r.0 ∙ ap (λ (x : Steps). length x.made) (sym s);

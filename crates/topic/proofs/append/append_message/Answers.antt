@@ -1,11 +1,9 @@
 -- `topic::append::append_message` meets its contract: what is done to a list.
-use mathlib.Core.Path.{ap, ◌∙◌}
-use mathlib.Core.List.{[], ◌∷◌}
+use borrow.Author.Rules.{rules}
+use lib.Seq.{set-set}
 use native.Mathlib.Omega.{arith}
-use Rattle.store.specs.declared.counted.Counted.{Counted}
-use Rattle.store.specs.Counted.{with_last}
 use Rattle.topic.specs.Ids.{message_of}
-use Rattle.topic.proofs.Lists.{message_inside, message_size, message_with}
+use Rattle.topic.proofs.Lists.{message_inside, message_size, message_stands}
 use Rattle.topic.proofs.append.append_message.Goals as goal
 
 pub push-requires : goal.push-requires
@@ -19,6 +17,5 @@ push-requires c =
 pub returns : goal.returns
 returns c =
     let m = c.args.message in
-    c.push.ensures
-    ∙ ap (λ (l : Counted). with_last l (m.ledger ∷ m.entry ∷ m.handle ∷ m.batch_size ∷ []) c.args.store.now) c.message_list.ensures
-    ∙ message_with c.args.t c.requires.0 (message_of m.ledger m.entry m.handle m.batch_size) c.requires.1
+    let size = message_size c.args.t c.requires.0 in
+    message_stands c.args.t c.requires.0 (message_of m.ledger m.entry m.handle m.batch_size) c.requires.1 (search (rules, set-set, size))

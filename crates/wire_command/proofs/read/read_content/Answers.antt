@@ -1,6 +1,6 @@
 -- `wire_command::read::read_content` meets its contract: what is not right is refused and changes nothing; what is right has the
 -- type that was asked for, its ids are laid, and its words are written.
-use mathlib.Core.Path.{◌∙◌}
+use mathlib.Core.Path.{ap, ◌∙◌}
 use Rattle.std.proofs.lemmas.Result.{err_from_is_err_and}
 use Rattle.wire.specs.Commands.{command_of}
 use Rattle.wire_fields.specs.declared.unread.Unread.TheVariants.{Malformed}
@@ -9,6 +9,8 @@ use Rattle.wire_command.specs.Found.{as_command}
 use Rattle.wire_command.specs.Types.{type_number}
 use Rattle.wire_command.proofs.Choices.{chosen}
 use Rattle.wire_command.proofs.Answers.{told_no_command, refused_done, read_done}
+use Rattle.wire_command.specs.InNumbers.{words_of_numbers}
+use Rattle.wire_command.proofs.InNumbers.{same_words}
 use Rattle.wire_command.proofs.read.read_content.Goals as goal
 
 pub returns-in_err-c : goal.returns-in_err-c
@@ -30,5 +32,6 @@ returns c =
     let a = c.args in
     let t = from_some as_command (command_of (type_number a.kind) a.at a.m.now) (was_some _ _ c.in_ok-c.ensures.value ∙ c.content_of.ensures) in
     let k = chosen a.at a.m.now (type_number a.kind) t.x t.is in
-    let d = read_done a.command.now a.list.now t k c.write_words.ensures c.lay_list.ensures in
+    let w = c.write_words.ensures ∙ ap words_of_numbers c.from.ensures ∙ same_words _ in
+    let d = read_done a.command.now a.list.now t k w c.lay_list.ensures in
     record { answer = d.answer; words = d.written; ids = d.laid }
