@@ -1,6 +1,6 @@
 -- How much of its list a call filled: as many words as its answer says, for the records of a push that was done.
 use Prim.Native.Nat.{ℕ, ◌^◌, ◌<◌}
-use mathlib.Core.Path.{◌≡◌, sym, ap, ◌∙◌}
+use mathlib.Core.Path.{◌≡◌, refl, sym, ap, ◌∙◌}
 use mathlib.Core.Bool.{Bool, true, false, cond}
 use mathlib.Core.List.{List}
 use native.Mathlib.Omega.{arith}
@@ -23,6 +23,9 @@ use Rattle.trace.proofs.Calls.{push_kind}
 use Rattle.row.specs.Row.{with_room}
 use Rattle.row.proofs.Given.{same_call, none_made}
 use Rattle.told.specs.Told.{dispatches_told}
+use Rattle.trace_form.specs.Calls.{as_call}
+use Rattle.trace_form.specs.declared.Call as form
+use Rattle.trace_form.specs.declared.Call.TheVariants as code
 use Rattle.row_calls.specs.Rows.{words_filled}
 
 -- a push
@@ -39,6 +42,18 @@ push_filled l t few false = rw (number_done (short (length l)) tt)
 pub none_filled : (kind answered : ℕ) → eqb kind PUSH ≡ false → words_filled kind answered ≡ 0
 unfolding words_filled dispatches_told
 none_filled kind answered k = rw k
+
+-- what is read as no push has another kind
+pub other_kind : (x : form.Call) → (x ≡ code.Push → ⊥) → eqb (kind_of (as_call 0 x)) PUSH ≡ false
+unfolding kind_of as_call
+other_kind (code.Append topic ledger entry handle batch_size) h = refl
+other_kind (code.Subscribe consumer kind topic subscription) h = refl
+other_kind (code.Flow consumer grant) h = refl
+other_kind (code.Ack consumer list) h = refl
+other_kind (code.Seek consumer target) h = refl
+other_kind (code.Redeliver consumer list) h = refl
+other_kind (code.Close consumer) h = refl
+other_kind code.Push h = absurd (h refl)
 
 -- any call, with the room of its list
 pub filled : (s : State) (room : ℕ) (x : Call) → Valid s

@@ -18,13 +18,17 @@ use row_script::calls::Calls;
 use row_script::count_calls;
 use told::dispatches;
 use trace_call::answer_call;
-use trace_form::{Call, command_of};
+use trace_form::Call;
+use trace_kind::Command;
 
 // How many words of its list a call filled, by its answer.
 fn words_filled(call: Call, answer: Answer) -> usize
     ensures { result ≡ words_filled (kind_of (as_call 0 call.entry)) (word_of answer) }
 {
-    dispatches(command_of(call), answer) as usize * RECORD_WORDS
+    match call {
+        Call::Push => dispatches(Command::Push, answer) as usize * RECORD_WORDS,
+        _ => 0,
+    }
 }
 
 // Makes the calls of a script and writes their answers; each push is given what is left of the list.

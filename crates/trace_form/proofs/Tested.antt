@@ -1,6 +1,6 @@
 -- Words read as a call of a kind: every word of a slice has 64 bits, so only the number of words, and a field that is narrower
 -- or has only some values, is tested.
-use Prim.Native.Nat.{ℕ, ◌^◌, ◌≤◌, ◌<◌}
+use Prim.Native.Nat.{ℕ, suc, ◌^◌, ◌≤◌, ◌<◌}
 use mathlib.Core.Path.{◌≡◌, refl, sym, ap, ◌∙◌}
 use mathlib.Core.Bool.{Bool, true, false, ◌&&◌, ◌||◌}
 use mathlib.Core.List.{List}
@@ -21,7 +21,7 @@ use Rattle.trace_kind.specs.Commands.{number_of, command_of}
 use Rattle.trace_kind.specs.declared.Command.{Command}
 use Rattle.trace_kind.proofs.Commands.{read_as}
 use Rattle.std.proofs.Common.{Result, Ok, Err, Some, None}
-use Rattle.std.specs.Result.{result_ok}
+use Rattle.std.specs.Result.{result_ok, OkIff}
 use Rattle.refusal.specs.declared.Refusal.{Refusal}
 use Rattle.trace.proofs.Calls.{not_passed, too_wide, is_call}
 use Rattle.trace.proofs.Widths.{append_fits, append_wide, subscribe_fits, topic_wide, subscription_wide, flow_fits, grant_wide, start_fits, id_fits, list_fits}
@@ -167,3 +167,13 @@ pub record Refused {T E : Type 0} (r : Result T E) : Type 0 where
 pub ok_none : {T E : Type 0} {r : Result T E} → None ≡ result_ok r → Refused r
 ok_none {r = Ok y} h = absurd cc
 ok_none {r = Err e} h = record { why = e; is = refl }
+
+-- a word that was read into a narrower field fits it
+pub some_fits : {E : Type 0} {n x : ℕ} (most : ℕ) (r : Result ℕ E) → OkIff r (n < suc most) n → Some x ≡ result_ok r → (n ≤ most) × (x ≡ n)
+some_fits {x = x} most (Ok y) f h = let same : x ≡ y = cc in (omega (arith, f.0), same ∙ f.1)
+some_fits most (Err e) f h = absurd cc
+
+-- one that was not is wider
+pub none_wide : {E : Type 0} {n : ℕ} (most : ℕ) (r : Result ℕ E) → OkIff r (n < suc most) n → None ≡ result_ok r → most < n
+none_wide most (Ok y) f h = absurd cc
+none_wide most (Err e) f h = omega (arith, f)
